@@ -1,0 +1,82 @@
+-- What reading a number digit by digit gives.
+use Rattle.std.proofs.Common.{◌≡◌, ℕ, zero, suc, ◌+◌, ◌-◌, ◌*◌, ◌%◌, ◌^◌, ◌<◌, ◌≤◌, List, [], ◌∷◌, refl, sym, ap, ◌∙◌, arith, true, false, length}
+use Rattle.std.specs.Prelude.{Result, Ok, Err, nat_lt}
+use Rattle.std.proofs.lemmas.Nat.{pow-add}
+use Rattle.std.proofs.Math.Nat.{mul-le-mul_left}
+use Rattle.proto_wire.specs.declared.wire.WireKind.{WireKind}
+use Rattle.proto_wire.specs.declared.wire.WireKind.TheVariants.{Varint, Truncated}
+use Rattle.proto_wire.specs.Varint.{above_digit, number_of, within_64_bits, varint_at}
+
+abbrev pub Read : Type 0
+Read = Result (ℕ × List ℕ) WireKind
+
+-- the digits so far, and above them what was read after them
+abbrev pub onto : ℕ → ℕ → Read → Read
+onto value weight (Ok (n, rest)) = Ok (value + weight * n, rest)
+onto value weight (Err kind) = Err kind
+
+-- before the first digit
+pub onto_none : (read : Read) → onto 0 1 read ≡ read
+onto_none (Ok (n, rest)) = ap (λ m. Ok (m, rest)) (omega arith)
+onto_none (Err kind) = refl
+
+pub below : (c : ℕ) → c < 128 → nat_lt c 128 ≡ true
+below c h = grind arith
+
+pub not_below : (c : ℕ) → 128 ≤ c → nat_lt c 128 ≡ false
+not_below c h = grind arith
+
+-- the bytes end
+pub read_end : (v w i : ℕ) (b : List ℕ) (all : Read) → i < 10 → length b ≡ 0 → onto v w (number_of (10 - i) b) ≡ all → all ≡ Err Truncated
+read_end v w i [] all h z e = let k : 10 - i ≡ suc (9 - i) = omega arith in sym e ∙ ap (λ n. onto v w (number_of n [])) k
+read_end v w i (c ∷ b) all h z e = absurd (omega arith)
+
+-- the last byte
+pub read_last : (v w i c : ℕ) (b : List ℕ) (all : Read) → i < 10 → c < 128 → onto v w (number_of (10 - i) (c ∷ b)) ≡ all → all ≡ Ok (v + w * c, b)
+read_last v w i c b all h l e =
+    let k : 10 - i ≡ suc (9 - i) = omega arith in
+    sym e ∙ ap (λ n. onto v w (number_of n (c ∷ b))) k ∙ (rw (below c l) refl)
+
+onto-above_digit : (v w d : ℕ) (r : Read) → onto v w (above_digit d r) ≡ onto (v + w * d) (w * 128) r
+onto-above_digit v w d (Ok (n, b)) = ap (λ m. Ok (m, b)) (omega arith)
+onto-above_digit v w d (Err k) = refl
+
+-- a byte with others after it
+pub read_more : (v w i c : ℕ) (b : List ℕ) (all : Read) → i < 10 → 128 ≤ c → onto v w (number_of (10 - i) (c ∷ b)) ≡ all → onto (v + w * (c % 128)) (w * 128) (number_of (10 - (i + 1)) b) ≡ all
+read_more v w i c b all h l e =
+    let k : 10 - i ≡ suc (10 - (i + 1)) = omega arith in
+    let stepped : onto v w (number_of (suc (10 - (i + 1))) (c ∷ b)) ≡ onto v w (above_digit (c % 128) (number_of (10 - (i + 1)) b)) = rw (not_below c l) refl in
+    sym (onto-above_digit v w (c % 128) (number_of (10 - (i + 1)) b)) ∙ sym stepped ∙ sym (ap (λ n. onto v w (number_of n (c ∷ b))) k) ∙ e
+
+-- too many bytes
+pub read_never : (v w i : ℕ) (b : List ℕ) (all : Read) → 10 ≤ i → onto v w (number_of (10 - i) b) ≡ all → all ≡ Err Varint
+read_never v w i b all h e = let k : 10 - i ≡ zero = omega arith in sym e ∙ ap (λ n. onto v w (number_of n b)) k
+
+-- the weight of the next digit
+pub next_weight : (w i : ℕ) → w ≡ 2 ^ (7 * i) → w * 128 ≡ 2 ^ (7 * (i + 1))
+next_weight w i e = ap (λ x. x * 128) e ∙ sym (pow-add 2 (7 * i) 7) ∙ ap (λ k. 2 ^ k) (omega arith)
+
+-- the digits so far stay below the next weight
+pub next_small : (v w d : ℕ) → v < w → d < 128 → v + w * d < w * 128
+next_small v w d h k = omega (arith, mul-le-mul_left w (let l : d + 1 ≤ 128 = omega arith in l))
+
+-- a number that fits 64 bits, or passes them
+pub fits : (b : List ℕ) (n : ℕ) (rest : List ℕ) → number_of 10 b ≡ Ok (n, rest) → n < 2 ^ 64 → varint_at b ≡ Ok (n, rest)
+unfolding varint_at
+fits b n rest e h = ap within_64_bits e ∙ (let t : nat_lt n 18446744073709551616 ≡ true = grind arith in rw t refl)
+
+pub past : (b : List ℕ) (n : ℕ) (rest : List ℕ) → number_of 10 b ≡ Ok (n, rest) → 2 ^ 64 ≤ n → varint_at b ≡ Err Varint
+unfolding varint_at
+past b n rest e h = ap within_64_bits e ∙ (let t : nat_lt n 18446744073709551616 ≡ false = grind arith in rw t refl)
+
+-- a fault of the digits is one of the varint
+pub fails : (b : List ℕ) (k : WireKind) → number_of 10 b ≡ Err k → varint_at b ≡ Err k
+unfolding varint_at
+fails b k e = ap within_64_bits e
+
+-- the number of the last byte fits, or passes 64 bits
+pub last_fits : (b : List ℕ) (v w c f n : ℕ) (rest : List ℕ) → number_of 10 b ≡ Ok (v + w * c, rest) → f ≡ c → n ≡ v + w * f → v + w * f < 2 ^ 64 → varint_at b ≡ Ok (n, rest)
+last_fits b v w c f n rest e same is h = fits b n rest (e ∙ ap (λ m. Ok (m, rest)) (ap (λ x. v + w * x) (sym same) ∙ sym is)) (rw is h)
+
+pub last_past : (b : List ℕ) (v w c f : ℕ) (rest : List ℕ) → number_of 10 b ≡ Ok (v + w * c, rest) → f ≡ c → (v + w * f < 2 ^ 64 → ⊥) → varint_at b ≡ Err Varint
+last_past b v w c f rest e same h = past b (v + w * f) rest (e ∙ ap (λ x. Ok (v + w * x, rest)) (sym same)) (omega (arith, h))

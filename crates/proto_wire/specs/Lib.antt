@@ -1,0 +1,5 @@
+pub mod Varint
+pub mod Message
+pub mod View
+pub mod Reading
+pub mod Laws
