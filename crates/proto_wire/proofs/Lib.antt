@@ -1,3 +1,4 @@
 pub mod Numbers
 pub mod VarintLaws
 pub mod MessageLaws
+pub mod Walks

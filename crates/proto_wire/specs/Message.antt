@@ -84,3 +84,9 @@ AreFields at b [] fault =
     ((b ≡ []) × (fault ≡ None))
     ⊎ ((kind : WireKind) × (0 < length b) × (field_at at b ≡ Err kind) × (fault ≡ Some (record { kind = kind; at = at })))
 AreFields at b (field ∷ fields) fault = (rest : List ℕ) × (field_at at b ≡ Ok (field, rest)) × AreFields field.end rest fields fault
+
+-- Reading these fields in order leads from bytes at an offset to the bytes that are left, and their offset: what a
+-- reader has read so far.
+abbrev pub LeadsTo : ℕ → List ℕ → List WireField → ℕ → List ℕ → Type 0
+LeadsTo at b [] left_at left = (left_at ≡ at) × (left ≡ b)
+LeadsTo at b (field ∷ fields) left_at left = (rest : List ℕ) × (field_at at b ≡ Ok (field, rest)) × LeadsTo field.end rest fields left_at left

@@ -25,6 +25,7 @@ pub struct Field<'a> {
     pub number: u32,
     /// The offset of the field's tag, in bytes, the reader's base included.
     pub at: usize,
+    /// What it holds; contents are part of the bytes that were read.
     pub wire: Wire<'a>,
 }
 
@@ -47,8 +48,9 @@ enum WireType {
 
 /// The field at the front of bytes that stand at the offset `at`, and the bytes after it.
 #[tactic(auto, unfolding(crate::specs::Message::field_at))]
-pub fn read_field(bytes: &[u8], at: usize) -> Result<(Field<'_>, &[u8]), WireKind>
-    ensures field { Gives (λ read. (field_seen read.0 (at + (length bytes.now - length read.1.now)), read.1.now)) result (field_at at bytes.now) }
+pub(crate) fn read_field(bytes: &[u8], at: usize) -> Result<(Field<'_>, &[u8]), WireKind>
+    ensures field { Gives (λ read. (field_seen read.0 (at + (length bytes.now - length read.1.now)), read.1.now))
+        result (field_at at bytes.now) }
     ensures taken { IfOk result (λ read. content_length read.0.wire + length read.1.now < length bytes.now) }
 {
     let ((number, wire_type), rest) = tag(bytes)?;

@@ -56,7 +56,8 @@ impl<'a> Fields<'a> {
 
         // Each field takes bytes, and its content is among them.
         ensures taken { IfSome result (λ read. OnOk read (length self.new.bytes < length self.old.bytes)) }
-        ensures inside { IfSome result (λ read. IfOk read (λ field. self.old.at + content_length field.wire < self.new.at)) }
+        ensures inside { IfSome result (λ read. IfOk read (λ field.
+            self.old.at + content_length field.wire < self.new.at)) }
     {
         if self.over || self.rest.is_empty() {
             return None;
