@@ -1,0 +1,4 @@
+pub mod FractionDigits
+pub mod Decimals
+pub mod Scales
+pub mod Signs

@@ -1,0 +1,5 @@
+pub mod Rounding
+pub mod Number
+pub mod NumberText
+pub mod Decimal
+pub mod Saturation

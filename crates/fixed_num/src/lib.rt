@@ -1,0 +1,25 @@
+//! Numbers as whole counts of millionths, with exact arithmetic, texts and reading.
+//!
+//! ```text
+//! let two = read_decimal(b"2")?;
+//! let three = read_decimal(b"3")?;
+//! let mut out = [0; 48];
+//! let length = two.div(three)?.write(&mut out);
+//! // out[..length] is "0.666667"
+//! ```
+//!
+//! Each answer is the exact rational result, rounded once to the nearest millionth with halves away
+//! from zero. An answer past 10^20 units is a fault, and no other number is.
+#![tactic(auto)]
+
+mod decimal;
+mod digits;
+mod fixed;
+mod rounding;
+#[cfg(test)]
+mod tests;
+mod text;
+
+pub use decimal::{NumFault, read_decimal};
+pub use fixed::{Arith, Fixed};
+pub use rounding::nearest_is_nearest;
