@@ -1,12 +1,45 @@
 -- Clauses by sign and magnitude, joined to those by whole numbers.
-use Rattle.std.proofs.Common.{◌≡◌, ℕ, ◌<◌, ◌≤◌, ℤ, pos, negsuc, List, ◌∷◌, Bool, refl, sym, ◌∙◌, ap, arith, length, take, set, ◌++◌}
-use Rattle.std.specs.Prelude.{nat_abs, if◌then◌else◌, nat_lt, true, false}
+use Rattle.std.proofs.Common.{◌≡◌, ℕ, zero, suc, ◌+◌, ◌*◌, ◌<◌, ◌≤◌, ℤ, pos, negsuc, neg_ℤ, ◌*ℤ◌, ◌-ℤ◌, ◌+ℤ◌, List, ◌∷◌, ◌++◌, Bool, refl, sym, ap, ◌∙◌, arith, length, take, set}
+use Rattle.std.specs.Prelude.{int_div, int_rem, nat_abs, if◌then◌else◌, nat_lt, nat_eq, Ok, true, false, not}
+use Rattle.std.proofs.lemmas.Int.{quot-rem}
+use Rattle.std.proofs.Math.IntN.{+ℤ_comm, *ℤ_comm, +ℤ-neg_ℤ_cancel}
 use Rattle.std.proofs.lemmas.List.{length-take-le, take_more_set}
+use Rattle.std.proofs.lemmas.Nat.{div_below}
 use lib.Signed.{lt_z}
+use mathlib.Core.Bool.{beq}
+use Rattle.fixed_num.specs.Number.{bounded, quotient, remainder}
 use Rattle.fixed_num.specs.NumberText.{number_text, magnitude_text}
+use Rattle.fixed_num.specs.Rounding.{nearest, rounded}
 
 none_below : (n : ℕ) → nat_lt n 0 ≡ false
 none_below n = grind arith
+
+-- nothing, rounded
+nearest_zero : (d : ℕ) → 0 < d → nearest 0 d ≡ 0
+nearest_zero d h = omega (arith, div_below (2 * 0 + d) (2 * d) 1 (omega arith) (omega arith))
+
+rounded-neg : (n d : ℕ) → 0 < d → rounded (neg_ℤ (pos n)) d ≡ neg_ℤ (pos (nearest n d))
+rounded-neg zero d h = rw (nearest_zero d h) refl
+rounded-neg (suc n) d h = refl
+
+-- the quotient by sign and magnitudes
+pub quotient_is : (x y : ℤ) → (nat_abs y ≡ 0 → ⊥) →
+    bounded (if (not (beq (lt_z x (pos 0)) (lt_z y (pos 0)))) then neg_ℤ (pos (nearest (nat_abs x * 1000000) (nat_abs y))) else pos (nearest (nat_abs x * 1000000) (nat_abs y))) ≡ quotient x y
+quotient_is x (pos zero) h = absurd (h refl)
+quotient_is (pos a) (pos (suc d)) h = rw (none_below a, none_below (suc d)) refl
+quotient_is (negsuc a) (pos (suc d)) h = rw (none_below (suc d)) (ap bounded (sym (rounded-neg (suc a * 1000000) (suc d) (omega arith))))
+quotient_is (pos zero) (negsuc d) h = rw (nearest_zero (suc d) (omega arith)) refl
+quotient_is (pos (suc a)) (negsuc d) h = rw (none_below (suc a)) (ap bounded (sym (rounded-neg (suc a * 1000000) (suc d) (omega arith))))
+quotient_is (negsuc a) (negsuc d) h = refl
+
+-- what the quotient leaves
+pub remainder_is : (x y : ℤ) → int_rem x y ≡ x -ℤ y *ℤ int_div x y
+remainder_is x y =
+    let whole : x ≡ int_rem x y +ℤ y *ℤ int_div x y = sym (quot-rem x y) ∙ +ℤ_comm (int_div x y *ℤ y) (int_rem x y) ∙ ap (λ w. int_rem x y +ℤ w) (*ℤ_comm (int_div x y) y) in
+    sym (ap (λ w. w -ℤ y *ℤ int_div x y) whole ∙ +ℤ-neg_ℤ_cancel (int_rem x y) (y *ℤ int_div x y))
+
+pub remainder_by_rem : (x y : ℤ) → (nat_abs y ≡ 0 → ⊥) → Ok (int_rem x y) ≡ remainder x y
+remainder_by_rem x y h = let some : nat_eq (nat_abs y) 0 ≡ false = grind arith in rw some (ap Ok (remainder_is x y))
 
 -- the text by sign and magnitude
 pub number_text_is : (z : ℤ) → (if lt_z z (pos 0) then 45 ∷ magnitude_text (nat_abs z) else magnitude_text (nat_abs z)) ≡ number_text z

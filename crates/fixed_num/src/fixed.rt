@@ -35,6 +35,9 @@ pub(crate) const BOUND: u128 = 100_000_000_000_000_000_000_000_000;
 
 pub(crate) const ONE: u128 = 1_000_000;
 
+// The same, signed.
+const UNIT: i128 = 1_000_000;
+
 // The number of this sign and magnitude.
 fn signed(negative: bool, magnitude: u128) -> Result<Fixed, Arith>
     ensures { result ≡ bounded (if negative then neg_ℤ (pos magnitude) else pos magnitude) }
@@ -49,7 +52,7 @@ fn signed(negative: bool, magnitude: u128) -> Result<Fixed, Arith>
 }
 
 impl Fixed {
-    ghost use Rattle.fixed_num.specs.Number.{bound, sum, difference, product};
+    ghost use Rattle.fixed_num.specs.Number.{bound, sum, difference, product, quotient, remainder, absolute, floor_of, ceil_of, round_of};
     ghost use Rattle.fixed_num.specs.NumberText.{number_text};
 
     /// The number of this many millionths, or `None` exactly where they are past the bound.
@@ -94,10 +97,68 @@ impl Fixed {
         }
     }
 
+    pub fn div(self, other: Fixed) -> Result<Fixed, Arith>
+        ensures { result ≡ quotient self other }
+    {
+        if other.value == 0 {
+            return Err(Arith::DivideByZero);
+        }
+        let negative = (self.value < 0) != (other.value < 0);
+        let magnitude = self.value.unsigned_abs() * ONE;
+        signed(negative, nearest(magnitude, other.value.unsigned_abs()))
+    }
+
+    /// What the exact quotient leaves when its fraction is dropped: zero or of the sign of `self`.
+    pub fn rem(self, other: Fixed) -> Result<Fixed, Arith>
+        ensures { result ≡ remainder self other }
+    {
+        if other.value == 0 {
+            return Err(Arith::DivideByZero);
+        }
+        Ok(Fixed {
+            value: self.value % other.value,
+        })
+    }
+
     pub fn neg(self) -> Fixed
         ensures { result ≡ neg_ℤ self }
     {
         Fixed { value: -self.value }
+    }
+
+    pub fn abs(self) -> Fixed
+        ensures { result ≡ absolute self }
+    {
+        Fixed {
+            value: self.value.abs(),
+        }
+    }
+
+    /// The greatest whole number that is not above `self`.
+    pub fn floor(self) -> Fixed
+        ensures { result ≡ floor_of self }
+    {
+        Fixed {
+            value: self.value.div_euclid(UNIT) * UNIT,
+        }
+    }
+
+    /// The least whole number that is not below `self`.
+    pub fn ceil(self) -> Fixed
+        ensures { result ≡ ceil_of self }
+    {
+        self.neg().floor().neg()
+    }
+
+    /// The nearest whole number, halves away from zero.
+    pub fn round(self) -> Fixed
+        ensures { result ≡ round_of self }
+    {
+        let magnitude = nearest(self.value.unsigned_abs(), ONE) * ONE;
+        let value = magnitude as i128;
+        Fixed {
+            value: if self.value < 0 { -value } else { value },
+        }
     }
 
     /// Puts the number's text at the front of `out` and answers its length in bytes, at most 48.

@@ -12,6 +12,7 @@
 //! from zero. An answer past 10^20 units is a fault, and no other number is.
 #![tactic(auto)]
 
+mod color;
 mod decimal;
 mod digits;
 mod fixed;
@@ -20,6 +21,7 @@ mod rounding;
 mod tests;
 mod text;
 
+pub use color::Color;
 pub use decimal::{NumFault, read_decimal};
 pub use fixed::{Arith, Fixed};
 pub use rounding::nearest_is_nearest;
