@@ -28,7 +28,7 @@ number_of-append (x ∷ xs) ys =
 pub number_of-push : (xs : List ℕ) (c : ℕ) → number_of (xs ++ c ∷ []) ≡ number_of xs * 10 + (c - 48)
 number_of-push xs c = number_of-append xs (c ∷ []) ∙ omega arith
 
-digit_range : (c : ℕ) → is_ascii_digit c ≡ true → (48 ≤ c) × (c ≤ 57)
+pub digit_range : (c : ℕ) → is_ascii_digit c ≡ true → (48 ≤ c) × (c ≤ 57)
 digit_range c h = grind arith
 
 eq_more : (a b : ℕ) → nat_eq (1 + a) (suc b) ≡ nat_eq a b

@@ -2,3 +2,5 @@ pub mod FractionDigits
 pub mod Decimals
 pub mod Scales
 pub mod Signs
+pub mod Grammar
+pub mod RoundTrip

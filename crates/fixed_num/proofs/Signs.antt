@@ -1,13 +1,13 @@
 -- Clauses by sign and magnitude, joined to those by whole numbers.
-use Rattle.std.proofs.Common.{◌≡◌, ℕ, zero, suc, ◌+◌, ◌*◌, ◌<◌, ◌≤◌, ℤ, pos, negsuc, neg_ℤ, ◌*ℤ◌, ◌-ℤ◌, ◌+ℤ◌, List, ◌∷◌, ◌++◌, Bool, refl, sym, ap, ◌∙◌, arith, length, take, set}
+use Rattle.std.proofs.Common.{◌≡◌, ℕ, zero, suc, ◌+◌, ◌*◌, ◌/◌, ◌<◌, ◌≤◌, ℤ, pos, negsuc, neg_ℤ, ◌*ℤ◌, ◌-ℤ◌, ◌+ℤ◌, List, ◌∷◌, ◌++◌, Bool, refl, sym, ap, ◌∙◌, arith, length, take, set}
 use Rattle.std.specs.Prelude.{int_div, int_rem, nat_abs, if◌then◌else◌, nat_lt, nat_eq, Ok, true, false, not}
 use Rattle.std.proofs.lemmas.Int.{quot-rem}
-use Rattle.std.proofs.Math.IntN.{+ℤ_comm, *ℤ_comm, +ℤ-neg_ℤ_cancel}
+use Rattle.std.proofs.Math.IntN.{+ℤ_comm, *ℤ_comm, +ℤ-neg_ℤ_cancel, negsuc-*ℤ-pos}
 use Rattle.std.proofs.lemmas.List.{length-take-le, take_more_set}
 use Rattle.std.proofs.lemmas.Nat.{div_below}
 use lib.Signed.{lt_z}
 use mathlib.Core.Bool.{beq}
-use Rattle.fixed_num.specs.Number.{bounded, quotient, remainder}
+use Rattle.fixed_num.specs.Number.{floor_of, bounded, quotient, remainder}
 use Rattle.fixed_num.specs.NumberText.{number_text, magnitude_text}
 use Rattle.fixed_num.specs.Rounding.{nearest, rounded}
 
@@ -54,3 +54,10 @@ front_length n out text h e = sym (length-take-le n out h) ∙ ap length e
 -- the text of a negative number, behind its sign
 pub negative_text : (out shown text : List ℕ) (negative : Bool) → 0 < length out → negative ≡ true → shown ≡ take 1 (set out 0 45) ++ text → shown ≡ (if negative then 45 ∷ text else text)
 negative_text out shown text negative h e f = rw e (f ∙ rw (take_more_set out 0 45 h) refl)
+
+-- a floor is so many units
+pub floor_units : (z : ℤ) → (units : ℤ) × (floor_of z ≡ units *ℤ pos 1000000)
+floor_units (pos n) = (pos (n / 1000000), refl)
+floor_units (negsuc n) =
+    let more : n / 1000000 + 1 ≡ suc (n / 1000000) = omega arith in
+    (negsuc (n / 1000000), ap (λ q. neg_ℤ (pos (q * 1000000))) more ∙ sym (negsuc-*ℤ-pos (n / 1000000) 1000000))

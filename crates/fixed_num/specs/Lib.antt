@@ -2,4 +2,5 @@ pub mod Rounding
 pub mod Number
 pub mod NumberText
 pub mod Decimal
+pub mod NumberGrammar
 pub mod Saturation

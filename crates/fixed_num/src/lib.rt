@@ -16,6 +16,7 @@ mod color;
 mod decimal;
 mod digits;
 mod fixed;
+mod laws;
 mod rounding;
 #[cfg(test)]
 mod tests;
@@ -24,4 +25,7 @@ mod text;
 pub use color::Color;
 pub use decimal::{NumFault, read_decimal};
 pub use fixed::{Arith, Fixed};
+pub use laws::{
+    floor_is_just_below, number_texts_are_the_grammar, remainder_is_left, written_numbers_are_read,
+};
 pub use rounding::nearest_is_nearest;
