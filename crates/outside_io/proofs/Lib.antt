@@ -1,0 +1,2 @@
+pub mod StoredFiles
+pub mod KnownBytes

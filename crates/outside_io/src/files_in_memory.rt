@@ -1,0 +1,144 @@
+ghost use Rattle.std.specs.Prelude.{◌≡◌, ◌≢◌, ℕ, ◌≤◌, List, [], Some, None, length, IfOk, OnOk, OnErr};
+ghost use Rattle.outside_io.specs.Counts.{Rose};
+ghost use Rattle.outside_io.specs.Reading.{OnDone, OnNotDone, OnTooLong, OnFailed, IsContent, IsWithin, IsLonger};
+ghost use Rattle.outside_io.specs.Contents.{no_files, with_file, bytes_of};
+ghost use Rattle.outside_io.specs.FilesState.{read_end, after_read};
+
+use crate::named_files::NamedFiles;
+use crate::reading::{Files, ReadAnswer};
+use std::alloc::{AllocError, Global};
+use std::marker::Model;
+
+/// Files that are held in memory and tell their bytes. A read of a name that is not held fails, and so do the reads whose
+/// numbers are listed. Each read looks through that list.
+#[derive(Drop)]
+pub struct FilesInMemory {
+    files: NamedFiles,
+    fails: Vec<u64>,
+    reads: u64,
+    faults: u64,
+    taken: u64,
+    failed: Option<String>,
+}
+
+impl Model for FilesInMemory {
+    ghost use Rattle.std.specs.Prelude.{string_bytes};
+    ghost use Rattle.std.specs.Option.{option_map};
+    ghost use Rattle.outside_io.specs.FilesState.{FilesState, files_state_code};
+
+    ghost Value = { FilesState };
+
+    ghost coded = { files_state_code };
+
+    ghost view = { λ s. record {
+      files = s.files;
+      fails = s.fails.items;
+      reads = s.reads;
+      faults = s.faults;
+      taken = s.taken;
+      failed = option_map string_bytes s.failed;
+    } };
+}
+
+impl FilesInMemory {
+    /// No files, of which the reads with these numbers will fail. Reads are counted from 0; one that lacks memory is not
+    /// counted.
+    pub fn new(alloc: Global, fails: &[u64]) -> Result<FilesInMemory, AllocError>
+        ensures state { IfOk result (λ made. made ≡
+            record { files = no_files; fails = fails.now; reads = 0; faults = 0; taken = 0; failed = None }) }
+        ensures told { IfOk result (λ made. (name : List ℕ) → bytes_of made.files name ≡ None) }
+    {
+        let fails = Vec::from_slice(alloc, fails)?;
+        Ok(FilesInMemory {
+            files: NamedFiles::new(alloc),
+            fails,
+            reads: 0,
+            faults: 0,
+            taken: 0,
+            failed: None,
+        })
+    }
+
+    /// Puts a file in place of the one of that name, if there is one.
+    pub fn put(&mut self, alloc: Global, name: &str, bytes: &[u8]) -> Result<(), AllocError>
+        ensures ok { OnOk result
+            (self.new ≡ record self.old { files = with_file self.old.files name.now bytes.now }) }
+        ensures told { OnOk result (bytes_of self.new.files name.now ≡ Some bytes.now) }
+        ensures others { OnOk result ((other : List ℕ) → other ≢ name.now →
+            bytes_of self.new.files other ≡ bytes_of self.old.files other) }
+        ensures err { OnErr result (self.new ≡ self.old) }
+    {
+        self.files.put(alloc, name, bytes)
+    }
+}
+
+impl Files for FilesInMemory {
+    ghost told = { λ s. bytes_of s.files };
+
+    ghost faults = { λ s. s.faults };
+
+    ghost taken = { λ s. s.taken };
+
+    ghost failed = { λ s. s.failed };
+
+    fn read(&mut self, alloc: Global, name: &str, at_most: usize, into: &mut Vec<u8>) -> ReadAnswer
+        requires { into.old.items ≡ [] }
+
+        // How it ends and what it leaves is exact. Want of memory leaves the files as they were.
+        ensures answer { result ≢ ReadAnswer.NoMemory → result ≡ read_end self.old name.now at_most }
+        ensures after { self.new ≡ after_read self.old name.now result }
+
+        // The trait's clauses, on what is told here.
+        ensures told { bytes_of self.new.files ≡ bytes_of self.old.files }
+        ensures faults { self.old.faults ≤ self.new.faults }
+        ensures taken { self.old.taken ≤ self.new.taken }
+
+        ensures content { OnDone result (IsContent (bytes_of self.old.files name.now) into.new.items) }
+        ensures length { length into.new.items ≤ at_most }
+        ensures empty { OnNotDone result (into.new.items ≡ []) }
+
+        ensures within { OnDone result (IsWithin (bytes_of self.old.files name.now) at_most) }
+        ensures too_long { OnTooLong result
+            (IsLonger (bytes_of self.old.files name.now) at_most self.old.taken self.new.taken) }
+
+        ensures failed { OnFailed result
+            (Rose self.old.faults self.new.faults × (self.new.failed ≡ Some name.now))
+            (self.new.failed ≡ self.old.failed) }
+    {
+        if self.fails.contains(&self.reads) {
+            return self.fail(alloc, name);
+        }
+        let Some(bytes) = self.files.get(name) else {
+            return self.fail(alloc, name);
+        };
+        if bytes.len() > at_most {
+            self.reads = self.reads.saturating_add(1);
+            return ReadAnswer::TooLong;
+        }
+        if into.extend_from_slice(bytes.as_slice()).is_err() {
+            return ReadAnswer::NoMemory;
+        }
+        self.taken = self.taken.saturating_add(bytes.len() as u64);
+        self.reads = self.reads.saturating_add(1);
+        ReadAnswer::Done
+    }
+}
+
+impl FilesInMemory {
+    /// A read of this name fails. Its name is copied first, so that want of memory changes nothing.
+    fn fail(&mut self, alloc: Global, name: &str) -> ReadAnswer
+        ensures answer { result ≢ ReadAnswer.NoMemory → result ≡ ReadAnswer.Failed }
+        ensures after { self.new ≡ after_read self.old name.now result }
+        ensures not_done { result ≢ ReadAnswer.Done }
+        ensures faults { self.old.faults ≤ self.new.faults }
+        ensures rose { result ≡ ReadAnswer.Failed → Rose self.old.faults self.new.faults }
+    {
+        let Ok(name) = String::from_str(alloc, name) else {
+            return ReadAnswer::NoMemory;
+        };
+        self.reads = self.reads.saturating_add(1);
+        self.faults = self.faults.saturating_add(1);
+        self.failed = Some(name);
+        ReadAnswer::Failed
+    }
+}

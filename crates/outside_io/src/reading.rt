@@ -1,0 +1,57 @@
+ghost use Rattle.std.specs.Prelude.{◌≡◌, ℕ, ◌≤◌, List, [], Option, Some, length};
+ghost use Rattle.outside_io.specs.Counts.{Rose};
+ghost use Rattle.outside_io.specs.Reading.{OnDone, OnNotDone, OnTooLong, OnFailed, IsContent, IsWithin, IsLonger};
+
+use std::alloc::Global;
+
+/// How a read ended.
+#[derive(Clone, Copy, Debug, PartialEq, Eq)]
+pub enum ReadAnswer {
+    /// The whole file was read.
+    Done,
+    /// The file has more bytes than were asked for at most.
+    TooLong,
+    /// The file could not be read.
+    Failed,
+    /// Memory lacked.
+    NoMemory,
+}
+
+/// Files that are read by name.
+pub trait Files {
+    /// The bytes of the file of each name, where they are told.
+    ghost told: { Self → List ℕ → Option (List ℕ) };
+
+    /// How many reads have failed.
+    ghost faults: { Self → ℕ };
+
+    /// How many bytes were taken from files.
+    ghost taken: { Self → ℕ };
+
+    /// The name of the last read that failed.
+    ghost failed: { Self → Option (List ℕ) };
+
+    /// Reads the whole file of this name into an empty vector, if it has at most `at_most` bytes. The vector stays empty
+    /// after every answer but `Done`.
+    fn read(&mut self, alloc: Global, name: &str, at_most: usize, into: &mut Vec<u8>) -> ReadAnswer
+        requires { into.old.items ≡ [] }
+
+        // No read changes what is told, and no count falls.
+        ensures told { told self.new ≡ told self.old }
+        ensures faults { faults self.old ≤ faults self.new }
+        ensures taken { taken self.old ≤ taken self.new }
+
+        ensures content { OnDone result (IsContent (told self.old name.now) into.new.items) }
+        ensures length { length into.new.items ≤ at_most }
+        ensures empty { OnNotDone result (into.new.items ≡ []) }
+
+        // Too long is told bytes' own length. Untold ones show it by the count of bytes taken.
+        ensures within { OnDone result (IsWithin (told self.old name.now) at_most) }
+        ensures too_long { OnTooLong result
+            (IsLonger (told self.old name.now) at_most (taken self.old) (taken self.new)) }
+
+        // A failure raised the count and left the name. Every other answer leaves the name that stood there.
+        ensures failed { OnFailed result
+            (Rose (faults self.old) (faults self.new) × (failed self.new ≡ Some name.now))
+            (failed self.new ≡ failed self.old) };
+}

@@ -1,0 +1,24 @@
+ghost use Rattle.std.specs.Prelude.{◌≡◌, ℕ, ◌≤◌, List, Option, OnOk, OnErr};
+ghost use Rattle.outside_io.specs.Counts.{Rose};
+ghost use Rattle.outside_io.specs.Writing.{Gains, GainsPrefix};
+
+/// A sink did not take the whole piece.
+#[derive(Clone, Copy, Debug, PartialEq, Eq)]
+pub struct SinkFailed;
+
+/// What is written to, piece by piece.
+pub trait Sink {
+    /// What it holds, where that is told.
+    ghost held: { Self → Option (List ℕ) };
+
+    /// How many writes have failed.
+    ghost faults: { Self → ℕ };
+
+    /// Writes a piece after what was written before. After a failure a prefix of the piece may have been taken. It takes
+    /// no memory.
+    fn write(&mut self, piece: &[u8]) -> Result<(), SinkFailed>
+        ensures ok { OnOk result (Gains (held self.old) (held self.new) piece.now) }
+        ensures err { OnErr result (GainsPrefix (held self.old) (held self.new) piece.now) }
+        ensures cause { OnErr result (Rose (faults self.old) (faults self.new)) }
+        ensures faults { faults self.old ≤ faults self.new };
+}
