@@ -1,0 +1,26 @@
+//! Tests on texts that are handed in by whoever runs a style: which images there are, and which scripts can be shown.
+//!
+//! ```
+//! fn shown(scripts: &dyn HostOp, text: &str) -> bool {
+//!     scripts.answer(text)
+//! }
+//!
+//! shown(&ScriptTest::new(), "Aleppo")
+//! ```
+//!
+//! What is promised:
+//! - The meaning of a [`HostOp`] is a test on texts, and `answer` gives it.
+//! - `tell` changes the test at the one text that it names, or refuses and changes nothing. It answers `Fixed` exactly
+//!   where the test cannot change, and no call changes whether it can.
+//! - [`ScriptTest`] answers false exactly where a text has a scalar value from U+0590 to U+08FF.
+#![tactic(auto)]
+
+mod host_op;
+mod script_test;
+#[cfg(test)]
+mod tests;
+mod text_test;
+
+pub use host_op::{HostOp, TellFault};
+pub use script_test::ScriptTest;
+pub use text_test::TextTest;
