@@ -1,0 +1,4 @@
+pub mod Keys
+pub mod Pieces
+pub mod Arrays
+pub mod Appending

@@ -1,0 +1,12 @@
+pub mod Tree
+pub mod TreeCode
+pub mod View
+pub mod Falls
+pub mod Place
+pub mod Number
+pub mod JsonText
+pub mod Parses
+pub mod Runs
+pub mod NumberBytes
+pub mod Reading
+pub mod OneTree
