@@ -1,0 +1,16 @@
+pub mod Words
+pub mod Outcome
+pub mod Ending
+pub mod Run
+pub mod OneOutcome
+pub mod Reading
+pub mod Meaning
+pub mod Value
+pub mod Term
+pub mod TermView
+pub mod OperatorCode
+pub mod TermCode
+pub mod Falls
+pub mod Evaluation
+pub mod WordsView
+pub mod AnswerView

@@ -1,0 +1,61 @@
+ghost use Rattle.std.specs.Prelude.{◌≡◌};
+ghost use Rattle.style_program.specs.Ending.{status_of, code_of};
+
+/// How a run ended.
+#[derive(Clone, Copy, Debug, PartialEq, Eq)]
+pub enum Status {
+    /// Everything was written, and nothing was found to report.
+    Fine,
+    /// Everything was written; an evaluation ended in a fault.
+    Found,
+    /// The words have no form that the program knows.
+    Usage,
+    /// What was handed in is not accepted; the err line says why.
+    Refused,
+    /// A file could not be read.
+    ReadFault,
+    /// Standard output or standard error could not be written.
+    WriteFault,
+    /// Memory lacked.
+    NoMemory,
+}
+
+impl Status {
+    /// The program's exit status.
+    pub fn code(self) -> u8
+        ensures { result ≡ code_of self }
+    {
+        match self {
+            Status::Fine => 0,
+            Status::Found => 1,
+            Status::Usage => 2,
+            Status::Refused => 3,
+            Status::ReadFault => 4,
+            Status::WriteFault => 5,
+            Status::NoMemory => 6,
+        }
+    }
+}
+
+/// How a run ends where nothing outside fails.
+#[derive(Clone, Copy, Debug, PartialEq, Eq)]
+pub enum Ending {
+    Fine,
+    Found,
+    Usage,
+    Refused,
+}
+
+impl Ending {
+    /// The status of a run that ends so.
+    pub fn status(self) -> Status
+        ensures { result ≡ status_of self }
+    {
+        match self {
+            Ending::Fine => Status::Fine,
+            Ending::Found => Status::Found,
+            Ending::Usage => Status::Usage,
+            Ending::Refused => Status::Refused,
+        }
+    }
+}
