@@ -6,6 +6,7 @@ ghost use Rattle.std.specs.Prelude.{◌≡◌, ◌<◌};
 use host_ops::ScriptTest;
 use outside_io::{HostFiles, HostSink, Steps};
 use std::env;
+use std::io::{self, ErrorKind};
 use std::marker::Brand;
 use std::process::ExitCode;
 use std::sync::ledger::{Blank, Ledger};
@@ -16,8 +17,9 @@ const NO_WORDS: u8 = 7;
 
 fn main(rt: HostRuntime) -> ExitCode {
     let alloc = rt.alloc();
-    let Ok(args) = env::args(&rt) else {
-        return ExitCode::from(NO_WORDS);
+    let args = match env::args(&rt) {
+        Ok(args) => args,
+        Err(error) => return ExitCode::from(status_without_words(&error)),
     };
     let mut words = Vec::new(alloc);
     for word in args.skip(1) {
@@ -27,6 +29,14 @@ fn main(rt: HostRuntime) -> ExitCode {
     }
     let status = run_counted::<Brand>(&rt, words.as_slice(), Blank::new(1));
     ExitCode::from(status.code())
+}
+
+/// The exit status where the words could not be had.
+fn status_without_words(error: &io::Error) -> u8 {
+    match error.kind() {
+        ErrorKind::OutOfMemory => Status::NoMemory.code(),
+        _ => NO_WORDS,
+    }
 }
 
 /// Runs with a counter of steps of its own.
