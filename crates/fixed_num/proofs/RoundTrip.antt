@@ -6,13 +6,16 @@ use Rattle.std.specs.List.{list_all}
 use Rattle.std.proofs.lemmas.Bool.{and_parts, and_from, cases_Bool, cases_eq, eqb-true, ne_eqb, le-leb}
 use Rattle.std.proofs.lemmas.Fmt.{decimal_by_steps_wide}
 use Rattle.std.proofs.lemmas.Nat.{div_below, mod_below, div-add-mod', pow-add}
+use Rattle.std.proofs.lemmas.Str.{IsAscii-append}
+use Rattle.std.proofs.lemmas.Str.Ascii.{IsAscii-nil, IsAscii-cons}
 use Rattle.std.proofs.Math.Nat.{pow-suc}
+use Rattle.std.specs.Str.{IsAscii}
 use Rattle.fixed_num.specs.Decimal.{read_text, value_of, in_range, number_of}
 use Rattle.fixed_num.specs.Number.{bound}
 use Rattle.fixed_num.specs.NumberGrammar.{IsDigits, IsWhole, IsFraction, minus_text}
 use Rattle.fixed_num.specs.NumberText.{number_text, magnitude_text, fraction_text, without_end_zeros, last_digits}
 use Rattle.fixed_num.specs.Rounding.{nearest}
-use Rattle.fixed_num.proofs.Decimals.{number_of-append, number_of-push, list_all_both, nearest-whole, ten_pow}
+use Rattle.fixed_num.proofs.Decimals.{digit_range, number_of-append, number_of-push, list_all_both, nearest-whole, ten_pow}
 use Rattle.fixed_num.proofs.Grammar.{read_text-grammar, no_bytes}
 
 digit_byte : (n : ℕ) → n < 10 → is_ascii_digit (48 + n) ≡ true
@@ -162,3 +165,32 @@ pub number_text_is_read : (z : ℤ) → unsigned_abs z ≤ bound → read_text (
 unfolding number_text
 number_text_is_read (pos n) h = magnitude_is_read false n h ∙ rw (le-leb n bound h) refl
 number_text_is_read (negsuc n) h = magnitude_is_read true (suc n) h ∙ rw (le-leb (suc n) bound h) refl
+
+-- the text of a number is ASCII
+digits_ascii : (ds : List ℕ) → list_all is_ascii_digit ds ≡ true → IsAscii ds
+digits_ascii [] h = IsAscii-nil
+digits_ascii (c ∷ cs) h =
+    let both = and_parts (is_ascii_digit c) (list_all is_ascii_digit cs) h in
+    IsAscii-cons c cs (omega (arith, digit_range c both.0)) (digits_ascii cs both.1)
+
+fraction_ascii : (f : ℕ) → f < 10 ^ 6 → IsAscii (fraction_text f)
+unfolding fraction_text
+fraction_ascii f h = elim (cases_eq f 0) [
+  | inl none ↦ rw none IsAscii-nil
+  | inr some ↦
+      let not_zero : nat_eq f 0 ≡ false = ne_eqb f 0 some in
+      let all = last_digits_are 6 f h in
+      let front = without_end_zeros_are (last_digits 6 f) in
+      rw not_zero (IsAscii-cons 46 (without_end_zeros (last_digits 6 f)) (omega arith) (digits_ascii (without_end_zeros (last_digits 6 f)) (front.digits all.digits)))
+]
+
+magnitude_ascii : (m : ℕ) → m ≤ bound → IsAscii (magnitude_text m)
+unfolding magnitude_text
+magnitude_ascii m h =
+    let whole = decimal_is (m / 1000000) (omega arith) in
+    IsAscii-append (decimal (m / 1000000)) (fraction_text (m % 1000000)) (digits_ascii (decimal (m / 1000000)) whole.digits.digits) (fraction_ascii (m % 1000000) (omega arith))
+
+pub number_text_ascii : (z : ℤ) → unsigned_abs z ≤ bound → IsAscii (number_text z)
+unfolding number_text
+number_text_ascii (pos n) h = magnitude_ascii n h
+number_text_ascii (negsuc n) h = IsAscii-cons 45 (magnitude_text (suc n)) (omega arith) (magnitude_ascii (suc n) h)

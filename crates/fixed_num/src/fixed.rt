@@ -1,5 +1,5 @@
-ghost use Rattle.std.specs.Prelude.{◌≡◌, ◌≤◌, ℤ, pos, neg_ℤ, if◌then◌else◌, unsigned_abs, IfSome, IsSome, ◌↔◌, take, length};
-ghost use Rattle.fixed_num.specs.Number.{bounded};
+ghost use Rattle.std.specs.Prelude.{IsAscii, ◌≡◌, ◌≤◌, ℤ, pos, neg_ℤ, if◌then◌else◌, unsigned_abs, IfSome, IsSome, ◌↔◌, take, length};
+ghost use Rattle.fixed_num.specs.Number.{bound, bounded};
 
 use crate::rounding::nearest;
 use crate::text::put_number;
@@ -26,13 +26,15 @@ impl Model for Fixed {
 
     ghost view = { λ f. f.value };
 
-    ghost invariant = { λ f. unsigned_abs f.value ≤ 100000000000000000000000000 };
+    ghost invariant = { λ f. unsigned_abs f.value ≤ bound };
 
     ghost inverse = { λ z. record { value = z } };
 }
 
+// The greatest magnitude, in millionths.
 pub(crate) const BOUND: u128 = 100_000_000_000_000_000_000_000_000;
 
+// A unit, in millionths.
 pub(crate) const ONE: u128 = 1_000_000;
 
 // The same, signed.
@@ -52,7 +54,7 @@ fn signed(negative: bool, magnitude: u128) -> Result<Fixed, Arith>
 }
 
 impl Fixed {
-    ghost use Rattle.fixed_num.specs.Number.{bound, sum, difference, product, quotient, remainder, absolute, floor_of, ceil_of, round_of};
+    ghost use Rattle.fixed_num.specs.Number.{sum, difference, product, quotient, remainder, absolute, floor_of, ceil_of, round_of};
     ghost use Rattle.fixed_num.specs.NumberText.{number_text};
 
     /// The number of this many millionths, or `None` exactly where they are past the bound.
@@ -74,18 +76,22 @@ impl Fixed {
         self.value
     }
 
+    /// The sum, or `Overflow` exactly past the bound.
     pub fn add(self, other: Fixed) -> Result<Fixed, Arith>
         ensures { result ≡ sum self other }
     {
         Fixed::from_millionths(self.value + other.value).ok_or(Arith::Overflow)
     }
 
+    /// The difference, or `Overflow` exactly past the bound.
     pub fn sub(self, other: Fixed) -> Result<Fixed, Arith>
         ensures { result ≡ difference self other }
     {
         Fixed::from_millionths(self.value - other.value).ok_or(Arith::Overflow)
     }
 
+    /// The exact product rounded once to the nearest millionth, halves away from zero, or `Overflow`
+    /// exactly where that is past the bound.
     pub fn mul(self, other: Fixed) -> Result<Fixed, Arith>
         ensures { result ≡ product self other }
     {
@@ -97,6 +103,8 @@ impl Fixed {
         }
     }
 
+    /// The exact quotient rounded once as the product is: `DivideByZero` exactly at a zero divisor,
+    /// `Overflow` exactly past the bound.
     pub fn div(self, other: Fixed) -> Result<Fixed, Arith>
         ensures { result ≡ quotient self other }
     {
@@ -108,7 +116,8 @@ impl Fixed {
         signed(negative, nearest(magnitude, other.value.unsigned_abs()))
     }
 
-    /// What the exact quotient leaves when its fraction is dropped: zero or of the sign of `self`.
+    /// What the exact quotient leaves when its fraction is dropped, which is zero or of the sign of
+    /// `self`: `DivideByZero` exactly at a zero divisor, never `Overflow`.
     pub fn rem(self, other: Fixed) -> Result<Fixed, Arith>
         ensures { result ≡ remainder self other }
     {
@@ -120,12 +129,14 @@ impl Fixed {
         })
     }
 
+    /// The number on the other side of zero.
     pub fn neg(self) -> Fixed
         ensures { result ≡ neg_ℤ self }
     {
         Fixed { value: -self.value }
     }
 
+    /// The magnitude.
     pub fn abs(self) -> Fixed
         ensures { result ≡ absolute self }
     {
@@ -167,6 +178,7 @@ impl Fixed {
         ensures text { take result out.new ≡ number_text self }
         ensures length { result ≡ length (number_text self) }
         ensures within { result ≤ 48 }
+        ensures ascii { IsAscii (number_text self) }
     {
         put_number(out, self.value < 0, self.value.unsigned_abs())
     }

@@ -1,4 +1,5 @@
 use Rattle.std.proofs.Common.{rules, arith}
+use Rattle.fixed_num.proofs.RoundTrip.{number_text_ascii}
 use Rattle.fixed_num.proofs.Signs.{number_text_is, front_length}
 use Rattle.fixed_num.proofs.fixed.Fixed.write.Goals as goal
 
@@ -7,3 +8,6 @@ returns-clause-text c = search (rules, number_text_is)
 
 pub returns-clause-length : goal.returns-clause-length
 returns-clause-length c = front_length c.put_number.result c.put_number.new.out _ (omega arith) (returns-clause-text c)
+
+pub returns-clause-ascii : goal.returns-clause-ascii
+returns-clause-ascii c = search (rules, number_text_ascii)
