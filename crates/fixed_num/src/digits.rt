@@ -39,7 +39,9 @@ pub(crate) fn are_digits(bytes: &[u8]) -> bool
 /// a power of ten, which is a negative one where the exponent is down. They are saturated.
 pub(crate) fn magnitude(whole: &[u8], fraction: &[u8], is_down: bool, exponent: &[u8]) -> u128
     requires { IsTrue (list_all is_ascii_digit (whole.now ++ fraction.now)) }
-    ensures { result ≡ saturated (scaled (number_of (whole.now ++ fraction.now)) (length fraction.now) is_down (number_of exponent.now)) }
+    ensures { result ≡ saturated (
+        scaled (number_of (whole.now ++ fraction.now)) (length fraction.now)
+        is_down (number_of exponent.now)) }
 {
     let size = extended(0, exponent);
     let before_point = whole.len() as u128 + 6;
@@ -56,7 +58,9 @@ pub(crate) fn magnitude(whole: &[u8], fraction: &[u8], is_down: bool, exponent: 
 // first digit alone.
 fn moved(whole: &[u8], fraction: &[u8], kept: u128) -> u128
     requires { IsTrue (list_all is_ascii_digit (whole.now ++ fraction.now)) }
-    ensures { result ≡ saturated (nearest (number_of (whole.now ++ fraction.now) * 10 ^ kept) (10 ^ length (whole.now ++ fraction.now))) }
+    ensures { result ≡ saturated (
+        nearest (number_of (whole.now ++ fraction.now) * 10 ^ kept)
+        (10 ^ length (whole.now ++ fraction.now))) }
 {
     let front = first_digits(whole, fraction, kept);
     let length = whole.len() as u128 + fraction.len() as u128;

@@ -11,9 +11,12 @@ ghost use Rattle.fixed_num.specs.declared.decimal.NumFault.TheVariants.{NotNumbe
 /// The texts that are read are those of the grammar of RFC 8259 section 6, each as the number of
 /// its parts.
 pub fn number_texts_are_the_grammar()
-    ensures read { (bs : List ℕ) (negative : Bool) (whole fraction : List ℕ) (is_down : Bool) (exponent : List ℕ) →
-        IsNumberText bs negative whole fraction is_down exponent → read_text bs ≡ value_of negative whole fraction is_down exponent }
-    ensures accepted { (bs : List ℕ) (negative : Bool) (whole fraction : List ℕ) (is_down : Bool) (exponent : List ℕ) →
+    ensures read { (bs : List ℕ) (negative : Bool) (whole fraction : List ℕ)
+        (is_down : Bool) (exponent : List ℕ) →
+        IsNumberText bs negative whole fraction is_down exponent →
+        read_text bs ≡ value_of negative whole fraction is_down exponent }
+    ensures accepted { (bs : List ℕ) (negative : Bool) (whole fraction : List ℕ)
+        (is_down : Bool) (exponent : List ℕ) →
         IsNumberText bs negative whole fraction is_down exponent → read_text bs ≢ Err NotNumber }
     ensures only { (bs : List ℕ) → read_text bs ≢ Err NotNumber → HasNumberParts bs }
 {}

@@ -7,7 +7,8 @@ use itoa::Buffer;
 /// Puts the text of a number at the front, and answers where it ends.
 pub(crate) fn put_number(out: &mut [u8; 48], negative: bool, magnitude: u128) -> usize
     ensures within { result ≤ 48 }
-    ensures text { take result out.new ≡ (if negative then 45 ∷ magnitude_text magnitude else magnitude_text magnitude) }
+    ensures text { take result out.new ≡
+        (if negative then 45 ∷ magnitude_text magnitude else magnitude_text magnitude) }
 {
     if negative {
         out[0] = b'-';
@@ -56,7 +57,8 @@ fn put_fraction_digits(out: &mut [u8; 48], from: usize, millionths: u32) -> usiz
     requires room { from + 6 ≤ 48 }
     requires fraction { millionths < 10 ^ 6 }
     ensures within { result ≤ from + 6 }
-    ensures text { take result out.new ≡ take from out.old ++ without_end_zeros (last_digits 6 millionths) }
+    ensures text { take result out.new ≡
+        take from out.old ++ without_end_zeros (last_digits 6 millionths) }
 {
     let mut left = millionths;
     let mut unit = 1_000_000u32;
