@@ -1,7 +1,7 @@
 -- Which bytes spell which tree, and the JSON string of a text.
-use Rattle.std.specs.Prelude.{◌≡◌, ℕ, ◌+◌, ◌/◌, ◌%◌, List, [], ◌∷◌, ◌++◌, Bool, IsTrue, if◌then◌else◌, ◌==◌, ◌&&◌, ◌||◌, not, nat_le, nat_lt, flat_map}
+use Rattle.std.specs.Prelude.{◌≡◌, ℕ, ◌+◌, ◌/◌, ◌%◌, List, [], ◌∷◌, ◌++◌, Bool, true, false, IsTrue, if◌then◌else◌, ◌==◌, ◌&&◌, ◌||◌, not, nat_le, nat_lt, flat_map, codes}
 use Rattle.std.specs.List.{list_all}
-use Rattle.decimal_json.specs.Tree.{Tree, null, boolean, number, text, list, object, Trees, no_trees, tree}
+use Rattle.decimal_json.specs.Tree.{Tree, null, boolean, number, text, list, object, Trees, no_trees, tree, Fields, no_fields, field}
 use Rattle.decimal_json.specs.Number.{is_number, is_without_exponent}
 
 -- White space: space, line feed, carriage return, tab. RFC 8259 section 2.
@@ -75,16 +75,36 @@ byte_json b =
     if nat_lt b 32 then 92 ∷ 117 ∷ 48 ∷ 48 ∷ hex_digit (b / 16) ∷ hex_digit (b % 16) ∷ [] else
     b ∷ []
 
--- The new bytes are the old ones and then the front of the text up to this rest of it. Own.
-pub record AppendsFront (old new whole rest : List ℕ) : Type 0 where
+-- The new bytes are the old ones and then a prefix of the text, as a refused growth leaves them. Own.
+pub record AppendsPrefix (old new whole : List ℕ) : Type 0 where
   pub front : List ℕ
+  pub rest : List ℕ
   pub cut : whole ≡ front ++ rest
   pub appended : new ≡ old ++ front
-
--- The new bytes are the old ones and then a prefix of the text, as a refused growth leaves them. Own.
-abbrev pub AppendsPrefix : List ℕ → List ℕ → List ℕ → Type 0
-AppendsPrefix old new whole = (rest : List ℕ) × AppendsFront old new whole rest
 
 -- The JSON string of a text: its bytes between quotation marks. RFC 8259 section 7.
 abbrev pub text_json : List ℕ → List ℕ
 text_json s = 34 ∷ (flat_map byte_json s ++ 34 ∷ [])
+
+-- A comma before each part but the first. RFC 8259 sections 4 and 5: value-separator.
+abbrev pub comma_if : Bool → List ℕ
+comma_if later = if later then 44 ∷ [] else []
+
+-- The one text that is written of a tree: no white space, numbers as they stand, members in order.
+-- RFC 8259 sections 3 to 7, and of its spellings this one.
+abbrev mutual
+  pub json_text : Tree → List ℕ
+  json_text null = codes "null"
+  json_text (boolean b) = if b then codes "true" else codes "false"
+  json_text (number n) = n
+  json_text (text s) = text_json s
+  json_text (list ts) = 91 ∷ (items_json false ts ++ 93 ∷ [])
+  json_text (object fs) = 123 ∷ (members_json false fs ++ 125 ∷ [])
+
+  pub items_json : Bool → Trees → List ℕ
+  items_json later no_trees = []
+  items_json later (tree t ts) = comma_if later ++ (json_text t ++ items_json true ts)
+
+  pub members_json : Bool → Fields → List ℕ
+  members_json later no_fields = []
+  members_json later (field k t fs) = comma_if later ++ (text_json k ++ 58 ∷ (json_text t ++ members_json true fs))

@@ -9,4 +9,5 @@ pub mod Parses
 pub mod Runs
 pub mod NumberBytes
 pub mod Reading
+pub mod Writing
 pub mod OneTree

@@ -136,6 +136,53 @@ fn texts_in_json(rt: HostRuntime) -> Result<(), Fail> {
     Ok(())
 }
 
+// From RFC 8259: one text for each tree, number texts as they stand.
+#[test]
+fn trees_are_written(rt: HostRuntime) -> Result<(), Fail> {
+    let rows: [(&[u8], &str); 4] = [
+        (b" 1.50 ", "1.50"),
+        (b" [ \"+\" , 0.10 , [ ] ] ", "[\"+\",0.10,[]]"),
+        (b"[[1],[2,3]]", "[[1],[2,3]]"),
+        (b"\t[]", "[]"),
+    ];
+    for (bytes, json) in rows {
+        let Ok(read) = parse(rt.alloc(), bytes)? else {
+            return Err(Fail::new("no tree"));
+        };
+        let mut out = Vec::new(rt.alloc());
+        write(&copy(rt.alloc(), &read)?, &mut out)?;
+        assert_eq!(rt; out.as_slice(), json.as_bytes());
+    }
+
+    let mut items = Items::new(rt.alloc());
+    items.push(Json::Null)?;
+    items.push(Json::Bool(true))?;
+    items.push(Json::Bool(false))?;
+    let mut members = Members::new(rt.alloc());
+    members.push(Text::copy_of(rt.alloc(), "a\"")?, Json::List(items))?;
+    let mut out = Vec::new(rt.alloc());
+    write(&copy(rt.alloc(), &Json::Object(members))?, &mut out)?;
+    assert_eq!(rt; out.as_slice(), b"{\"a\\\"\":[null,true,false]}".as_slice());
+    Ok(())
+}
+
+// From RFC 6901 sections 3 and 5.
+#[test]
+fn paths_are_written(rt: HostRuntime) -> Result<(), Fail> {
+    let mut path = Path::new(rt.alloc());
+    let mut out = Vec::new(rt.alloc());
+    write_path(&path, &mut out)?;
+    assert_eq!(rt; out.as_slice(), b"\"\"".as_slice());
+
+    path.push(PathPart::Key(Text::copy_of(rt.alloc(), "a/b~c\"")?))?;
+    path.push(PathPart::Index(0))?;
+    path.push(PathPart::Index(1205))?;
+    out.clear();
+    write_path(&path, &mut out)?;
+    assert_eq!(rt; out.as_slice(), b"\"/a~1b~0c\\\"/0/1205\"".as_slice());
+    Ok(())
+}
+
 #[test]
 fn trees_and_paths_are_built(rt: HostRuntime) -> Result<(), Fail> {
     let mut members = Members::new(rt.alloc());
