@@ -1,4 +1,5 @@
 ghost use Rattle.std.specs.Prelude.{◌≡◌, false};
+ghost use Rattle.host_ops.specs.Script.{is_plain};
 
 use crate::host_op::{HostOp, TellFault};
 use std::alloc::Global;
@@ -8,15 +9,16 @@ use std::alloc::Global;
 pub struct ScriptTest;
 
 impl ScriptTest {
-    pub fn new() -> ScriptTest {
+    /// The test.
+    pub fn new() -> ScriptTest
+        ensures test { ⟦<ScriptTest as HostOp>⟧.test result ≡ is_plain }
+        ensures fixed { ⟦<ScriptTest as HostOp>⟧.changes result ≡ false }
+    {
         ScriptTest
     }
 }
 
 impl HostOp for ScriptTest {
-    ghost use Rattle.host_ops.specs.Script.{is_plain};
-    ghost use Rattle.std.specs.Prelude.{false};
-
     ghost test = { λ _. is_plain };
 
     ghost changes = { λ _. false };

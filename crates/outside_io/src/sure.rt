@@ -111,7 +111,11 @@ impl SureFiles {
 pub struct SureSink;
 
 impl SureSink {
-    pub fn new() -> SureSink {
+    /// The sink.
+    pub fn new() -> SureSink
+        ensures held { ⟦<SureSink as Sink>⟧.held result ≡ None }
+        ensures faults { ⟦<SureSink as Sink>⟧.faults result ≡ 0 }
+    {
         SureSink
     }
 }
