@@ -1,18 +1,16 @@
 -- What the parts of the descent make of what their callees answer.
-use Rattle.std.proofs.Common.{◌≡◌, ℕ, ◌+◌, ◌<◌, ◌≤◌, List, [], ◌∷◌, ◌++◌, refl, ap, sym, ◌∙◌, subst, append_assoc, arith, true, false}
-use Rattle.std.specs.Prelude.{IsTrue, Option, Some, None, Result, Ok, Err, IfOk, nat_lt}
+use Rattle.std.proofs.Common.{◌≡◌, ℕ, List, [], ◌∷◌, ◌++◌, refl, ap, sym, ◌∙◌, subst, append_assoc, arith}
+use Rattle.std.specs.Prelude.{IsTrue, Option, Some, None, Result, Ok, Err, IfOk}
 use Rattle.std.specs.List.{list_all}
-use Rattle.std.proofs.lemmas.Bool.{and_from, both_ways}
+use Rattle.std.proofs.lemmas.Bool.{and_from}
 use Rattle.std.proofs.lemmas.List.Folds.{list_all-append}
 use Rattle.decimal_json.specs.declared.tree.Json.{Json}
-use Rattle.decimal_json.specs.Tree.{Tree, null, boolean, number, text, list, object, Trees, no_trees, tree, trees_of}
+use Rattle.decimal_json.specs.Tree.{Tree, Trees, no_trees, tree, trees_of}
 use Rattle.decimal_json.specs.View.{tree_of}
-use Rattle.decimal_json.specs.Number.{is_number_byte}
-use Rattle.decimal_json.specs.NumberBytes.{number_first}
 use Rattle.decimal_json.specs.Runs.{Stops, one_run}
-use Rattle.decimal_json.specs.JsonText.{is_space, may_open, InSpaces, SpellsValue, SpellsItems, SpellsTail, Spells}
+use Rattle.decimal_json.specs.JsonText.{is_space, InSpaces, SpellsValue, SpellsItems, SpellsTail, Spells}
 use Rattle.decimal_json.specs.Parses.{Parses}
-use Rattle.decimal_json.specs.Reading.{ReadsValue, GivesValue, GivesNumber, GivesText, GivesElement, GivesItems, SpellsSome, GivesSome, followed_by, ItemsRead}
+use Rattle.decimal_json.specs.Reading.{ReadsValue, GivesValue, GivesElement, GivesItems, SpellsSome, GivesSome, followed_by, ItemsRead}
 use Rattle.decimal_json.specs.OneTree.{value_stops, padded_reads, one_padded, one_value, tail_delimits, delimiter_stops}
 
 heads : (c d : ℕ) (x y : List ℕ) → c ∷ x ≡ d ∷ y → c ≡ d
@@ -22,61 +20,6 @@ heads c d x y e = cc
 pub if_ok : {A E : Type 0} (P Q : A → Type 0) (r : Result A E) → ((x : A) → P x → Q x) → IfOk r P → IfOk r Q
 if_ok P Q (Ok x) f h = f x h
 if_ok P Q (Err e) f h = h
-
--- behind an open bracket stands the rest of an array, and nothing else
-pub no_array : (k : ℕ) (b rest : List ℕ) → b ≡ 91 ∷ rest → ((ts : Trees) (r : List ℕ) → IsTrue (may_open k) → SpellsItems (k + 1) ts rest r → ⊥) → (t : Tree) (r : List ℕ) → ReadsValue k t b r → ⊥
-no_array k b rest e none null r h = h.0
-no_array k b rest e none (boolean v) r h = h.0
-no_array k b rest e none (number n) r h = both_ways (is_number_byte 91) refl (number_first n r rest 91 h.0.1 (sym h.0.0 ∙ e))
-no_array k b rest e none (text s) r h = let whole : 91 ∷ rest ≡ 34 ∷ (s ++ 34 ∷ r) = sym e ∙ h.0.0 in absurd (omega (arith, heads 91 34 _ _ whole))
-no_array k b rest e none (list ts) r h =
-    let whole : 91 ∷ h.0.0 ≡ 91 ∷ rest = sym h.0.1 ∙ e in
-    let inner : h.0.0 ≡ rest = cc in
-    none ts r h.0.2 (subst (λ w. SpellsItems (k + 1) ts w r) inner h.0.3)
-no_array k b rest e none (object fs) r h = h.0
-
-closed : (k : ℕ) → 64 ≤ k → nat_lt k 64 ≡ false
-closed k h = grind arith
-
-open_may : (k : ℕ) → k < 64 → nat_lt k 64 ≡ true
-open_may k h = grind arith
-
--- at the 65th open bracket no value stands
-pub too_deep : (k : ℕ) (b rest : List ℕ) → b ≡ 91 ∷ rest → 64 ≤ k → (t : Tree) (r : List ℕ) → ReadsValue k t b r → ⊥
-too_deep k b rest e deep t r h = no_array k b rest e (λ ts q may x. both_ways (may_open k) (closed k deep) may) t r h
-
--- the items of an array make the array
-pub array_value : (k : ℕ) (b rest : List ℕ) (items : List Tree) (q : List ℕ) → b ≡ 91 ∷ rest → k < 64 → SpellsItems (k + 1) (trees_of items) rest q → ReadsValue k (list (trees_of items)) b q
-array_value k b rest items q e deep h = ((rest, e, open_may k deep, h), tt)
-
-pub no_array_value : (k : ℕ) (b rest : List ℕ) → b ≡ 91 ∷ rest → ((ts : Trees) (r : List ℕ) → SpellsItems (k + 1) ts rest r → ⊥) → (t : Tree) (r : List ℕ) → ReadsValue k t b r → ⊥
-no_array_value k b rest e none t r h = no_array k b rest e (λ ts q may x. none ts q x) t r h
-
--- behind a quotation mark stands the rest of a text, and nothing else
-no_text_value : (k : ℕ) (b rest : List ℕ) → b ≡ 34 ∷ rest → ((s r : List ℕ) → SpellsValue 0 (text s) (34 ∷ rest) r → ⊥) → (t : Tree) (r : List ℕ) → ReadsValue k t b r → ⊥
-no_text_value k b rest e none null r h = h.0
-no_text_value k b rest e none (boolean v) r h = h.0
-no_text_value k b rest e none (number n) r h = both_ways (is_number_byte 34) refl (number_first n r rest 34 h.0.1 (sym h.0.0 ∙ e))
-no_text_value k b rest e none (text s) r h = none s r (sym e ∙ h.0.0, h.0.1)
-no_text_value k b rest e none (list ts) r h = let whole : 34 ∷ rest ≡ 91 ∷ h.0.0 = sym e ∙ h.0.1 in absurd (omega (arith, heads 34 91 _ _ whole))
-no_text_value k b rest e none (object fs) r h = h.0
-
-pub text_value : (k : ℕ) (b rest : List ℕ) (q : List ℕ) → b ≡ 34 ∷ rest → (found : Option Json) → GivesText rest found q → GivesValue k b found q
-text_value k b rest q e (Some json) h = subst (λ t. ReadsValue k t b q) (sym h.1) ((e ∙ h.2.0, h.2.1), tt)
-text_value k b rest q e None h = no_text_value k b rest e h
-
--- behind no bracket and no mark stands a number, or nothing
-no_number_value : (k : ℕ) (b : List ℕ) → ((r : List ℕ) → b ≡ 91 ∷ r → ⊥) → ((r : List ℕ) → b ≡ 34 ∷ r → ⊥) → ((n r : List ℕ) → ReadsValue 0 (number n) b r → ⊥) → (t : Tree) (r : List ℕ) → ReadsValue k t b r → ⊥
-no_number_value k b bracket mark none null r h = h.0
-no_number_value k b bracket mark none (boolean v) r h = h.0
-no_number_value k b bracket mark none (number n) r h = none n r h
-no_number_value k b bracket mark none (text s) r h = mark (s ++ 34 ∷ r) h.0.0
-no_number_value k b bracket mark none (list ts) r h = bracket h.0.0 h.0.1
-no_number_value k b bracket mark none (object fs) r h = h.0
-
-pub number_value : (k : ℕ) (b : List ℕ) (q : List ℕ) → ((r : List ℕ) → b ≡ 91 ∷ r → ⊥) → ((r : List ℕ) → b ≡ 34 ∷ r → ⊥) → (found : Option Json) → GivesNumber b found q → GivesValue k b found q
-number_value k b q bracket mark (Some json) h = subst (λ t. ReadsValue k t b q) (sym h.1) h.2
-number_value k b q bracket mark None h = no_number_value k b bracket mark h
 
 -- a value with the white space round it
 pub element : (k : ℕ) (b w inner rest v q : List ℕ) → b ≡ w ++ inner → IsTrue (list_all is_space w) → Stops is_space inner → rest ≡ v ++ q → IsTrue (list_all is_space v) → Stops is_space q → (found : Option Json) → GivesValue k inner found rest → GivesElement k b found q
@@ -90,9 +33,6 @@ element k b w inner rest v q begins in_w at_inner ends in_v at_q None h = λ t r
 more_space : (P : List ℕ → List ℕ → Type 0) (b w c q : List ℕ) → b ≡ w ++ c → IsTrue (list_all is_space w) → InSpaces P c q → InSpaces P b q
 more_space P b w c q e in_w x =
     record { before = w ++ x.before; inner = x.inner; rest = x.rest; after = x.after; begins = e ∙ (ap (λ y. w ++ y) x.begins ∙ sym (append_assoc w x.before x.inner)); spaces_before = list_all-append is_space w x.before ∙ and_from (list_all is_space w) (list_all is_space x.before) in_w x.spaces_before; body = x.body; ends = x.ends; spaces_after = x.spaces_after }
-
-pub no_item_yet : (k : ℕ) (b w rest q : List ℕ) → b ≡ w ++ rest → IsTrue (list_all is_space w) → rest ≡ 93 ∷ q → SpellsItems k no_trees b q
-no_item_yet k b w rest q e in_w bracket = (w, e ∙ ap (λ y. w ++ y) bracket, in_w)
 
 some_spelled : (k : ℕ) (ts : Trees) (b w rest q : List ℕ) → b ≡ w ++ rest → IsTrue (list_all is_space w) → SpellsSome k ts rest q → SpellsItems k ts b q
 some_spelled k no_trees b w rest q e in_w h = absurd h
@@ -121,10 +61,6 @@ followed-push (u ∷ items) t more = ap (tree u) (followed-push items t more)
 
 padded_spells : (k : ℕ) (t : Tree) (b q : List ℕ) → InSpaces (ReadsValue k t) b q → InSpaces (SpellsValue k t) b q
 padded_spells k t b q x = record { before = x.before; inner = x.inner; rest = x.rest; after = x.after; begins = x.begins; spaces_before = x.spaces_before; body = x.body.0; ends = x.ends; spaces_after = x.spaces_after }
-
--- before the first item
-pub no_items_read : (k : ℕ) (b : List ℕ) → ItemsRead k b [] b
-no_items_read k b = record { there = λ more q h. h; back = λ ts q h. (ts, refl, h) }
 
 -- an item and the bracket
 pub last_item : (k : ℕ) (start : List ℕ) (items : List Tree) (now : List ℕ) (json : Json) (mid q : List ℕ) (all : List Tree) → ItemsRead k start items now → GivesElement k now (Some json) mid → mid ≡ 93 ∷ q → all ≡ items ++ tree_of json ∷ [] → SpellsSome k (trees_of all) start q

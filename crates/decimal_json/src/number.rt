@@ -1,4 +1,4 @@
-ghost use Rattle.std.specs.Prelude.{◌≡◌, ◌&&◌};
+ghost use Rattle.std.specs.Prelude.{◌≡◌};
 ghost use Rattle.decimal_json.specs.Number.{after_digits, begins_with_digit, after_sign, is_exponent, is_fraction, is_unsigned, is_number, is_without_exponent};
 
 /// Whether the bytes are a JSON number.

@@ -1,4 +1,4 @@
-ghost use Rattle.std.specs.Prelude.{◌≡◌, ℕ, ◌+◌, ◌-◌, ◌≤◌, ◌<◌, length, IfOk, option_map};
+ghost use Rattle.std.specs.Prelude.{◌≡◌, ◌≤◌, length, IfOk};
 ghost use Rattle.std.specs.Str.{IsAscii};
 ghost use Rattle.decimal_json.specs.Parses.{Parses};
 ghost use Rattle.decimal_json.specs.Reading.{GivesValue, GivesElement, GivesItems, GivesSome, GivesNumber, GivesText};
