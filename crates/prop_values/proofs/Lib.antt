@@ -1,0 +1,8 @@
+pub mod Keys
+pub mod IndexSteps
+pub mod Lengths
+pub mod JsonKeys
+pub mod JsonSteps
+pub mod Ascii
+pub mod Quoted
+pub mod ColorSteps

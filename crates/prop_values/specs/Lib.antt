@@ -1,0 +1,13 @@
+pub mod Data
+pub mod DataCode
+pub mod View
+pub mod Falls
+pub mod Faults
+pub mod Equality
+pub mod Keys
+pub mod Places
+pub mod Choices
+pub mod Forms
+pub mod ColorText
+pub mod ValueText
+pub mod JsonData

@@ -1,0 +1,73 @@
+-- Which data a value of the program is.
+use Rattle.std.specs.Prelude.{◌≡◌, ℕ, List, [], ◌∷◌, map, refl}
+use Rattle.std.proofs.Common.{ap}
+use Rattle.std.specs.Coded.{Coded, code_by}
+use Rattle.prop_values.specs.Data.{Data, null, boolean, number, text, color, list, map as mapping, Items, Pairs, items_of, pairs_of, list_of, entries_of, items_nodes, pairs_nodes}
+use Rattle.prop_values.specs.DataCode.{data_code}
+use Rattle.prop_values.specs.declared.value.Value.{Value}
+use Rattle.prop_values.specs.declared.value.Value.TheVariants.{Null, Bool as Flag, Num, Text, Color, List as ListOf, Map}
+use Rattle.prop_values.specs.declared.value.Entry.{Entry}
+
+-- The data of a value: each variant is the form of its name. Own.
+abbrev pub data_of : Value → Data
+data_of Null = null
+data_of (Flag b) = boolean b
+data_of (Num n) = number n
+data_of (Text s) = text s
+data_of (Color c) = color c
+data_of (ListOf ds) = list (items_of ds)
+data_of (Map ps) = mapping (pairs_of ps)
+
+-- The value of data, as contracts see it.
+abbrev pub value_of : Data → Value
+value_of null = Null
+value_of (boolean b) = Flag b
+value_of (number n) = Num n
+value_of (text s) = Text s
+value_of (color c) = Color c
+value_of (list ds) = ListOf (list_of ds)
+value_of (mapping ps) = Map (entries_of ps)
+
+pub list_of-items_of : (ds : List Data) → list_of (items_of ds) ≡ ds
+list_of-items_of [] = refl
+list_of-items_of (d ∷ ds) = ap (λ xs. d ∷ xs) (list_of-items_of ds)
+
+pub entries_of-pairs_of : (ps : List (List ℕ × Data)) → entries_of (pairs_of ps) ≡ ps
+entries_of-pairs_of [] = refl
+entries_of-pairs_of (p ∷ ps) = ap (λ xs. p ∷ xs) (entries_of-pairs_of ps)
+
+-- For callers: the data gives the value back.
+pub value_again : (v : Value) → value_of (data_of v) ≡ v
+value_again Null = refl
+value_again (Flag b) = refl
+value_again (Num n) = refl
+value_again (Text s) = refl
+value_again (Color c) = refl
+value_again (ListOf ds) = ap ListOf (list_of-items_of ds)
+value_again (Map ps) = ap Map (entries_of-pairs_of ps)
+
+-- For callers whose models hold values.
+abbrev pub value_code : Coded Value
+value_code = code_by Data data_code data_of value_of value_again
+
+abbrev pub values_view : List Value → List Data
+values_view = map data_of
+
+abbrev pub entry_view : Entry → List ℕ × Data
+entry_view e = (e.key, data_of e.value)
+
+abbrev pub entries_view : List Entry → List (List ℕ × Data)
+entries_view = map entry_view
+
+-- the items of a slice of values, and the pairs of a slice of entries, as the parts of data
+abbrev pub items : List Value → Items
+items vs = items_of (values_view vs)
+
+abbrev pub pairs : List Entry → Pairs
+pairs es = pairs_of (entries_view es)
+
+abbrev pub values_size : List Data → ℕ
+values_size ds = items_nodes (items_of ds)
+
+abbrev pub entries_size : List (List ℕ × Data) → ℕ
+entries_size ps = pairs_nodes (pairs_of ps)

@@ -1,0 +1,39 @@
+//! Values of style properties, features and expressions, with what is known and wanted of them.
+//!
+//! ```text
+//! let mut entries = Entries::new(alloc);
+//! entries.push(Text::copy_of(alloc, "kind")?, Value::Bool(true))?;
+//! entries.get("kind");                                    // Some(Value::Bool(true))
+//! to_text(alloc, &Value::Map(entries))?.as_str();         // {"kind":true}
+//! ```
+//!
+//! Promised, for all values: equality (maps in any order), order, kind text, truth, text and listed text
+//! are those of the definitions in `specs/`; a copy is the same value; a JSON tree gives the value that it
+//! says, or the fault of its first number past the bound. A map's keys differ, and its `get` takes time by
+//! the logarithm of its entries, so `equals` takes n log n and no memory.
+//!
+//! Contracts see a value through `data_of`, a list as a list of data, and a map as a list of pairs of a key
+//! and data (`specs/Data.antt`, `specs/View.antt`). `specs/Falls.antt` has the lemmas by which a recursion
+//! over values ends, and `specs/Keys.antt` those on what stands at a key.
+#![tactic(auto)]
+
+mod choice;
+mod comparing;
+mod copying;
+mod fault;
+mod kinds;
+mod outcome;
+mod places;
+#[cfg(test)]
+mod tests;
+mod text;
+mod value;
+
+pub use choice::Choice;
+pub use comparing::{equals, kind_text, order, truth};
+pub use copying::{copy, from_json};
+pub use fault::{EvalFault, FaultSet};
+pub use kinds::{Item, Kind, Want};
+pub use outcome::{Curve, Outcome};
+pub use text::{to_text, write_color, write_listed};
+pub use value::{Entries, Entry, Value, Values};
