@@ -1,0 +1,12 @@
+pub mod Messages
+pub mod Texts
+pub mod Packed
+pub mod Places
+pub mod TextPlaces
+pub mod Firsts
+pub mod Pairs
+pub mod FeatureLists
+pub mod FeatureMade
+pub mod Names
+pub mod Chosen
+pub mod TileLaws

@@ -1,0 +1,8 @@
+use Rattle.tile_reader.proofs.Texts.{text_accepted, text_refused}
+use Rattle.tile_reader.proofs.wire_parts.text_of.Goals as goal
+
+pub returns-in-Ok : goal.returns-in-Ok
+returns-in-Ok c = text_accepted c.args.at c.args.bytes.now c.in-Ok.text.now c.in-Ok.ensures.cases.0 c.in-Ok.ensures.cases.1
+
+pub returns-in-Err : goal.returns-in-Err
+returns-in-Err c = text_refused c.args.at c.args.bytes.now c.in-Err.ensures.cases.0

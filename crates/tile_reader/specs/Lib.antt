@@ -1,0 +1,10 @@
+pub mod Message
+pub mod Read
+pub mod Value
+pub mod Feature
+pub mod Properties
+pub mod Layer
+pub mod Tile
+pub mod Lookup
+pub mod View
+pub mod Laws

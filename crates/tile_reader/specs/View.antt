@@ -1,0 +1,73 @@
+-- What the definitions see of the values that the reader makes.
+use Rattle.std.specs.Prelude.{◌≡◌, ℕ, pos, List, map, Option, Some, None, option_map, Result, Ok, Err}
+use Rattle.std.specs.Borrow.{Bor}
+use Rattle.proto_wire.specs.Reading.{Reading}
+use Rattle.proto_wire.specs.View.{field_seen}
+use Rattle.proto_wire.specs.declared.field.Field.{Field}
+use Rattle.proto_wire.specs.declared.field.WireFault.{WireFault}
+use Rattle.prop_values.specs.Data.{Data}
+use Rattle.prop_values.specs.Data as held
+use Rattle.tile_reader.specs.declared.fault.TileFault.{TileFault}
+use Rattle.tile_reader.specs.declared.halt.Halt.{Halt}
+use Rattle.tile_reader.specs.declared.halt.Halt.TheVariants.{Fault, NoMemory}
+use Rattle.tile_reader.specs.declared.value.Held.{Held}
+use Rattle.tile_reader.specs.declared.value.Held.TheVariants.{Signed, Unsigned, Text, Flag}
+use Rattle.tile_reader.specs.declared.feature.TaggedFeature.{TaggedFeature}
+use Rattle.tile_reader.specs.declared.layer.LayerParts.{LayerParts}
+use Rattle.tile_reader.specs.Message.{Message, message, no_fields, broken_off, field_before}
+use Rattle.tile_reader.specs.Read.{broken}
+use Rattle.tile_reader.specs.Value.{whole}
+use Rattle.tile_reader.specs.Feature.{Tagged}
+use Rattle.tile_reader.specs.Layer.{Parts}
+
+-- what a reader returned, as the definitions see it, is what is read there
+abbrev pub Gives : {X Y : Type 0} → (X → Y) → Result X TileFault → Result Y TileFault → Type 0
+Gives seen (Ok x) read = read ≡ Ok (seen x)
+Gives seen (Err fault) read = read ≡ Err fault
+
+-- the same of a reader that may lack memory
+abbrev pub GivesOrLacks : {X Y : Type 0} → (X → Y) → Result X Halt → Result Y TileFault → Type 0
+GivesOrLacks seen (Ok x) read = read ≡ Ok (seen x)
+GivesOrLacks seen (Err (Fault fault)) read = read ≡ Err fault
+GivesOrLacks seen (Err NoMemory) read = Unit {0}
+
+-- what a step left behind, where it did not end early, is what is read there
+abbrev pub Leaves : {Y : Type 0} → Y → Result (Unit {0}) Halt → Result Y TileFault → Type 0
+Leaves new (Ok _) read = read ≡ Ok new
+Leaves new (Err (Fault fault)) read = read ≡ Err fault
+Leaves new (Err NoMemory) read = Unit {0}
+
+-- the message that a reader of fields has left
+abbrev pub left_of : Reading → Message
+left_of reading = message reading.at reading.bytes
+
+-- a field, an end or a fault is the front of what a reader had left
+abbrev pub TakesFront : Reading → Result (Option Field) TileFault → Reading → Type 0
+TakesFront old (Ok None) new = left_of old ≡ no_fields
+TakesFront old (Ok (Some field)) new = left_of old ≡ field_before (field_seen field new.at) (left_of new)
+TakesFront old (Err fault) new = (wire : WireFault) × (left_of old ≡ broken_off wire) × (fault ≡ broken wire)
+
+-- the value
+abbrev pub value_seen : Held → Data
+value_seen (Signed z) = whole z
+value_seen (Unsigned n) = whole (pos n)
+value_seen (Text s) = held.text s.now
+value_seen (Flag b) = held.boolean b
+
+-- the feature before its tags are looked up
+abbrev pub tagged_seen : TaggedFeature → Tagged
+tagged_seen feature = record { at = feature.at; id = feature.id; shape = feature.shape; tags = feature.tags.items }
+
+-- the texts
+abbrev pub texts_seen : List (Bor (List ℕ)) → List (List ℕ)
+texts_seen = map (λ (s : Bor (List ℕ)). s.now)
+
+-- what was read of a layer
+abbrev pub parts_seen : LayerParts → Parts
+parts_seen parts = record {
+  name = option_map (λ (s : Bor (List ℕ)). s.now) parts.name;
+  version = parts.version;
+  keys = texts_seen parts.keys.items;
+  values = map value_seen parts.values.items;
+  features = map tagged_seen parts.features.items;
+}

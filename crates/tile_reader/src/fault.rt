@@ -1,0 +1,43 @@
+use proto_wire::WireKind;
+use thiserror::Error;
+
+/// What a byte string lacks that a tile has.
+#[derive(Clone, Copy, Debug, PartialEq, Eq)]
+pub enum TileKind {
+    /// The bytes of a field are none (Protocol Buffers, "Encoding").
+    Wire(WireKind),
+    /// The bytes begin as a gzip file (RFC 1952): 1F 8B.
+    Compressed,
+    /// A layer without a name.
+    NoName,
+    /// A layer without a version.
+    NoVersion,
+    /// A layer of a version other than 1 and 2.
+    Version,
+    /// A layer with the name of an earlier one.
+    RepeatedName,
+    /// A tag that is no index of a key or of a value of its layer.
+    TagIndex,
+    /// A feature with an odd number of tags.
+    OddTags,
+    /// A value that does not have exactly one of the seven fields of a value.
+    ValueKind,
+    /// A value that is a float or a double.
+    FloatValue,
+    /// A name, key or text that is not UTF-8.
+    Utf8,
+    /// A known field of another wire type than its own.
+    FieldType,
+    /// A feature type above 3.
+    GeometryType,
+}
+
+/// The first fault of a byte string, and where: the offset of the tag of the innermost field in which it stands. That
+/// is a layer's tag for what a layer lacks, a feature's tag for its tags, a value's tag for a value without a field,
+/// and 0 for `Compressed`.
+#[derive(Clone, Copy, Debug, PartialEq, Eq, Error)]
+#[error("{kind:?} at byte {at}")]
+pub struct TileFault {
+    pub kind: TileKind,
+    pub at: usize,
+}

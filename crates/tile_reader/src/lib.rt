@@ -1,0 +1,36 @@
+//! Reads Mapbox vector tiles (Vector Tile 2.1, versions 1 and 2): layers, features, ids, types and properties.
+//!
+//! ```text
+//! match read_tile(alloc, bytes)? {
+//!     Ok(tile) => ..,      // tile.as_slice()[0].name, .features ..
+//!     Err(fault) => ..,    // fault.kind, fault.at
+//! }
+//! ```
+//!
+//! Promised: for all bytes the answer is the tile that they are by the definition `tile_of` of `specs/Tile.antt`, or
+//! the first fault in the reading order with its place, unless memory lacks. Time is that of n log n in the bytes and
+//! in what the tile holds: a property is copied once, and only what stays of a repeated key.
+//!
+//! The reading order: compressed bytes come first. Then the fields follow from left to right, and what stands inside a
+//! layer, feature or value is read where its field stands. At a field come its wire type, a float, a second field of a
+//! value, UTF-8, and the feature type, also where a later field replaces it. At the end of a layer come its name, its
+//! version and a repeated name, and then for each feature an odd number of tags and a tag without a key or value.
+#![tactic(auto)]
+
+mod fault;
+mod feature;
+mod halt;
+mod laws;
+mod layer;
+mod properties;
+mod reading;
+#[cfg(test)]
+mod tests;
+mod tile;
+mod value;
+mod wire_parts;
+
+pub use fault::{TileFault, TileKind};
+pub use laws::{bytes_are_one_tile, keys_differ, messages_are_cut};
+pub use reading::read_tile;
+pub use tile::{Feature, Features, Shape, Tile, TileLayer};

@@ -1,0 +1,154 @@
+ghost use Rattle.std.specs.Prelude.{◌≡◌, ◌≤◌, ◌<◌, ◌^◌, [], ◌∷◌, ◌++◌, IfOk, OnOk, Ok, option_map};
+ghost use Rattle.proto_wire.specs.View.{field_seen, content_length};
+ghost use Rattle.tile_reader.specs.Message.{message};
+ghost use Rattle.tile_reader.specs.Read.{◌then◌, read_fields};
+ghost use Rattle.tile_reader.specs.Layer.{name_of, version_of, layer_end};
+ghost use Rattle.tile_reader.specs.Tile.{names as layer_names, tile_step, tile_of, is_compressed};
+ghost use Rattle.tile_reader.specs.Lookup.{HasTexts};
+ghost use Rattle.tile_reader.specs.View.{Gives, GivesOrLacks, Leaves, parts_seen};
+
+use crate::fault::{TileFault, TileKind};
+use crate::halt::Halt;
+use crate::layer::{LayerParts, read_parts};
+use crate::properties::features;
+use crate::tile::{Tile, TileLayer};
+use crate::wire_parts::{bytes_in, next_field};
+use decimal_json::Text;
+use proto_wire::{Field, Fields};
+use std::alloc::{AllocError, Global};
+use std::collections::BTreeMap;
+
+/// The tile that these bytes are, or their first fault.
+pub fn read_tile(alloc: Global, bytes: &[u8]) -> Result<Result<Tile, TileFault>, AllocError>
+    ensures { IfOk result (λ answer. answer ≡ tile_of bytes.now) }
+{
+    match read_layers(alloc, bytes) {
+        Ok(tile) => Ok(Ok(tile)),
+        Err(Halt::Fault(fault)) => Ok(Err(fault)),
+        Err(Halt::NoMemory) => Err(AllocError),
+    }
+}
+
+fn is_compressed(bytes: &[u8]) -> bool
+    ensures { result ≡ is_compressed bytes.now }
+{
+    match bytes {
+        [first, second, ..] => *first == 0x1F && *second == 0x8B,
+        _ => false,
+    }
+}
+
+#[tactic(auto, unfolding(crate::specs::Tile::tile_of))]
+fn read_layers(alloc: Global, bytes: &[u8]) -> Result<Tile, Halt>
+    ensures { GivesOrLacks (λ tile. tile) result (tile_of bytes.now) }
+{
+    if is_compressed(bytes) {
+        return Err(Halt::Fault(TileFault {
+            kind: TileKind::Compressed,
+            at: 0,
+        }));
+    }
+    read_message(alloc, bytes)
+}
+
+// The layers of bytes that are not compressed.
+fn read_message(alloc: Global, bytes: &[u8]) -> Result<Tile, Halt>
+    ensures { GivesOrLacks (λ tile. tile) result (read_fields tile_step [] (message 0 bytes.now)) }
+{
+    let mut tile = Tile::new(alloc);
+    let mut names: BTreeMap<&str, ()> = BTreeMap::new(alloc);
+    let mut fields = Fields::new(bytes, 0);
+    while let Some(field) = next_field(&mut fields)? {
+        let end = fields.offset();
+        add_field(alloc, &mut tile, &mut names, field, end)?;
+    }
+    Ok(tile)
+}
+
+// Adds the layer that a field holds, if it does. The byte after the field stands at `end`.
+fn add_field<'a>(
+    alloc: Global,
+    tile: &mut Tile,
+    names: &mut BTreeMap<&'a str, ()>,
+    field: Field<'a>,
+    end: usize,
+) -> Result<(), Halt>
+    requires names { HasTexts names.old (layer_names tile.old) }
+    requires inside { content_length field.wire ≤ end }
+    requires room { end < 2 ^ 64 }
+    ensures layer { Leaves tile.new result (tile_step tile.old (field_seen field.entry end)) }
+    ensures names { OnOk result (HasTexts names.new (layer_names tile.new)) }
+{
+    let Field { number, at, wire } = field;
+    if number == 3 {
+        let content = bytes_in(at, wire)?;
+        let parts = read_parts(alloc, content, end - content.len())?;
+        add_layer(alloc, tile, names, &parts, at)?;
+    }
+    Ok(())
+}
+
+// Adds the layer of these parts, whose tag stands at `at`, to a tile whose layers have these names.
+fn add_layer<'a>(
+    alloc: Global,
+    tile: &mut Tile,
+    names: &mut BTreeMap<&'a str, ()>,
+    parts: &LayerParts<'a>,
+    at: usize,
+) -> Result<(), Halt>
+    requires { HasTexts names.old (layer_names tile.old) }
+    ensures layer { Leaves tile.new result (layer_end at (layer_names tile.old) (parts_seen parts.now) then λ layer. Ok (tile.old ++ layer ∷ [])) }
+    ensures names { OnOk result (HasTexts names.new (layer_names tile.new)) }
+{
+    let name = name_of(at, parts.name)?;
+    let _version = version_of(at, parts.version)?;
+    if names.contains_key(name) {
+        return Err(Halt::Fault(TileFault {
+            kind: TileKind::RepeatedName,
+            at,
+        }));
+    }
+    let keys = parts.keys.as_slice();
+    let features = features(
+        alloc,
+        keys,
+        parts.values.as_slice(),
+        parts.features.as_slice(),
+    )?;
+    let text = Text::copy_of(alloc, name)?;
+    names.insert(name, ())?;
+    tile.push(TileLayer {
+        name: text,
+        features,
+    })?;
+    Ok(())
+}
+
+fn name_of(at: usize, name: Option<&str>) -> Result<&str, TileFault>
+    ensures { Gives (λ s. s.now) result (name_of at (option_map (λ s. s.now) name.entry)) }
+{
+    match name {
+        Some(name) => Ok(name),
+        None => Err(TileFault {
+            kind: TileKind::NoName,
+            at,
+        }),
+    }
+}
+
+fn version_of(at: usize, version: Option<u64>) -> Result<u64, TileFault>
+    ensures { result ≡ version_of at version }
+{
+    match version {
+        None => Err(TileFault {
+            kind: TileKind::NoVersion,
+            at,
+        }),
+        Some(1) => Ok(1),
+        Some(2) => Ok(2),
+        Some(_) => Err(TileFault {
+            kind: TileKind::Version,
+            at,
+        }),
+    }
+}
