@@ -1,0 +1,12 @@
+pub mod Pieces
+pub mod Utf8
+pub mod Steps
+pub mod Ends
+pub mod Turns
+pub mod Firsts
+pub mod Escapes
+pub mod Places
+pub mod Faults
+pub mod Whole
+pub mod Found
+pub mod Taken

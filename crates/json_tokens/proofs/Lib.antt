@@ -1,0 +1,3 @@
+pub mod Composed
+pub mod Sequences
+pub mod PlainTexts

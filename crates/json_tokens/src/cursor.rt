@@ -1,0 +1,96 @@
+ghost use Rattle.std.specs.Prelude.{◌≡◌, ◌↔◌, ◌≤◌, [], ◌∷◌, ◌++◌, ℕ, List, length, take, drop, IsTrue, Some, None, IfSome};
+ghost use Rattle.std.specs.Bool.{OnTrue, OnFalse};
+ghost use Rattle.json_tokens.specs.Runs.{first_of, Stops};
+ghost use Rattle.json_tokens.specs.Sequence.{is_space, IsSkipped};
+ghost use Rattle.std.specs.List.{list_all};
+
+use std::marker::Model;
+
+/// A place in a byte string, which clauses see as the bytes that are left.
+#[derive(Drop)]
+pub struct Cursor<'a> {
+    rest: &'a [u8],
+}
+
+impl<'a> Model for Cursor<'a> {
+    ghost use Rattle.std.specs.Prelude.{ℕ, List};
+
+    ghost Value = { List ℕ };
+
+    ghost view = { λ a. a.rest.now };
+}
+
+impl<'a> Cursor<'a> {
+    pub fn new(bytes: &'a [u8]) -> Cursor<'a>
+        ensures { result ≡ bytes.now }
+    {
+        Cursor { rest: bytes }
+    }
+
+    /// The bytes that are left.
+    pub fn rest(&self) -> &'a [u8]
+        ensures { result.now ≡ self.now }
+    {
+        self.rest
+    }
+
+    /// The next byte, or `None` at the end.
+    pub fn peek(&self) -> Option<u8>
+        ensures { result ≡ first_of self.now }
+    {
+        match self.rest {
+            [first, ..] => Some(*first),
+            [] => None,
+        }
+    }
+
+    /// Takes the next byte where it is this one, and else stays.
+    pub fn take_if(&mut self, byte: u8) -> bool
+        ensures taken { OnTrue result (self.old ≡ byte ∷ self.new) }
+        ensures stays { OnFalse result (self.new ≡ self.old) }
+        ensures other { OnFalse result ((rest : List ℕ) → self.old ≡ byte ∷ rest → ⊥) }
+        ensures shorter { length self.new ≤ length self.old }
+    {
+        match self.rest {
+            [first, others @ ..] if *first == byte => {
+                self.rest = others;
+                true
+            }
+            _ => false,
+        }
+    }
+
+    /// Passes the white space that stands here.
+    pub fn skip_spaces(&mut self)
+        ensures skipped { IsSkipped self.old self.new }
+        ensures shorter { length self.new ≤ length self.old }
+    {
+        self.take_front(spaces_length(self.rest));
+    }
+
+    /// Takes so many bytes.
+    pub fn take_front(&mut self, count: usize) -> &'a [u8]
+        requires { count ≤ length self.old }
+        ensures split { self.old ≡ result.now ++ self.new }
+        ensures front { result.now ≡ take count self.old }
+        ensures back { self.new ≡ drop count self.old }
+        ensures shorter { length self.new ≤ length self.old }
+    {
+        let (taken, others) = self.rest.split_at(count);
+        self.rest = others;
+        taken
+    }
+}
+
+fn spaces_length(bytes: &[u8]) -> usize
+    ensures bound { result ≤ length bytes.now }
+    ensures within { IsTrue (list_all is_space (take result bytes.now)) }
+    ensures stops { Stops is_space (drop result bytes.now) }
+{
+    for (i, byte) in bytes.iter().enumerate() {
+        if !matches!(*byte, b' ' | b'\t' | b'\n' | b'\r') {
+            return i;
+        }
+    }
+    bytes.len()
+}
