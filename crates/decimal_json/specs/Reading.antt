@@ -1,71 +1,107 @@
--- What a cursor gives of the bytes before it: the words of the private contracts, and of the laws.
-use Rattle.std.specs.Prelude.{◌≡◌, ℕ, List, [], ◌∷◌, Bool, Option, Some, None}
-use Rattle.decimal_json.specs.declared.cursor.Run.{Run}
-use Rattle.decimal_json.specs.declared.cursor.Run.TheVariants as runs
+-- The productions that the parts of the reader read: the words of the private contracts.
+use Rattle.std.specs.Prelude.{◌≡◌, ◌≢◌, ℕ, suc, List, [], ◌∷◌, ◌++◌, map, Bool, true, false, Option, Some, None, Result, Ok, Err, if◌then◌else◌, ◌==◌, ◌||◌, IsUtf8, String}
+use Rattle.std.specs.Global.{Global}
+use Rattle.std.specs.BTreeSet.{BTreeSet, contains_text}
+use Rattle.std.specs.Str.{bytes_eq}
+use Rattle.json_tokens.specs.declared.kind.JsonKind.{JsonKind}
+use Rattle.json_tokens.specs.declared.kind.JsonKind.TheVariants.{Syntax}
+use Rattle.json_tokens.specs.declared.halt.Halt.{Halt}
+use Rattle.json_tokens.specs.declared.halt.Halt.TheVariants.{Fault, NoMemory}
+use Rattle.json_tokens.specs.Rules.{Rules, all_rules, without}
+use Rattle.json_tokens.specs.Production.{Production, CanEnd, IsFault, IsTaken}
+use Rattle.json_tokens.specs.Sequence.{IsSkipped, Padded, Behind, InTurn, PaddedBy, BehindByte}
+use Rattle.json_tokens.specs.TextToken.{SpellsText, SpellsLong}
 use Rattle.decimal_json.specs.declared.tree.Json.{Json}
-use Rattle.decimal_json.specs.Tree.{Tree, number, text, Trees, no_trees, tree, trees_of}
-use Rattle.decimal_json.specs.Number.{is_number_byte}
-use Rattle.decimal_json.specs.Runs.{Stops}
-use Rattle.decimal_json.specs.JsonText.{is_space, is_plain, InSpaces, SpellsValue, SpellsItems}
+use Rattle.decimal_json.specs.declared.tree.Member.{Member}
+use Rattle.decimal_json.specs.Tree.{Tree, Trees, no_trees, tree, Fields, no_fields, field}
 use Rattle.decimal_json.specs.View.{tree_of}
+use Rattle.decimal_json.specs.Grammar.{SpellsKey, Pair, SpellsValue, SpellsItems, SpellsTail, SpellsMore, Spells}
+use Rattle.decimal_json.specs.Parses.{IsAccepted, IsViable}
 
--- the bytes of a run
-abbrev pub is_in : Run → ℕ → Bool
-is_in runs.Spaces = is_space
-is_in runs.NumberBytes = is_number_byte
-is_in runs.PlainBytes = is_plain
+-- the first byte passes the test
+abbrev pub FirstIs : (ℕ → Bool) → List ℕ → Type 0
+FirstIs test [] = ⊥
+FirstIs test (c ∷ b) = test c ≡ true
 
--- what follows a tree goes on none: a number ends before a byte that no number has
-abbrev pub Ends : Tree → List ℕ → Type 0
-Ends (number n) q = Stops is_number_byte q
-Ends _ q = Unit {0}
-
--- b is a text of the tree and then q, which does not go on the tree
-abbrev pub ReadsValue : ℕ → Tree → List ℕ → List ℕ → Type 0
-ReadsValue k t b q = SpellsValue k t b q × Ends t q
-
--- what reading a value at b answers, and q is left
-abbrev pub GivesValue : ℕ → List ℕ → Option Json → List ℕ → Type 0
-GivesValue k b (Some json) q = ReadsValue k (tree_of json) b q
-GivesValue k b None q = (t : Tree) (r : List ℕ) → ReadsValue k t b r → ⊥
-
--- what reading a number at b answers
-abbrev pub GivesNumber : List ℕ → Option Json → List ℕ → Type 0
-GivesNumber b (Some json) q = (n : List ℕ) × (tree_of json ≡ number n) × ReadsValue 0 (number n) b q
-GivesNumber b None q = (n r : List ℕ) → ReadsValue 0 (number n) b r → ⊥
-
--- what reading a text whose quotation mark is taken answers: b is what stands behind the mark
-abbrev pub GivesText : List ℕ → Option Json → List ℕ → Type 0
-GivesText b (Some json) q = (s : List ℕ) × (tree_of json ≡ text s) × SpellsValue 0 (text s) (34 ∷ b) q
-GivesText b None q = (s r : List ℕ) → SpellsValue 0 (text s) (34 ∷ b) r → ⊥
-
--- what reading a value with the white space round it answers
-abbrev pub GivesElement : ℕ → List ℕ → Option Json → List ℕ → Type 0
-GivesElement k b (Some json) q = InSpaces (ReadsValue k (tree_of json)) b q × Stops is_space q
-GivesElement k b None q = (t : Tree) (r : List ℕ) → InSpaces (ReadsValue k t) b r → ⊥
-
--- what reading the items of an array answers, its closing bracket included
-abbrev pub GivesItems : ℕ → List ℕ → Option (List Tree) → List ℕ → Type 0
-GivesItems k b (Some items) q = SpellsItems k (trees_of items) b q
-GivesItems k b None q = (ts : Trees) (r : List ℕ) → SpellsItems k ts b r → ⊥
+-- a literal name: the value says nothing
+abbrev pub SpellsWord : List ℕ → Production (Unit {0})
+SpellsWord word r v b q = b ≡ word ++ q
 
 -- the items of an array that has some
-abbrev pub SpellsSome : ℕ → Trees → List ℕ → List ℕ → Type 0
-SpellsSome k no_trees b q = ⊥
-SpellsSome k (tree t ts) b q = SpellsItems k (tree t ts) b q
+abbrev pub SpellsSome : ℕ → Production Trees
+SpellsSome k r no_trees b q = ⊥
+SpellsSome k r (tree t ts) b q = InTurn (SpellsValue k r t) (Padded (SpellsTail k r ts)) b q
 
--- what reading the items of an array that has some answers
-abbrev pub GivesSome : ℕ → List ℕ → Option (List Tree) → List ℕ → Type 0
-GivesSome k b (Some items) q = SpellsSome k (trees_of items) b q
-GivesSome k b None q = (ts : Trees) (r : List ℕ) → SpellsSome k ts b r → ⊥
+-- a member, behind these keys
+abbrev pub SpellsPair : ℕ → List (List ℕ) → Production (List ℕ × Tree)
+SpellsPair k taken r m b q = Pair taken r m.0 (SpellsValue k r m.1) b q
 
--- more trees behind a list of trees
+-- the members of an object that has some, behind these keys
+abbrev pub SpellsMembersOn : ℕ → List (List ℕ) → Production Fields
+SpellsMembersOn k taken r no_fields b q = ⊥
+SpellsMembersOn k taken r (field key t fs) b q = InTurn (Pair taken r key (SpellsValue k r t)) (Padded (SpellsMore k (taken ++ key ∷ []) r fs)) b q
+
+-- what stands behind a key: the colon and the value
+abbrev pub SpellsNamed : ℕ → Production Tree
+SpellsNamed k = PaddedBy (BehindByte 58 (PaddedBy (SpellsValue k)))
+
+-- more trees behind a list of trees, and more members behind a list of members
 abbrev pub followed_by : List Tree → Trees → Trees
 followed_by [] more = more
 followed_by (t ∷ ts) more = tree t (followed_by ts more)
 
--- From `start` these items are read, and `now` is left, where a further item has to stand: what is
--- spelled from `start` is these items and then what is spelled from `now`.
-pub record ItemsRead (k : ℕ) (start : List ℕ) (items : List Tree) (now : List ℕ) : Type 0 where
-  pub there : (more : Trees) (q : List ℕ) → SpellsSome k more now q → SpellsSome k (followed_by items more) start q
-  pub back : (ts : Trees) (q : List ℕ) → SpellsSome k ts start q → (more : Trees) × (ts ≡ followed_by items more) × SpellsSome k more now q
+abbrev pub joined_by : List (List ℕ × Tree) → Fields → Fields
+joined_by [] more = more
+joined_by (m ∷ ms) more = field m.0 m.1 (joined_by ms more)
+
+abbrev pub keys_of : List (List ℕ × Tree) → List (List ℕ)
+keys_of = map (λ m. m.0)
+
+-- what a reader of a text behind its opening mark answers: `GivesText`, case by case
+abbrev pub TakesText : List ℕ → List ℕ → List ℕ → Type 0
+TakesText s b left =
+    (front : List ℕ) × (b ≡ front ++ 34 ∷ left) × ((next : List ℕ) → IsTaken SpellsText s (front ++ 34 ∷ []) next) × ((least : ℕ) (r : Rules) → CanEnd (SpellsLong least) r front)
+
+abbrev pub FailsText : JsonKind → List ℕ → List ℕ → Type 0
+FailsText kind b left = (front : List ℕ) × (b ≡ front ++ left) × ((least : ℕ) → IsFault (SpellsLong least) kind front left)
+
+-- whether a key is one of these
+abbrev pub is_among : List ℕ → List (List ℕ) → Bool
+is_among key [] = false
+is_among key (k ∷ keys) = if bytes_eq k key then true else is_among key keys
+
+-- each of the keys is UTF-8
+abbrev pub AreUtf8 : List (List ℕ) → Type 0
+AreUtf8 [] = Unit {0}
+AreUtf8 (k ∷ keys) = IsUtf8 k × AreUtf8 keys
+
+-- the set has these keys and no others
+pub record AreNoted (noted : BTreeSet (String Global)) (keys : List (List ℕ)) : Type 0 where
+  pub has : (q : List ℕ) → contains_text noted q ≡ is_among q keys
+  pub utf8 : AreUtf8 keys
+
+abbrev pub pair_of : Member → List ℕ × Tree
+pair_of m = (m.key, tree_of m.value)
+
+-- what a reader of what stands behind an item or a member answers, where this byte closes the list: true
+-- behind that byte, false where the next one stands, and a fault where no mark of a list stands
+abbrev pub GivesTurn : ℕ → List ℕ → Result Bool JsonKind → List ℕ → Type 0
+GivesTurn close b (Ok true) left = IsSkipped b (close ∷ left)
+GivesTurn close b (Ok false) left = (c : List ℕ) × IsSkipped b (44 ∷ c) × IsSkipped c left
+GivesTurn close b (Err kind) left = (kind ≡ Syntax) × IsSkipped b left × ((c : ℕ) (x : List ℕ) → left ≡ c ∷ x → (c == 44 || c == close) ≡ false)
+
+-- what the byte behind the front of a fault tells, of the whole
+pub record IsWholeTurn (kind : JsonKind) (with_next : List ℕ) : Type 0 where
+  pub longest : IsViable all_rules with_next → ⊥
+  pub caused : kind ≢ Syntax → IsViable (without kind) with_next
+  pub only : (other : JsonKind) → other ≢ kind → IsViable (without other) with_next → ⊥
+
+abbrev pub IsWholeStop : JsonKind → List ℕ → List ℕ → Type 0
+IsWholeStop kind front [] = (kind ≡ Syntax) × (IsAccepted all_rules front → ⊥)
+IsWholeStop kind front (c ∷ left) = IsWholeTurn kind (front ++ c ∷ [])
+
+-- what a reader of the whole answers
+abbrev pub GivesWhole : List ℕ → Result Json Halt → List ℕ → Type 0
+GivesWhole b (Ok json) left = Spells all_rules b (tree_of json) × ((t : Tree) → Spells all_rules b t → t ≡ tree_of json)
+GivesWhole b (Err (Fault kind)) left = (front : List ℕ) × (b ≡ front ++ left) × IsViable all_rules front × IsWholeStop kind front left
+GivesWhole b (Err NoMemory) left = Unit {0}

@@ -1,10 +1,10 @@
 ghost use Rattle.std.specs.Prelude.{◌≡◌, IfOk};
 
-use crate::texts::{NumText, Text};
+use crate::texts::NumText;
 use crate::tree::{Items, Json, Members};
 use std::alloc::{AllocError, Global};
 
-/// A tree of its own that equals the tree.
+/// A tree of its own that equals the tree. The texts are shared with it.
 #[tactic(auto, using(crate::specs::Falls::item_falls, crate::specs::Falls::member_falls))]
 #[cycle(copy)]
 pub fn copy(alloc: Global, json: &Json) -> Result<Json, AllocError>
@@ -14,7 +14,7 @@ pub fn copy(alloc: Global, json: &Json) -> Result<Json, AllocError>
         Json::Null => Ok(Json::Null),
         Json::Bool(truth) => Ok(Json::Bool(*truth)),
         Json::Num(number) => Ok(Json::Num(NumText::copy_of(alloc, number.as_str())?)),
-        Json::Text(text) => Ok(Json::Text(Text::copy_of(alloc, text.as_str())?)),
+        Json::Text(text) => Ok(Json::Text(text.share()?)),
         Json::List(items) => Ok(Json::List(copy_items(alloc, items)?)),
         Json::Object(members) => Ok(Json::Object(copy_members(alloc, members)?)),
     }
@@ -39,7 +39,7 @@ fn copy_members(alloc: Global, members: &Members) -> Result<Members, AllocError>
 {
     let mut copies = Members::new(alloc);
     for member in members.as_slice() {
-        let key = Text::copy_of(alloc, member.key.as_str())?;
+        let key = member.key.share()?;
         copies.push(key, copy(alloc, &member.value)?)?;
     }
     Ok(copies)

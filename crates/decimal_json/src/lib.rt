@@ -11,28 +11,31 @@
 //! ```
 //!
 //! What is promised: `parse` gives a tree exactly where the bytes spell it by the grammar of
-//! `specs/JsonText.antt`, and no byte string spells two trees (`spells_one_tree`). For now the grammar
-//! has arrays, texts of plain ASCII and numbers without an exponent, and one fault, `Unbuilt` at 0.
-//! `write`, `write_text` and `write_path` append exactly the text that is defined there and in
-//! `specs/Place.antt`; after want of memory a prefix of it may have been appended.
+//! `specs/Grammar.antt`, which is RFC 8259 with five rules of `json_tokens`, and no byte string spells two
+//! trees. Where they spell none, the fault's place is the length of the longest front that begins an
+//! accepted text, and its kind the one rule that, dropped alone, lets that front and the next byte begin
+//! one; `specs/Parses.antt` says so. `write`, `write_text` and `write_path` append exactly the text that is
+//! defined in `specs/JsonText.antt` and `specs/Place.antt`; after want of memory a prefix of it may have
+//! been appended. The text of a tree that is sound, as `specs/Sound.antt` says it, spells that tree.
 #![tactic(auto)]
 
 mod copying;
-mod cursor;
 mod fault;
 mod laws;
-mod number;
 mod paths;
 mod reading;
+mod starts;
 #[cfg(test)]
 mod tests;
 mod texts;
+mod tokens;
 mod tree;
 mod writing;
 
 pub use copying::copy;
-pub use fault::{JsonFault, JsonKind};
-pub use laws::spells_one_tree;
+pub use fault::JsonFault;
+pub use json_tokens::JsonKind;
+pub use laws::{spells_one_tree, texts_have_one_fault, written_trees_are_spelled};
 pub use paths::{Here, Path, PathPart, path_to};
 pub use reading::parse;
 pub use texts::{Bytes, NumText, Text};

@@ -1,157 +1,275 @@
-ghost use Rattle.std.specs.Prelude.{◌≡◌, ◌≤◌, length, IfOk};
-ghost use Rattle.std.specs.Str.{IsAscii};
+ghost use Rattle.std.specs.Prelude.{◌≡◌, ◌≤◌, ◌<◌, ℕ, List, [], ◌∷◌, ◌++◌, Some, length, not, true, if◌then◌else◌, OnOk, IfOk};
+ghost use Rattle.std.specs.BTreeSet.{contains_text};
+ghost use Rattle.std.specs.Str.{bytes_eq};
+ghost use Rattle.json_tokens.specs.Production.{Gives, GivesSurely};
+ghost use Rattle.json_tokens.specs.Runs.{first_of};
+ghost use Rattle.json_tokens.specs.Sequence.{BehindByte};
+ghost use Rattle.decimal_json.specs.Grammar.{IsNew, SpellsKey, SpellsValue, SpellsItems, SpellsTail, SpellsMembers, SpellsMore};
 ghost use Rattle.decimal_json.specs.Parses.{Parses};
-ghost use Rattle.decimal_json.specs.Reading.{GivesValue, GivesElement, GivesItems, GivesSome, GivesNumber, GivesText};
+ghost use Rattle.decimal_json.specs.Reading.{AreNoted, GivesTurn, SpellsMembersOn, SpellsNamed, SpellsPair, SpellsSome, GivesWhole, pair_of};
+ghost use Rattle.decimal_json.specs.Tree.{no_trees, no_fields, trees_of, fields_of};
+ghost use Rattle.decimal_json.specs.View.{tree_of};
 
-use crate::cursor::{Cursor, Run};
-use crate::fault::{JsonFault, JsonKind};
-use crate::number::{is_number, is_without_exponent};
-use crate::texts::{NumText, Text};
-use crate::tree::{Items, Json};
+use crate::fault::JsonFault;
+use crate::starts::{Start, start_of};
+use crate::texts::Text;
+use crate::tokens::{read_number, read_string, read_text, read_word};
+use crate::tree::{Items, Json, Member, Members};
+use json_tokens::{Cursor, Halt, JsonKind};
 use std::alloc::{AllocError, Global};
+use std::collections::BTreeSet;
 
-/// How many arrays may be open at one place.
+/// How many arrays and objects may be open at one place.
 const MAX_OPEN: usize = 64;
 
-const UNBUILT: JsonFault = JsonFault {
-    kind: JsonKind::Unbuilt,
-    at: 0,
-};
-
-/// The tree that the bytes spell, where they spell one. A byte string that spells none is
-/// `Unbuilt` at 0 so far.
+/// The tree that the bytes spell; or, where they spell none, the fault's place and kind.
 pub fn parse(alloc: Global, bytes: &[u8]) -> Result<Result<Json, JsonFault>, AllocError>
     ensures { IfOk result (Parses bytes.now) }
 {
     let mut cursor = Cursor::new(bytes);
-    let Some(json) = read_element(alloc, &mut cursor, 0)? else {
-        return Ok(Err(UNBUILT));
+    match read_whole(alloc, &mut cursor) {
+        Ok(json) => Ok(Ok(json)),
+        Err(Halt::Fault(kind)) => Ok(Err(JsonFault {
+            kind,
+            at: bytes.len() - cursor.rest().len(),
+        })),
+        Err(Halt::NoMemory) => Err(AllocError),
+    }
+}
+
+// Reads a value with the white space round it, to the end.
+fn read_whole(alloc: Global, cursor: &mut Cursor<'_>) -> Result<Json, Halt>
+    ensures gives { GivesWhole cursor.old result cursor.new }
+    ensures shorter { length cursor.new ≤ length cursor.old }
+{
+    cursor.skip_spaces();
+    let json = match read_value(alloc, cursor, 0) {
+        Ok(json) => json,
+        Err(halt) => return Err(halt),
     };
-    if !cursor.is_at_end() {
-        return Ok(Err(UNBUILT));
+    cursor.skip_spaces();
+    match cursor.peek() {
+        None => Ok(json),
+        Some(_) => Err(Halt::Fault(JsonKind::Syntax)),
     }
-    Ok(Ok(json))
-}
-
-// Reads a value and the white space round it.
-#[cycle(read)]
-fn read_element(
-    alloc: Global,
-    cursor: &mut Cursor<'_>,
-    depth: usize,
-) -> Result<Option<Json>, AllocError>
-    requires { depth ≤ MAX_OPEN }
-    ensures gives { IfOk result (λ found. GivesElement depth cursor.old found cursor.new) }
-    ensures shorter { length cursor.new ≤ length cursor.old }
-{
-    cursor.take_run(Run::Spaces);
-    let value = read_value(alloc, cursor, depth)?;
-    cursor.take_run(Run::Spaces);
-    Ok(value)
 }
 
 #[cycle(read)]
-fn read_value(
-    alloc: Global,
-    cursor: &mut Cursor<'_>,
-    depth: usize,
-) -> Result<Option<Json>, AllocError>
+fn read_value(alloc: Global, cursor: &mut Cursor<'_>, depth: usize) -> Result<Json, Halt>
     requires { depth ≤ MAX_OPEN }
-    ensures gives { IfOk result (λ found. GivesValue depth cursor.old found cursor.new) }
+    ensures gives { Gives (SpellsValue depth) tree_of cursor.old result cursor.new }
     ensures shorter { length cursor.new ≤ length cursor.old }
 {
-    if cursor.take_if(b'[') {
-        if depth >= MAX_OPEN {
-            return Ok(None);
-        }
-        return match read_items(alloc, cursor, depth + 1)? {
-            Some(items) => Ok(Some(Json::List(items))),
-            None => Ok(None),
-        };
+    match start_of(cursor.peek()) {
+        Start::List => read_list(alloc, cursor, depth),
+        Start::Object => read_object(alloc, cursor, depth),
+        Start::Text => read_text(alloc, cursor),
+        Start::Number => read_number(alloc, cursor),
+        Start::True => read_word(cursor, "true", Json::Bool(true)),
+        Start::False => read_word(cursor, "false", Json::Bool(false)),
+        Start::Null => read_word(cursor, "null", Json::Null),
+        Start::Neither => Err(Halt::Fault(JsonKind::Syntax)),
     }
-    if cursor.take_if(b'"') {
-        return read_text(alloc, cursor);
+}
+
+#[cycle(read)]
+fn read_list(alloc: Global, cursor: &mut Cursor<'_>, depth: usize) -> Result<Json, Halt>
+    requires within { depth ≤ MAX_OPEN }
+    requires bracket { first_of cursor.old ≡ Some 91 }
+    ensures gives { Gives (SpellsValue depth) tree_of cursor.old result cursor.new }
+    ensures shorter { length cursor.new ≤ length cursor.old }
+{
+    if depth >= MAX_OPEN {
+        return Err(Halt::Fault(JsonKind::Depth));
     }
-    read_number(alloc, cursor)
+    cursor.take_front(1);
+    cursor.skip_spaces();
+    match read_items(alloc, cursor, depth + 1) {
+        Ok(items) => Ok(Json::List(items)),
+        Err(halt) => Err(halt),
+    }
 }
 
 // Reads the items of an array whose bracket is open, and the bracket that closes it.
 #[cycle(read)]
-fn read_items(
-    alloc: Global,
-    cursor: &mut Cursor<'_>,
-    depth: usize,
-) -> Result<Option<Items>, AllocError>
+fn read_items(alloc: Global, cursor: &mut Cursor<'_>, depth: usize) -> Result<Items, Halt>
     requires { depth ≤ MAX_OPEN }
-    ensures gives { IfOk result (λ found. GivesItems depth cursor.old found cursor.new) }
+    ensures gives { Gives (SpellsItems depth) trees_of cursor.old result cursor.new }
     ensures shorter { length cursor.new ≤ length cursor.old }
 {
-    cursor.take_run(Run::Spaces);
     if cursor.take_if(b']') {
-        return Ok(Some(Items::new(alloc)));
+        return Ok(Items::new(alloc));
     }
     read_elements(alloc, cursor, depth)
 }
 
 // Reads at least one item, and the bracket that closes the array.
 #[cycle(read)]
-fn read_elements(
-    alloc: Global,
-    cursor: &mut Cursor<'_>,
-    depth: usize,
-) -> Result<Option<Items>, AllocError>
+fn read_elements(alloc: Global, cursor: &mut Cursor<'_>, depth: usize) -> Result<Items, Halt>
     requires { depth ≤ MAX_OPEN }
-    ensures gives { IfOk result (λ found. GivesSome depth cursor.old found cursor.new) }
+    ensures gives { Gives (SpellsSome depth) trees_of cursor.old result cursor.new }
     ensures shorter { length cursor.new ≤ length cursor.old }
 {
     let mut items = Items::new(alloc);
     loop {
-        let Some(item) = read_element(alloc, cursor, depth)? else {
-            return Ok(None);
+        let item = match read_value(alloc, cursor, depth) {
+            Ok(item) => item,
+            Err(halt) => return Err(halt),
         };
         items.push(item)?;
-        if cursor.take_if(b']') {
-            return Ok(Some(items));
-        }
-        if !cursor.take_if(b',') {
-            return Ok(None);
+        match read_turn(cursor, b']') {
+            Ok(true) => return Ok(items),
+            Ok(false) => {}
+            Err(kind) => return Err(Halt::Fault(kind)),
         }
     }
 }
 
-// Reads the rest of a text whose quotation mark is taken.
-fn read_text(alloc: Global, cursor: &mut Cursor<'_>) -> Result<Option<Json>, AllocError>
-    ensures gives { IfOk result (λ found. GivesText cursor.old found cursor.new) }
+#[cycle(read)]
+fn read_object(alloc: Global, cursor: &mut Cursor<'_>, depth: usize) -> Result<Json, Halt>
+    requires within { depth ≤ MAX_OPEN }
+    requires brace { first_of cursor.old ≡ Some 123 }
+    ensures gives { Gives (SpellsValue depth) tree_of cursor.old result cursor.new }
     ensures shorter { length cursor.new ≤ length cursor.old }
 {
-    let bytes = cursor.take_run(Run::PlainBytes);
+    if depth >= MAX_OPEN {
+        return Err(Halt::Fault(JsonKind::Depth));
+    }
+    cursor.take_front(1);
+    cursor.skip_spaces();
+    match read_members(alloc, cursor, depth + 1) {
+        Ok(members) => Ok(Json::Object(members)),
+        Err(halt) => Err(halt),
+    }
+}
+
+// Reads the members of an object whose brace is open, and the brace that closes it.
+#[cycle(read)]
+fn read_members(alloc: Global, cursor: &mut Cursor<'_>, depth: usize) -> Result<Members, Halt>
+    requires { depth ≤ MAX_OPEN }
+    ensures gives { Gives (SpellsMembers depth) fields_of cursor.old result cursor.new }
+    ensures shorter { length cursor.new ≤ length cursor.old }
+{
+    if cursor.take_if(b'}') {
+        return Ok(Members::new(alloc));
+    }
+    read_pairs(alloc, cursor, depth)
+}
+
+// Reads at least one member, and the brace that closes the object.
+#[cycle(read)]
+fn read_pairs(alloc: Global, cursor: &mut Cursor<'_>, depth: usize) -> Result<Members, Halt>
+    requires { depth ≤ MAX_OPEN }
+    ensures gives { Gives (SpellsMembersOn depth []) fields_of cursor.old result cursor.new }
+    ensures shorter { length cursor.new ≤ length cursor.old }
+{
+    let mut members = Members::new(alloc);
+    let mut keys = BTreeSet::new(alloc);
+    loop {
+        let member = match read_pair(alloc, cursor, depth, &mut keys) {
+            Ok(member) => member,
+            Err(halt) => return Err(halt),
+        };
+        members.push(member.key, member.value)?;
+        match read_turn(cursor, b'}') {
+            Ok(true) => return Ok(members),
+            Ok(false) => {}
+            Err(kind) => return Err(Halt::Fault(kind)),
+        }
+    }
+}
+
+// Reads a member whose key is none of these, and notes its key.
+#[cycle(read)]
+fn read_pair(
+    alloc: Global,
+    cursor: &mut Cursor<'_>,
+    depth: usize,
+    keys: &mut BTreeSet<String>,
+) -> Result<Member, Halt>
+    requires { depth ≤ MAX_OPEN }
+    ensures gives { (taken : List (List ℕ)) → AreNoted keys.old taken → Gives (SpellsPair depth taken) pair_of cursor.old result cursor.new }
+    ensures noted { IfOk result (λ member. (taken : List (List ℕ)) → AreNoted keys.old taken → IsNew member.key taken × AreNoted keys.new (taken ++ member.key ∷ [])) }
+    ensures shorter { length cursor.new ≤ length cursor.old }
+{
+    let key = match read_key(alloc, cursor, keys) {
+        Ok(key) => key,
+        Err(halt) => return Err(halt),
+    };
+    match read_named(alloc, cursor, depth) {
+        Ok(value) => Ok(Member { key, value }),
+        Err(halt) => Err(halt),
+    }
+}
+
+// Reads the colon behind a key, and the value.
+#[cycle(read)]
+fn read_named(alloc: Global, cursor: &mut Cursor<'_>, depth: usize) -> Result<Json, Halt>
+    requires { depth ≤ MAX_OPEN }
+    ensures gives { Gives (SpellsNamed depth) tree_of cursor.old result cursor.new }
+    ensures shorter { length cursor.new ≤ length cursor.old }
+{
+    cursor.skip_spaces();
+    if !cursor.take_if(b':') {
+        return Err(Halt::Fault(JsonKind::Syntax));
+    }
+    cursor.skip_spaces();
+    read_value(alloc, cursor, depth)
+}
+
+// Reads a key that is none of these, its marks included, and notes it.
+fn read_key(
+    alloc: Global,
+    cursor: &mut Cursor<'_>,
+    keys: &mut BTreeSet<String>,
+) -> Result<Text, Halt>
+    ensures gives { (taken : List (List ℕ)) → AreNoted keys.old taken → Gives (BehindByte 34 (SpellsKey taken)) (λ key. key) cursor.old result cursor.new }
+    ensures noted { IfOk result (λ key. (taken : List (List ℕ)) → AreNoted keys.old taken → IsNew key taken × AreNoted keys.new (taken ++ key ∷ [])) }
+    ensures shorter { length cursor.new ≤ length cursor.old }
+{
     if !cursor.take_if(b'"') {
-        return Ok(None);
+        return Err(Halt::Fault(JsonKind::Syntax));
     }
-    Ok(Some(Json::Text(Text::copy_of(alloc, ascii_text(bytes))?)))
+    let start = cursor.rest();
+    let key = match read_string(alloc, cursor) {
+        Ok(key) => key,
+        Err(halt) => return Err(halt),
+    };
+    if !note_key(alloc, keys, key.as_str())? {
+        // The fault is at the mark that closes the key.
+        let taken = start.len() - cursor.rest().len();
+        *cursor = Cursor::new(start);
+        cursor.take_front(taken - 1);
+        return Err(Halt::Fault(JsonKind::DuplicateKey));
+    }
+    Ok(key)
 }
 
-fn read_number(alloc: Global, cursor: &mut Cursor<'_>) -> Result<Option<Json>, AllocError>
-    ensures gives { IfOk result (λ found. GivesNumber cursor.old found cursor.new) }
+// Notes a key, and tells whether it was not noted yet.
+fn note_key(alloc: Global, keys: &mut BTreeSet<String>, key: &str) -> Result<bool, AllocError>
+    ensures fresh { IfOk result (λ fresh. fresh ≡ not (contains_text keys.old key.now)) }
+    ensures noted { OnOk result ((q : List ℕ) → contains_text keys.new q ≡ (if bytes_eq key.now q then true else contains_text keys.old q)) }
+{
+    let name = String::from_str(alloc, key)?;
+    let Ok(fresh) = keys.insert(name) else {
+        return Err(AllocError);
+    };
+    Ok(fresh)
+}
+
+// Reads what stands behind an item or a member: true at the end, false where the next one stands.
+fn read_turn(cursor: &mut Cursor<'_>, close: u8) -> Result<bool, JsonKind>
+    ensures gives { GivesTurn close cursor.old result cursor.new }
+    ensures taken { IfOk result (λ _. length cursor.new < length cursor.old) }
     ensures shorter { length cursor.new ≤ length cursor.old }
 {
-    let bytes = cursor.take_run(Run::NumberBytes);
-    if !is_number(bytes) {
-        return Ok(None);
+    cursor.skip_spaces();
+    if cursor.take_if(close) {
+        return Ok(true);
     }
-    if !is_without_exponent(bytes) {
-        return Ok(None);
+    if !cursor.take_if(b',') {
+        return Err(JsonKind::Syntax);
     }
-    Ok(Some(Json::Num(NumText::copy_of(alloc, ascii_text(bytes))?)))
-}
-
-fn ascii_text(bytes: &[u8]) -> &str
-    requires { IsAscii bytes.now }
-    ensures { result.now ≡ bytes.now }
-{
-    // ASCII is UTF-8, so the second arm is never taken.
-    match std::str::from_utf8(bytes) {
-        Ok(text) => text,
-        Err(_) => "",
-    }
+    cursor.skip_spaces();
+    Ok(false)
 }

@@ -1,31 +1,58 @@
-ghost use Rattle.std.specs.Prelude.{◌≡◌, [], ◌∷◌, ◌++◌, IfOk, OnOk, OnErr, IsTrue};
-ghost use Rattle.decimal_json.specs.Number.{is_number};
+ghost use Rattle.std.specs.Prelude.{◌≡◌, [], ◌∷◌, ◌++◌, IfOk, OnOk, OnErr, IsTrue, string_bytes};
+ghost use Rattle.std.specs.Rc.{rc_str_bytes};
+ghost use Rattle.json_tokens.specs.Number.{is_number};
 
 use std::alloc::{AllocError, Global};
 use std::marker::Model;
+use std::rc::RcStr;
 
-/// A text, which clauses see as the list of its UTF-8 bytes.
+/// A text, which clauses see as the list of its UTF-8 bytes. Texts made by `share` have their bytes in common.
 #[derive(Drop)]
 pub struct Text {
-    text: String,
+    text: RcStr,
 }
 
 impl Model for Text {
-    ghost use Rattle.std.specs.Prelude.{ℕ, List, string_bytes};
+    ghost use Rattle.std.specs.Prelude.{ℕ, List};
+    ghost use Rattle.std.specs.Rc.{rc_str_bytes};
 
     ghost Value = { List ℕ };
 
-    ghost view = { λ a. string_bytes a.text };
+    ghost view = { λ a. rc_str_bytes a.text };
 }
 
 impl Text {
+    pub(crate) fn of(text: String) -> Result<Text, AllocError>
+        ensures { IfOk result (λ made. made ≡ string_bytes text) }
+    {
+        Ok(Text {
+            text: RcStr::from_string(text)?,
+        })
+    }
+
     /// A text of its own with the same bytes.
     pub fn copy_of(alloc: Global, text: &str) -> Result<Text, AllocError>
         ensures { IfOk result (λ copy. copy ≡ text.now) }
     {
         Ok(Text {
-            text: String::from_str(alloc, text)?,
+            text: RcStr::from_str(alloc, text)?,
         })
+    }
+
+    /// The same text, in constant time: no byte is copied.
+    pub fn share(&self) -> Result<Text, AllocError>
+        ensures { IfOk result (λ same. same ≡ self.now) }
+    {
+        Ok(Text {
+            text: self.share_str()?,
+        })
+    }
+
+    /// The same text as a shared text of std, for maps by texts. No byte is copied.
+    pub fn share_str(&self) -> Result<RcStr, AllocError>
+        ensures { IfOk result (λ same. rc_str_bytes same ≡ self.now) }
+    {
+        self.text.clone()
     }
 
     pub fn as_str(&self) -> &str
@@ -43,7 +70,7 @@ pub struct NumText {
 
 impl Model for NumText {
     ghost use Rattle.std.specs.Prelude.{ℕ, List, string_bytes, IsTrue};
-    ghost use Rattle.decimal_json.specs.Number.{is_number};
+    ghost use Rattle.json_tokens.specs.Number.{is_number};
 
     ghost Value = { List ℕ };
 

@@ -1,10 +1,15 @@
 -- What a run writes and how it ends, where nothing outside fails and memory suffices.
-use Rattle.std.specs.Prelude.{◌≡◌, ℕ, List, [], ◌∷◌, ◌++◌, codes, Bool, true, false, Option, Some, None, Ok, Err, ◌⊎◌}
+use Rattle.std.specs.Prelude.{◌≡◌, ℕ, List, [], ◌∷◌, ◌++◌, codes, decimal, Bool, true, false, Option, Some, None, Ok, Err, ◌⊎◌}
 use Rattle.fixed_num.specs.NumberText.{number_text}
 use Rattle.decimal_json.specs.Tree.{Tree}
-use Rattle.decimal_json.specs.JsonText.{Spells, text_json}
+use Rattle.json_tokens.specs.declared.kind.JsonKind.{JsonKind}
+use Rattle.json_tokens.specs.declared.kind.JsonKind.TheVariants as kinds
+use Rattle.json_tokens.specs.Rules.{all_rules}
+use Rattle.decimal_json.specs.Grammar.{Spells}
+use Rattle.decimal_json.specs.JsonText.{text_json}
+use Rattle.decimal_json.specs.Parses.{IsAccepted, IsPlace, IsKind}
 use Rattle.style_program.specs.declared.value.Value.{Value}
-use Rattle.style_program.specs.declared.value.Value.TheVariants.{Bool as Flag, Num, Text}
+use Rattle.style_program.specs.declared.value.Value.TheVariants.{Null, Bool as Flag, Num, Text}
 use Rattle.style_program.specs.declared.value.EvalFault.{EvalFault}
 use Rattle.style_program.specs.declared.value.EvalFault.TheVariants.{WrongType, Overflow}
 use Rattle.style_program.specs.declared.value.Want.TheVariants.{Any}
@@ -29,6 +34,7 @@ line text = text ++ 10 ∷ []
 
 -- a value is listed as its JSON
 abbrev pub listed_text : Value → List ℕ
+listed_text Null = codes "null"
 listed_text (Flag true) = codes "true"
 listed_text (Flag false) = codes "false"
 listed_text (Num z) = number_text z
@@ -50,7 +56,20 @@ abbrev pub value_outcome : Evaluated → Outcome
 value_outcome (Ok v) = said (line (listed_text v)) Fine
 value_outcome (Err fault) = said (line (codes "error " ++ fault_name fault)) Found
 
--- no text of the grammar, or no small expression
+-- the names of the kinds of a fault of JSON
+abbrev pub kind_name : JsonKind → List ℕ
+kind_name kinds.Syntax = codes "Syntax"
+kind_name kinds.Utf8 = codes "Utf8"
+kind_name kinds.DuplicateKey = codes "DuplicateKey"
+kind_name kinds.Depth = codes "Depth"
+kind_name kinds.NumberLength = codes "NumberLength"
+kind_name kinds.LoneSurrogate = codes "LoneSurrogate"
+
+-- no JSON text: the kind of the fault, and its place in bytes from the beginning
+abbrev pub no_json : JsonKind → ℕ → Outcome
+no_json kind at = told (codes "refused expr json " ++ (kind_name kind ++ (32 ∷ decimal at))) Refused
+
+-- no small expression
 abbrev pub unbuilt : Outcome
 unbuilt = told (codes "refused expr Unbuilt") Refused
 
@@ -67,11 +86,11 @@ help_text =
 abbrev pub version_text : List ℕ
 version_text = line (codes "pirgesh 0.1.0")
 
--- the outcome of an expression's text: it spells a tree, or none
+-- the outcome of an expression's text: it spells a tree, or it has the one fault of a text that spells none
 abbrev pub IsExpressionOutcome : List ℕ → Outcome → Type 0
 IsExpressionOutcome text o =
-    ((t : Tree) × Spells text t × (o ≡ expression_outcome (expression_of t)))
-    ⊎ (((t : Tree) → Spells text t → ⊥) × (o ≡ unbuilt))
+    ((t : Tree) × Spells all_rules text t × (o ≡ expression_outcome (expression_of t)))
+    ⊎ ((kind : JsonKind) × (at : ℕ) × (IsAccepted all_rules text → ⊥) × IsPlace text at × IsKind kind text at × (o ≡ no_json kind at))
 
 -- the outcome of what is asked for
 abbrev pub IsReply : words.Asked → Outcome → Type 0

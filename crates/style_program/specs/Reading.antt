@@ -4,7 +4,7 @@ use Rattle.std.specs.Str.{bytes_eq}
 use Rattle.decimal_json.specs.Tree.{Tree, null, boolean, number, text, list, object, Trees, no_trees, tree}
 use Rattle.fixed_num.specs.declared.decimal.NumFault.{NumFault}
 use Rattle.fixed_num.specs.Decimal.{read_text}
-use Rattle.style_program.specs.declared.value.Value.TheVariants.{Num, Text}
+use Rattle.style_program.specs.declared.value.Value.TheVariants.{Null, Bool as Flag, Num, Text}
 use Rattle.style_program.specs.declared.expression.Operator.{Operator}
 use Rattle.style_program.specs.declared.expression.Operator.TheVariants.{Add, Multiply, Subtract, Equal, Case}
 use Rattle.style_program.specs.Term.{Term, literal, node, terms_of}
@@ -44,11 +44,11 @@ abbrev pub count_of : Trees → ℕ
 count_of no_trees = 0
 count_of (tree t ts) = suc (count_of ts)
 
--- the small expression that a tree is: a number within the bound, a text, or a node
+-- the small expression that a tree is: null, a truth value, a number within the bound, a text, or a node
 abbrev mutual
   pub expression_of : Tree → Option Term
-  expression_of null = None
-  expression_of (boolean b) = None
+  expression_of null = Some (literal Null)
+  expression_of (boolean b) = Some (literal (Flag b))
   expression_of (number n) = number_literal (read_text n)
   expression_of (text t) = Some (literal (Text t))
   expression_of (list ts) = node_of_items ts

@@ -3,7 +3,7 @@ use Rattle.std.specs.Prelude.{◌≡◌, ℕ, ℤ, List, Bool, true, false, Resu
 use Rattle.std.specs.Ordering.{int_eq}
 use Rattle.std.specs.Cmp.Lexicographic.{pointwise}
 use Rattle.style_program.specs.declared.value.Value.{Value}
-use Rattle.style_program.specs.declared.value.Value.TheVariants.{Bool as Flag, Num, Text}
+use Rattle.style_program.specs.declared.value.Value.TheVariants.{Null, Bool as Flag, Num, Text}
 use Rattle.style_program.specs.declared.value.EvalFault.{EvalFault}
 use Rattle.style_program.specs.declared.value.EvalFault.TheVariants.{WrongType, Overflow}
 use Rattle.style_program.specs.declared.value.Want.{Want}
@@ -20,6 +20,7 @@ same_flag false false = true
 
 -- two values are equal where they are of one form with equal parts
 abbrev pub equal : Value → Value → Bool
+equal Null Null = true
 equal (Flag a) (Flag b) = same_flag a b
 equal (Num a) (Num b) = int_eq a b
 equal (Text a) (Text b) = pointwise nat_eq a b

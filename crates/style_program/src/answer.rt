@@ -3,7 +3,7 @@
 ghost use Rattle.std.specs.Prelude.{◌≡◌, ◌++◌, IfOk, OnOk};
 ghost use Rattle.std.specs.Option.{option_map};
 ghost use Rattle.fixed_num.specs.NumberText.{number_text};
-ghost use Rattle.style_program.specs.Outcome.{line, listed_text, fault_name, said, told, value_outcome, expression_outcome, unbuilt, IsExpressionOutcome, IsReply};
+ghost use Rattle.style_program.specs.Outcome.{line, listed_text, fault_name, said, told, value_outcome, expression_outcome, kind_name, no_json, unbuilt, IsExpressionOutcome, IsReply};
 ghost use Rattle.style_program.specs.TermView.{term_of};
 ghost use Rattle.style_program.specs.WordsView.{asked_by};
 ghost use Rattle.style_program.specs.AnswerView.{outcome_of};
@@ -14,8 +14,9 @@ use crate::reading::read;
 use crate::status::Ending;
 use crate::value::{EvalFault, Evaluated, Value, Want};
 use crate::words::Request;
-use decimal_json::{parse, write_text};
+use decimal_json::{JsonFault, JsonKind, parse, write_text};
 use fixed_num::Fixed;
+use itoa::Buffer;
 use std::alloc::{AllocError, Global};
 
 /// What is to be written, and how the run then ends.
@@ -54,10 +55,31 @@ fn answer_value(alloc: Global, text: &str) -> Result<Answer, AllocError>
             let expression = read(alloc, &json)?;
             answer_expression(alloc, expression)
         }
-        Err(_) => {
-            let answer = answer_told(alloc, b"refused expr Unbuilt", Ending::Refused)?;
-            Ok(answer)
-        }
+        Err(fault) => answer_no_json(alloc, fault),
+    }
+}
+
+fn answer_no_json(alloc: Global, fault: JsonFault) -> Result<Answer, AllocError>
+    ensures { IfOk result (λ answer. outcome_of answer ≡ no_json fault.kind fault.at) }
+{
+    let mut text = Vec::new(alloc);
+    text.extend_from_slice(b"refused expr json ")?;
+    text.extend_from_slice(kind_name(fault.kind))?;
+    text.push(b' ')?;
+    text.extend_from_slice(Buffer::new().format(fault.at).as_bytes())?;
+    answer_told(alloc, text.as_slice(), Ending::Refused)
+}
+
+fn kind_name(kind: JsonKind) -> &'static [u8]
+    ensures { result.now ≡ kind_name kind }
+{
+    match kind {
+        JsonKind::Syntax => b"Syntax",
+        JsonKind::Utf8 => b"Utf8",
+        JsonKind::DuplicateKey => b"DuplicateKey",
+        JsonKind::Depth => b"Depth",
+        JsonKind::NumberLength => b"NumberLength",
+        JsonKind::LoneSurrogate => b"LoneSurrogate",
     }
 }
 
@@ -97,6 +119,7 @@ fn push_listed(value: &Value, out: &mut Vec<u8>) -> Result<(), AllocError>
     ensures { OnOk result (out.new.items ≡ out.old.items ++ listed_text value.now) }
 {
     match value {
+        Value::Null => out.extend_from_slice(b"null"),
         Value::Bool(true) => out.extend_from_slice(b"true"),
         Value::Bool(false) => out.extend_from_slice(b"false"),
         Value::Num(number) => push_number(*number, out),

@@ -52,13 +52,15 @@ pub fn read(alloc: Global, json: &Json) -> Result<Option<Expr>, AllocError>
     ensures { IfOk result (λ read. option_map term_of read ≡ expression_of (tree_of json.now)) }
 {
     match json {
+        Json::Null => Ok(Some(Expr::Literal(Value::Null))),
+        Json::Bool(flag) => Ok(Some(Expr::Literal(Value::Bool(*flag)))),
         Json::Num(number) => Ok(literal(read_decimal(number.as_str().as_bytes()))),
         Json::Text(text) => {
             let text = Text::copy_of(alloc, text.as_str())?;
             Ok(Some(Expr::Literal(Value::Text(text))))
         }
         Json::List(items) => read_node(alloc, items.as_slice()),
-        Json::Null | Json::Bool(_) | Json::Object(_) => Ok(None),
+        Json::Object(_) => Ok(None),
     }
 }
 

@@ -136,6 +136,11 @@ fn values(rt: HostRuntime) -> Result<(), Fail> {
         (" [\t\"+\" ,\n1 , 2\r] ", "3\n", Status::Fine),
         ("\"a b\"", "\"a b\"\n", Status::Fine),
         ("-0", "0\n", Status::Fine),
+        ("null", "null\n", Status::Fine),
+        ("[\"==\",[\"==\",1,2],false]", "true\n", Status::Fine),
+        ("[\"case\",false,1,null]", "null\n", Status::Fine),
+        ("1.5e2", "150\n", Status::Fine),
+        ("\"\\u00e9\\n\"", "\"é\\n\"\n", Status::Fine),
     ];
     for (expression, wanted, status) in rows {
         let mut out = SinkInMemory::new(alloc, AMPLE, &[])?;
@@ -164,13 +169,7 @@ fn refused(rt: HostRuntime) -> Result<(), Fail> {
         "[[\"+\"],2]",
         "[\"+\",[\"/\",1,2]]",
         "[\"+\",100000000000000000000.000001,0]",
-        "[1,2",
-        "",
-        "1e5",
-        "true",
-        "null",
         "{}",
-        "1 2",
     ];
     for expression in expressions {
         let mut out = SinkInMemory::new(alloc, AMPLE, &[])?;
@@ -183,6 +182,28 @@ fn refused(rt: HostRuntime) -> Result<(), Fail> {
             b"refused expr Unbuilt\n".as_slice(),
             "at {expression}"
         );
+    }
+    Ok(())
+}
+
+// Texts that are no JSON: the kind of the fault and its place.
+#[test]
+fn no_json(rt: HostRuntime) -> Result<(), Fail> {
+    let alloc = rt.alloc();
+    let rows = [
+        ("[1,2", "refused expr json Syntax 4\n"),
+        ("", "refused expr json Syntax 0\n"),
+        ("1 2", "refused expr json Syntax 2\n"),
+        ("{\"a\":1,\"a\":2}", "refused expr json DuplicateKey 9\n"),
+        ("\"\\ud800x\"", "refused expr json LoneSurrogate 7\n"),
+    ];
+    for (text, wanted) in rows {
+        let mut out = SinkInMemory::new(alloc, AMPLE, &[])?;
+        let mut err = SinkInMemory::new(alloc, AMPLE, &[])?;
+        let ended = run(alloc, &["value", text], &mut out, &mut err)?;
+        assert_eq!(rt; ended, Status::Refused, "at {text}");
+        assert_eq!(rt; out.bytes(), b"".as_slice(), "at {text}");
+        assert_eq!(rt; err.bytes(), wanted.as_bytes(), "at {text}");
     }
     Ok(())
 }

@@ -10,6 +10,7 @@ use std::alloc::{AllocError, Global};
 /// A value.
 #[derive(Drop)]
 pub enum Value {
+    Null,
     Bool(bool),
     Num(Fixed),
     Text(Text),
@@ -40,6 +41,7 @@ pub fn copy(alloc: Global, value: &Value) -> Result<Value, AllocError>
     ensures { IfOk result (λ copied. copied ≡ value.now) }
 {
     match value {
+        Value::Null => Ok(Value::Null),
         Value::Bool(flag) => Ok(Value::Bool(*flag)),
         Value::Num(number) => Ok(Value::Num(*number)),
         Value::Text(text) => Ok(Value::Text(Text::copy_of(alloc, text.as_str())?)),
@@ -51,6 +53,7 @@ pub fn equals(a: &Value, b: &Value) -> bool
     ensures { result ≡ equal a.now b.now }
 {
     match (a, b) {
+        (Value::Null, Value::Null) => true,
         (Value::Bool(a), Value::Bool(b)) => *a == *b,
         (Value::Num(a), Value::Num(b)) => *a == *b,
         (Value::Text(a), Value::Text(b)) => a.as_str() == b.as_str(),

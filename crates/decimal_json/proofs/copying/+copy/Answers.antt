@@ -1,4 +1,4 @@
-use Rattle.std.proofs.Common.{◌≡◌, ◌∙◌, subst, sym}
+use Rattle.std.proofs.Common.{◌≡◌, subst, sym}
 use Rattle.decimal_json.specs.Tree.{HasDistinctKeys}
 use Rattle.decimal_json.specs.View.{members_view}
 use Rattle.decimal_json.proofs.Keys.{lacks_before}
@@ -10,5 +10,5 @@ copy_members-push-requires t c =
     let m = c.member-item.result in
     let d : HasDistinctKeys (members_view items) = subst HasDistinctKeys (sym c.as_slice-member-items.ensures.members) c.as_slice-member-items.ensures.distinct in
     let h = lacks_before items c.loop-member.member-index m d c.loop-member-test.true c.member-item.is in
-    let k : c.in_ok-key.key ≡ m.key = c.in_ok-key.ensures ∙ c.as_str.ensures in
+    let k : c.in_ok-key.key ≡ m.key = c.in_ok-key.ensures in
     rw (c.loop-member.invariant, k) h
