@@ -1,6 +1,6 @@
 -- The text of a number is ASCII.
-use Rattle.std.proofs.Common.{◌≡◌, ℕ, zero, suc, ◌+◌, ◌*◌, ◌/◌, ◌%◌, ◌^◌, ◌<◌, ◌≤◌, List, [], ◌∷◌, ◌++◌, length, refl, arith}
-use Rattle.std.specs.Prelude.{ℤ, pos, negsuc, unsigned_abs, nat_eq, ◌&&◌, if◌then◌else◌, decimal}
+use Rattle.std.proofs.Common.{ℕ, zero, suc, ◌+◌, ◌/◌, ◌%◌, ◌^◌, ◌<◌, ◌≤◌, List, [], ◌∷◌, length, arith}
+use Rattle.std.specs.Prelude.{ℤ, pos, negsuc, unsigned_abs, nat_eq, ◌&&◌, decimal}
 use Rattle.std.specs.Str.{IsAscii}
 use Rattle.std.proofs.lemmas.Bool.{cond_both}
 use Rattle.std.proofs.lemmas.Fmt.{IsAscii-decimal_wide}

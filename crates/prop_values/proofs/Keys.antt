@@ -27,3 +27,14 @@ pub lacks_before : (es : List Entry) (i : ℕ) (e : Entry) → HasDistinctKeys (
 lacks_before [] i e h k p = absurd (omega arith)
 lacks_before (x ∷ es) zero e h k p = tt
 lacks_before (x ∷ es) (suc i) e h k p = (lacks_at x.key es i e h.0 (omega arith) p, lacks_before es i e h.1 (omega arith) p)
+
+lacks-take : (key : List ℕ) (n : ℕ) (ps : List (List ℕ × Data)) → LacksKey key ps → LacksKey key (take n ps)
+lacks-take key zero ps h = tt
+lacks-take key (suc n) [] h = tt
+lacks-take key (suc n) (p ∷ ps) h = (h.0, lacks-take key n ps h.1)
+
+-- The keys of the first entries differ.
+pub distinct-take : (n : ℕ) (ps : List (List ℕ × Data)) → HasDistinctKeys ps → HasDistinctKeys (take n ps)
+distinct-take zero ps h = tt
+distinct-take (suc n) [] h = tt
+distinct-take (suc n) (p ∷ ps) h = (lacks-take p.0 n ps h.0, distinct-take n ps h.1)

@@ -1,5 +1,5 @@
 -- Lists of different lengths are not equal.
-use Rattle.std.proofs.Common.{◌≡◌, ◌≢◌, List, [], ◌∷◌, length, false, Bool, ◌&&◌, refl, ap, suc}
+use Rattle.std.proofs.Common.{◌≡◌, ◌≢◌, List, [], ◌∷◌, length, false, refl, ap, suc}
 use Rattle.std.proofs.lemmas.Bool.{and_right}
 use Rattle.prop_values.specs.declared.value.Value.{Value}
 use Rattle.prop_values.specs.View.{items, data_of}

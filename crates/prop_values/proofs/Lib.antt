@@ -1,7 +1,11 @@
 pub mod Keys
+pub mod SharedKeys
 pub mod IndexSteps
-pub mod Lengths
 pub mod JsonKeys
+pub mod Removing
+pub mod Replacing
+pub mod Merging
+pub mod Lengths
 pub mod JsonSteps
 pub mod Ascii
 pub mod Quoted

@@ -1,6 +1,6 @@
 -- The JSON string of a UTF-8 text is UTF-8.
 use Rattle.std.proofs.Common.{◌≡◌, ℕ, zero, suc, ◌+◌, ◌/◌, ◌%◌, ◌<◌, ◌≤◌, List, [], ◌∷◌, ◌++◌, refl, ap, sym, ◌∙◌, subst, arith, inl, inr}
-use Rattle.std.specs.Prelude.{Bool, true, false, nat_lt, ◌&&◌, flat_map}
+use Rattle.std.specs.Prelude.{Bool, true, nat_lt, ◌&&◌, flat_map}
 use Rattle.std.specs.Str.{IsUtf8, IsAscii}
 use Rattle.std.proofs.Math.Utf8.{encode, encodes, scalar, scalars}
 use Rattle.std.proofs.lemmas.Bool.{cond_both, and_parts, cond-true, lt-ltb, ltb-true, cases_lt, cases_eq}

@@ -1,5 +1,5 @@
 -- The sets of texts that a style property may be one of.
-use Rattle.std.specs.Prelude.{ℕ, List, [], ◌∷◌, ◌++◌, Bool, codes}
+use Rattle.std.specs.Prelude.{ℕ, List, [], ◌∷◌, Bool, codes}
 use Rattle.std.specs.List.{list_any}
 use Rattle.prop_values.specs.Equality.{same_text}
 use Rattle.prop_values.specs.declared.choice.Choice.{Choice}

@@ -1,5 +1,5 @@
 -- When two values are equal.
-use Rattle.std.specs.Prelude.{ℕ, List, [], ◌∷◌, Bool, true, false, ◌&&◌, nat_eq, Option, Some, None, option_map, unwrap_or, is_some, if◌then◌else◌}
+use Rattle.std.specs.Prelude.{ℕ, List, Bool, true, false, ◌&&◌, nat_eq, Option, Some, None, option_map, unwrap_or, is_some, if◌then◌else◌}
 use Rattle.std.specs.Ordering.{int_eq}
 use Rattle.std.specs.Cmp.Lexicographic.{pointwise}
 use Rattle.fixed_num.specs.declared.color.Color.{Color}

@@ -1,5 +1,5 @@
 -- What the form of a value decides: its order, the text of its kind, and its truth.
-use Rattle.std.specs.Prelude.{ℕ, ℤ, pos, List, [], ◌∷◌, Bool, true, false, not, codes, Option, Some, None}
+use Rattle.std.specs.Prelude.{ℕ, pos, List, [], ◌∷◌, Bool, true, false, not, codes, Option, Some, None}
 use Rattle.std.specs.declared.cmp.Ordering.{Ordering}
 use Rattle.std.specs.Ordering.{nat_cmp, int_cmp, int_eq}
 use Rattle.std.specs.Cmp.Lexicographic.{slice_cmp}

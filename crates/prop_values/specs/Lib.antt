@@ -6,6 +6,9 @@ pub mod Faults
 pub mod Equality
 pub mod Keys
 pub mod Places
+pub mod Changes
+pub mod ChangeLaws
+pub mod MergeSteps
 pub mod Choices
 pub mod Forms
 pub mod ColorText

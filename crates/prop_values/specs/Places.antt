@@ -1,14 +1,21 @@
 -- The index of a map's keys: of each entry but the first few, where it stands.
-use Rattle.std.specs.Prelude.{◌≡◌, ℕ, ◌+◌, List, [], ◌∷◌, drop, Option, Some, None, if◌then◌else◌}
-use Rattle.std.specs.BTreeMap.{BTreeMap, get_by_text}
-use Rattle.std.specs.declared.string.String.{String}
+use Rattle.std.specs.Prelude.{◌≡◌, ℕ, ◌+◌, ◌-◌, List, [], ◌∷◌, drop, Option, Some, None, nat_lt, if◌then◌else◌}
+use Rattle.std.specs.BTreeMap.{BTreeMap, get_by}
+use Rattle.std.specs.Ordering.{nat_cmp}
+use Rattle.std.specs.Cmp.Lexicographic.{slice_cmp}
+use Rattle.std.specs.Rc.{rc_str_bytes}
+use Rattle.std.specs.declared.rc.RcStr.{RcStr}
 use Rattle.std.specs.declared.alloc.Global.{Global}
 use Rattle.prop_values.specs.Data.{Data}
 use Rattle.prop_values.specs.Equality.{same_text}
 
 -- the index as contracts see it
 abbrev pub Places : Type 0
-Places = BTreeMap (String Global) ℕ
+Places = BTreeMap (RcStr Global) ℕ
+
+-- the place that the index has for a key
+abbrev pub noted : Places → List ℕ → Option ℕ
+noted places key = get_by (λ k. slice_cmp nat_cmp key (rc_str_bytes k)) places
 
 -- where a key stands, counted from i
 abbrev pub place_from : ℕ → List ℕ → List (List ℕ × Data) → Option ℕ
@@ -17,4 +24,8 @@ place_from i key (p ∷ ps) = if same_text p.0 key then Some i else place_from (
 
 -- Each key behind the first 16 entries is in the index, with its place, and no other is.
 abbrev pub IsIndexed : Places → List (List ℕ × Data) → Type 0
-IsIndexed places ps = (q : List ℕ) → get_by_text places q ≡ place_from 16 q (drop 16 ps)
+IsIndexed places ps = (q : List ℕ) → noted places q ≡ place_from 16 q (drop 16 ps)
+
+-- the place of an entry once the one at a place is gone
+abbrev pub lowered : ℕ → ℕ → ℕ
+lowered gone place = if nat_lt gone place then place - 1 else place

@@ -6,11 +6,11 @@ ghost use Rattle.prop_values.specs.JsonData.{read_by, json_data, trees_data, fie
 ghost use Rattle.prop_values.specs.View.{data_of};
 
 use crate::value::{Entries, Value, Values};
-use decimal_json::{Items, Json, Members, Text};
+use decimal_json::{Items, Json, Members};
 use fixed_num::{NumFault, read_decimal};
 use std::alloc::{AllocError, Global};
 
-/// A value of its own that is the same.
+/// A value of its own that is the same. The texts are shared with it.
 #[tactic(auto, using(crate::specs::Falls::value_falls, crate::specs::Falls::entry_falls))]
 #[cycle(copy)]
 pub fn copy(alloc: Global, value: &Value) -> Result<Value, AllocError>
@@ -20,7 +20,7 @@ pub fn copy(alloc: Global, value: &Value) -> Result<Value, AllocError>
         Value::Null => Ok(Value::Null),
         Value::Bool(flag) => Ok(Value::Bool(*flag)),
         Value::Num(number) => Ok(Value::Num(*number)),
-        Value::Text(text) => Ok(Value::Text(Text::copy_of(alloc, text.as_str())?)),
+        Value::Text(text) => Ok(Value::Text(text.share()?)),
         Value::Color(color) => Ok(Value::Color(*color)),
         Value::List(values) => Ok(Value::List(copy_values(alloc, values)?)),
         Value::Map(entries) => Ok(Value::Map(copy_entries(alloc, entries)?)),
@@ -46,7 +46,7 @@ fn copy_entries(alloc: Global, entries: &Entries) -> Result<Entries, AllocError>
 {
     let mut copies = Entries::new(alloc);
     for entry in entries.as_slice() {
-        let key = Text::copy_of(alloc, entry.key.as_str())?;
+        let key = entry.key.share()?;
         copies.push(key, copy(alloc, &entry.value)?)?;
     }
     Ok(copies)
@@ -66,7 +66,7 @@ pub fn from_json(alloc: Global, json: &Json) -> Result<Result<Value, NumFault>, 
             Ok(number) => Ok(Ok(Value::Num(number))),
             Err(past) => Ok(Err(past)),
         },
-        Json::Text(text) => Ok(Ok(Value::Text(Text::copy_of(alloc, text.as_str())?))),
+        Json::Text(text) => Ok(Ok(Value::Text(text.share()?))),
         Json::List(items) => match values_from(alloc, items)? {
             Ok(values) => Ok(Ok(Value::List(values))),
             Err(fault) => Ok(Err(fault)),
@@ -102,7 +102,7 @@ fn entries_from(alloc: Global, members: &Members) -> Result<Result<Entries, NumF
     for member in members.as_slice() {
         match from_json(alloc, &member.value)? {
             Ok(value) => {
-                let key = Text::copy_of(alloc, member.key.as_str())?;
+                let key = member.key.share()?;
                 entries.push(key, value)?;
             }
             Err(fault) => return Ok(Err(fault)),

@@ -4,6 +4,8 @@
 //! let mut entries = Entries::new(alloc);
 //! entries.push(Text::copy_of(alloc, "kind")?, Value::Bool(true))?;
 //! entries.get("kind");                                    // Some(Value::Bool(true))
+//! entries.set(Text::copy_of(alloc, "width")?, Value::Null)?;
+//! entries.remove("width");
 //! to_text(alloc, &Value::Map(entries))?.as_str();         // {"kind":true}
 //! ```
 //!
@@ -11,6 +13,10 @@
 //! are those of the definitions in `specs/`; a copy is the same value; a JSON tree gives the value that it
 //! says, or the fault of its first number past the bound. A map's keys differ, and its `get` takes time by
 //! the logarithm of its entries, so `equals` takes n log n and no memory.
+//!
+//! Maps change at their keys: `set` and `merge` replace a value in its place or add an entry at the end, and
+//! after want of memory the map is as before. `merge` takes n log n of the members; `remove` takes no memory,
+//! and time linear in the entries. `specs/ChangeLaws.antt` says what stands at each key then.
 //!
 //! Contracts see a value through `data_of`, a list as a list of data, and a map as a list of pairs of a key
 //! and data (`specs/Data.antt`, `specs/View.antt`). `specs/Falls.antt` has the lemmas by which a recursion

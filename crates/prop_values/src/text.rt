@@ -46,7 +46,7 @@ pub fn to_text(alloc: Global, value: &Value) -> Result<Text, AllocError>
     let mut text = String::new(alloc);
     match value {
         Value::Null => {}
-        Value::Text(shown) => return Text::copy_of(alloc, shown.as_str()),
+        Value::Text(shown) => return shown.share(),
         Value::Color(color) => append_color(color, &mut text)?,
         _ => append_json(alloc, value, &mut text)?,
     }

@@ -1,11 +1,14 @@
-ghost use Rattle.std.specs.Prelude.{◌≡◌, ◌↔◌, [], ◌∷◌, ◌++◌, drop, OnOk, OnErr, IsNone, option_map};
-ghost use Rattle.std.specs.BTreeMap.{get_by_text};
+ghost use Rattle.std.specs.Prelude.{◌≡◌, ◌↔◌, ◌<◌, ◌-◌, ℕ, List, [], ◌∷◌, ◌++◌, length, take, remove, slice_set, slice_index_or, OnOk, OnErr, Some, None, IsNone, option_map, if◌then◌else◌};
+ghost use Rattle.std.specs.Option.{option_or};
+ghost use Rattle.prop_values.specs.Changes.{with_member, merged, without_key};
 ghost use Rattle.prop_values.specs.Data.{HasDistinctKeys, LacksKey, pairs_of};
-ghost use Rattle.prop_values.specs.Equality.{at_key};
-ghost use Rattle.prop_values.specs.Places.{place_from};
-ghost use Rattle.prop_values.specs.View.{data_of, values_view, entries_view, pairs};
+ghost use Rattle.prop_values.specs.Equality.{same_text, at_key};
+ghost use Rattle.prop_values.specs.MergeSteps.{with_key, with_keys, replaced, all_replaced};
+ghost use Rattle.prop_values.specs.Places.{IsIndexed, place_from};
+ghost use Rattle.prop_values.specs.View.{data_of, values_view, entries_view};
+ghost use Rattle.prop_values.specs.declared.value.Entry.{Entry};
 
-use crate::places::{FIRST, Places, note_place, noted_place};
+use crate::places::{FIRST, Places, forget_place, note_place, noted_place};
 use decimal_json::Text;
 use fixed_num::{Color, Fixed};
 use std::alloc::{AllocError, Global};
@@ -142,12 +145,7 @@ impl Entries {
         }
         // With room for the entry nothing can fail once its place is noted.
         self.entries.reserve(1)?;
-        note_place(
-            *self.entries.allocator(),
-            &mut self.places,
-            key.as_str(),
-            place,
-        )?;
+        note_place(&mut self.places, &key, place)?;
         self.entries.push(Entry { key, value })?;
         Ok(())
     }
@@ -160,42 +158,183 @@ impl Entries {
     }
 
     /// The value at a key, or `None` exactly where no entry has the key.
-    #[tactic(auto, using(crate::specs::Keys::none_at_lacking, crate::specs::Keys::lacking_from_none))]
+    #[tactic(auto, using(crate::specs::Keys::none_at_lacking, crate::specs::Keys::lacking_from_none, crate::proofs::IndexSteps::place_none))]
     pub fn get(&self, key: &str) -> Option<&Value>
         ensures value { option_map (λ v. data_of v.now) result ≡ at_key key.now (pairs_of self.now) }
         ensures none { IsNone result ↔ LacksKey key.now self.now }
     {
+        match self.place_of(key) {
+            None => None,
+            Some(place) => Some(&self.entries[place].value),
+        }
+    }
+
+    /// Sets the value at a key: in place of the one that is there, or in a new entry at the end.
+    pub fn set(&mut self, key: Text, value: Value) -> Result<(), AllocError>
+        ensures ok { OnOk result (self.new ≡ with_member key (data_of value) self.old) }
+        ensures at { OnOk result ((q : List ℕ) → at_key q (pairs_of self.new) ≡ (if same_text key q then Some (data_of value) else at_key q (pairs_of self.old))) }
+        ensures err { OnErr result (self.new ≡ self.old) }
+    {
+        match self.get(key.as_str()) {
+            None => self.push(key, value),
+            Some(_) => {
+                self.replace(key.as_str(), value);
+                Ok(())
+            }
+        }
+    }
+
+    /// Sets each of the members in their order, or none where memory lacks.
+    pub fn merge(&mut self, members: Entries) -> Result<(), AllocError>
+        ensures ok { OnOk result (self.new ≡ merged self.old members) }
+        ensures at { OnOk result ((q : List ℕ) → at_key q (pairs_of self.new) ≡ option_or (at_key q (pairs_of members)) (at_key q (pairs_of self.old))) }
+        ensures err { OnErr result (self.new ≡ self.old) }
+    {
+        let given = members.as_slice();
+        if self.entries.is_empty() {
+            *self = members;
+            return Ok(());
+        }
+        // Only new keys need memory: once they are all there, the values take their places.
+        let count = self.entries.len();
+        match self.add_keys(given) {
+            Err(error) => {
+                self.truncate(count);
+                Err(error)
+            }
+            Ok(()) => {
+                self.replace_all(members);
+                Ok(())
+            }
+        }
+    }
+
+    /// Removes the entry of a key, in time linear in the entries. Where no entry has the key, nothing
+    /// changes.
+    pub fn remove(&mut self, key: &str)
+        ensures left { self.new ≡ without_key key.now self.old }
+        ensures at { (q : List ℕ) → at_key q (pairs_of self.new) ≡ (if same_text key.now q then None else at_key q (pairs_of self.old)) }
+    {
+        let Some(place) = self.place_of(key) else {
+            return;
+        };
+        forget_entry(self.entries.as_slice(), &mut self.places, place);
+        take_out(&mut self.entries, place);
+    }
+
+    // Where the entry of a key stands.
+    fn place_of(&self, key: &str) -> Option<usize>
+        ensures { result ≡ place_from 0 key.now self.now }
+    {
         let entries = self.entries.as_slice();
         if entries.len() <= FIRST {
-            return value_at(entries, key);
+            return place_in(entries, key);
         }
-        match value_at(&entries[..FIRST], key) {
-            Some(value) => Some(value),
-            None => placed_at(entries, &self.places, key),
+        match place_in(&entries[..FIRST], key) {
+            Some(place) => Some(place),
+            None => noted_place(&self.places, key),
+        }
+    }
+
+    // Replaces the value at a key that is there.
+    fn replace(&mut self, key: &str, value: Value)
+        ensures { self.new ≡ replaced key.now (data_of value) self.old }
+    {
+        if let Some(place) = self.place_of(key) {
+            put_value(&mut self.entries, place, value);
+        }
+    }
+
+    fn replace_all(&mut self, members: Entries)
+        ensures { self.new ≡ all_replaced self.old members }
+    {
+        let Entries { entries, places: _ } = members;
+        for entry in entries {
+            let Entry { key, value } = entry;
+            self.replace(key.as_str(), value);
+        }
+    }
+
+    // Adds each key that is not there, with null.
+    #[tactic(auto, using(crate::proofs::Merging::first_added))]
+    fn add_keys(&mut self, members: &[Entry]) -> Result<(), AllocError>
+        ensures ok { OnOk result (self.new ≡ with_keys self.old (entries_view members.now)) }
+        ensures first { take (length self.old) self.new ≡ self.old }
+    {
+        for entry in members {
+            self.add_key(entry.key.as_str())?;
+        }
+        Ok(())
+    }
+
+    fn add_key(&mut self, key: &str) -> Result<(), AllocError>
+        ensures ok { OnOk result (self.new ≡ with_key key.now self.old) }
+        ensures err { OnErr result (self.new ≡ self.old) }
+    {
+        if self.get(key).is_none() {
+            let key = Text::copy_of(*self.entries.allocator(), key)?;
+            self.push(key, Value::Null)?;
+        }
+        Ok(())
+    }
+
+    // Keeps the first entries alone.
+    fn truncate(&mut self, count: usize)
+        ensures { self.new ≡ take count self.old }
+    {
+        while self.entries.len() > count {
+            self.pop();
+        }
+    }
+
+    fn pop(&mut self)
+        ensures { self.new ≡ take (length self.old - 1) self.old }
+    {
+        let count = self.entries.len();
+        if count > 0 {
+            let _ = self.places.remove(self.entries[count - 1].key.as_str());
+            self.entries.truncate(count - 1);
         }
     }
 }
 
-// The value at a key that stands behind the first entries, by the index.
-#[tactic(auto, using(crate::proofs::IndexSteps::place_none))]
-fn placed_at<'a>(entries: &'a [Entry], places: &Places, key: &str) -> Option<&'a Value>
-    requires { get_by_text places.now key.now ≡ place_from 16 key.now (drop 16 (entries_view entries.now)) }
-    ensures { option_map (λ v. data_of v.now) result ≡ at_key key.now (pairs_of (drop 16 (entries_view entries.now))) }
+// Sets the value of an entry.
+fn put_value(entries: &mut Vec<Entry>, place: usize, value: Value)
+    requires { place < length entries.old.items }
+    ensures { (e : Entry) → entries.new.items ≡ slice_set entries.old.items place (record (slice_index_or entries.old.items place e) { value = value }) }
 {
-    match noted_place(places, key) {
-        None => None,
-        Some(place) => Some(&entries[place].value),
+    entries[place].value = value;
+}
+
+// Turns the index of entries into that of the others, before one is taken out.
+fn forget_entry(entries: &[Entry], places: &mut Places, place: usize)
+    requires within { place < length entries.now }
+    requires indexed { IsIndexed places.old (entries_view entries.now) }
+    requires distinct { HasDistinctKeys (entries_view entries.now) }
+    ensures { IsIndexed places.new (entries_view (remove entries.now place)) }
+{
+    // The entries behind it move forward, and the first of those that have a place loses it.
+    let gone = place.max(FIRST);
+    if let Some(entry) = entries.get(gone) {
+        forget_place(places, entry.key.as_str(), gone);
     }
 }
 
-// The value at a key, looked for in one entry after the other.
-
-fn value_at<'a>(entries: &'a [Entry], key: &str) -> Option<&'a Value>
-    ensures { option_map (λ v. data_of v.now) result ≡ at_key key.now (pairs entries.now) }
+// Takes an entry out.
+fn take_out(entries: &mut Vec<Entry>, place: usize)
+    requires { place < length entries.old.items }
+    ensures { entries.new.items ≡ remove entries.old.items place }
 {
-    for entry in entries {
+    entries.remove(place);
+}
+
+// Where the entry of a key stands, looked for in one entry after the other.
+fn place_in(entries: &[Entry], key: &str) -> Option<usize>
+    ensures { result ≡ place_from 0 key.now (entries_view entries.now) }
+{
+    for (i, entry) in entries.iter().enumerate() {
         if entry.key.as_str() == key {
-            return Some(&entry.value);
+            return Some(i);
         }
     }
     None

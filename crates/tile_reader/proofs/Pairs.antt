@@ -1,12 +1,11 @@
 -- Pairs of indices, and the pairs of texts and values that they are.
-use Rattle.std.proofs.Common.{◌≡◌, ◌≢◌, ℕ, zero, suc, ◌<◌, List, [], ◌∷◌, refl, sym, ap, ◌∙◌, subst, arith, length, take, get_or, Bool, true, false, Bor}
+use Rattle.std.proofs.Common.{◌≡◌, ◌≢◌, ℕ, zero, suc, ◌<◌, List, [], ◌∷◌, refl, sym, ap, ◌∙◌, subst, arith, length, take, get_or, Bool, true, false}
 use Rattle.std.specs.Prelude.{if◌then◌else◌, nat_eq, slice_index, slice_index_or}
 use Rattle.std.specs.Str.{bytes_eq}
 use Rattle.std.proofs.lemmas.Slice.Eq.{bytes_eq-Decides}
-use Rattle.std.proofs.lemmas.List.{length-map, get_or-map, take-map}
+use Rattle.std.proofs.lemmas.List.{length-map, get_or-map, take-map, get_or_default}
 use Rattle.prop_values.specs.Data.{Data, LacksKey, HasDistinctKeys}
 use Rattle.tile_reader.specs.Lookup.{AreFirsts, AreInside, put_pair, pair_seen, pairs_seen}
-use Rattle.tile_reader.specs.View.{texts_seen}
 use Rattle.tile_reader.specs.Properties.{put, put_all}
 use Rattle.tile_reader.proofs.TextPlaces.{same_texts}
 
@@ -67,13 +66,13 @@ lacks_before (first ∷ pairs) zero d distinct below = tt
 lacks_before (first ∷ pairs) (suc i) d distinct below = (absent_at first.0 pairs i d distinct.0 (omega arith), lacks_before pairs i d distinct.1 (omega arith))
 
 -- the key of a pair is not among the entries before it
-pub entries_lack : (keys : List (Bor (List ℕ))) (values : List Data) (chosen : List (ℕ × ℕ)) (i : ℕ) (d : ℕ × ℕ) (e : Bor (List ℕ)) (entries : List (List ℕ × Data)) (text : List ℕ) → HasDistinctKeys (pairs_seen (texts_seen keys) values chosen) → i < length chosen → (get_or chosen i d).0 < length keys → entries ≡ pairs_seen (texts_seen keys) values (take i chosen) → text ≡ (get_or keys (get_or chosen i d).0 e).now → LacksKey text entries
+pub entries_lack : (keys : List (List ℕ)) (values : List Data) (chosen : List (ℕ × ℕ)) (i : ℕ) (d : ℕ × ℕ) (e : List ℕ) (entries : List (List ℕ × Data)) (text : List ℕ) → HasDistinctKeys (pairs_seen keys values chosen) → i < length chosen → (get_or chosen i d).0 < length keys → entries ≡ pairs_seen keys values (take i chosen) → text ≡ get_or keys (get_or chosen i d).0 e → LacksKey text entries
 entries_lack keys values chosen i d e entries text distinct below key_below so_far is =
-    let all : List (List ℕ × Data) = pairs_seen (texts_seen keys) values chosen in
-    let long : length all ≡ length chosen = length-map chosen (pair_seen (texts_seen keys) values) in
-    let lacks = lacks_before all i (pair_seen (texts_seen keys) values d) distinct (omega arith) in
-    let pair = get_or-map (pair_seen (texts_seen keys) values) chosen i d (pair_seen (texts_seen keys) values d) below in
-    let key : slice_index_or (texts_seen keys) (get_or chosen i d).0 [] ≡ (get_or keys (get_or chosen i d).0 e).now = get_or-map (λ (s : Bor (List ℕ)). s.now) keys (get_or chosen i d).0 e [] key_below in
-    let same_text : (get_or all i (pair_seen (texts_seen keys) values d)).0 ≡ text = ap (λ (p : List ℕ × Data). p.0) pair ∙ key ∙ sym is in
-    let same_entries : take i all ≡ entries = take-map (pair_seen (texts_seen keys) values) i chosen ∙ sym so_far in
-    subst (λ (x : List ℕ). LacksKey x entries) same_text (subst (λ (es : List (List ℕ × Data)). LacksKey (get_or all i (pair_seen (texts_seen keys) values d)).0 es) same_entries lacks)
+    let all : List (List ℕ × Data) = pairs_seen keys values chosen in
+    let long : length all ≡ length chosen = length-map chosen (pair_seen keys values) in
+    let lacks = lacks_before all i (pair_seen keys values d) distinct (omega arith) in
+    let pair = get_or-map (pair_seen keys values) chosen i d (pair_seen keys values d) below in
+    let key : slice_index_or keys (get_or chosen i d).0 [] ≡ get_or keys (get_or chosen i d).0 e = get_or_default keys (get_or chosen i d).0 [] e key_below in
+    let same_text : (get_or all i (pair_seen keys values d)).0 ≡ text = ap (λ (p : List ℕ × Data). p.0) pair ∙ key ∙ sym is in
+    let same_entries : take i all ≡ entries = take-map (pair_seen keys values) i chosen ∙ sym so_far in
+    subst (λ (x : List ℕ). LacksKey x entries) same_text (subst (λ (es : List (List ℕ × Data)). LacksKey (get_or all i (pair_seen keys values d)).0 es) same_entries lacks)

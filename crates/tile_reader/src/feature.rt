@@ -7,7 +7,7 @@ ghost use Rattle.tile_reader.specs.View.{Gives, GivesOrLacks, Leaves, tagged_see
 use crate::fault::{TileFault, TileKind};
 use crate::halt::Halt;
 use crate::tile::Shape;
-use crate::wire_parts::{next_field, number_in};
+use crate::wire_parts::{next_field, number_in, wrong_type};
 use proto_wire::{Field, Fields, Wire, varint};
 use std::alloc::Global;
 
@@ -78,15 +78,6 @@ fn feature_member(number: u32) -> FeatureMember
         3 => FeatureMember::Shape,
         4 => FeatureMember::Geometry,
         _ => FeatureMember::Unknown,
-    }
-}
-
-fn wrong_type(at: usize) -> TileFault
-    ensures { result ≡ record { kind = TileKind.FieldType; at = at } }
-{
-    TileFault {
-        kind: TileKind::FieldType,
-        at,
     }
 }
 

@@ -12,11 +12,11 @@ use crate::tile::{Feature, Features};
 use crate::value::Held;
 use decimal_json::Text;
 use fixed_num::Fixed;
-use prop_values::{Entries, Value};
+use prop_values::{Entries, Value, copy};
 use std::alloc::{AllocError, Global};
 use std::collections::BTreeMap;
 
-/// The features of a layer with these keys and values.
+/// The features of a layer with these keys and values. Each text is copied once, and all features share it.
 pub(crate) fn features(
     alloc: Global,
     keys: &[&str],
@@ -26,9 +26,53 @@ pub(crate) fn features(
     ensures { GivesOrLacks (λ all. all) result (features_of (texts_seen keys.now) (map value_seen values.now) [] (map tagged_seen tagged.now)) }
 {
     let firsts = first_places(alloc, keys)?;
+    let texts = texts_of(alloc, keys)?;
+    let made = values_of(alloc, values)?;
+    features_with(
+        alloc,
+        texts.as_slice(),
+        made.as_slice(),
+        firsts.as_slice(),
+        tagged,
+    )
+}
+
+// The keys as texts of their own.
+fn texts_of(alloc: Global, keys: &[&str]) -> Result<Vec<Text>, AllocError>
+    ensures { IfOk result (λ texts. texts.items ≡ texts_seen keys.now) }
+{
+    let mut texts = Vec::new(alloc);
+    for key in keys {
+        texts.push(Text::copy_of(alloc, key)?)?;
+    }
+    Ok(texts)
+}
+
+// The values with texts of their own.
+fn values_of(alloc: Global, held: &[Held<'_>]) -> Result<Vec<Value>, AllocError>
+    ensures { IfOk result (λ made. map data_of made.items ≡ map value_seen held.now) }
+{
+    let mut made = Vec::new(alloc);
+    for value in held {
+        made.push(value_of(alloc, *value)?)?;
+    }
+    Ok(made)
+}
+
+// The features of a layer with these keys, whose first places are `firsts`, and these values.
+fn features_with(
+    alloc: Global,
+    keys: &[Text],
+    values: &[Value],
+    firsts: &[usize],
+    tagged: &[TaggedFeature],
+) -> Result<Features, Halt>
+    requires { AreFirsts firsts.now keys.now }
+    ensures { GivesOrLacks (λ all. all) result (features_of keys.now (map data_of values.now) [] (map tagged_seen tagged.now)) }
+{
     let mut features = Features::new(alloc);
     for feature in tagged {
-        features.push(with_properties(alloc, keys, values, firsts.as_slice(), feature)?)?;
+        features.push(with_properties(alloc, keys, values, firsts, feature)?)?;
     }
     Ok(features)
 }
@@ -67,13 +111,13 @@ fn first_place<'a>(
 // A feature with the properties that its tags name.
 fn with_properties(
     alloc: Global,
-    keys: &[&str],
-    values: &[Held<'_>],
+    keys: &[Text],
+    values: &[Value],
     firsts: &[usize],
     tagged: &TaggedFeature,
 ) -> Result<Feature, Halt>
-    requires { AreFirsts firsts.now (texts_seen keys.now) }
-    ensures { GivesOrLacks (λ feature. feature) result (feature_of (texts_seen keys.now) (map value_seen values.now) (tagged_seen tagged.now)) }
+    requires { AreFirsts firsts.now keys.now }
+    ensures { GivesOrLacks (λ feature. feature) result (feature_of keys.now (map data_of values.now) (tagged_seen tagged.now)) }
 {
     if tagged.tags.len() % 2 == 1 {
         return Err(Halt::Fault(TileFault {
@@ -95,17 +139,17 @@ fn with_properties(
 }
 
 // The indices of the key and the value of each property, in order, or `None` where one has no key or value. A repeated
-// key keeps its first place and takes its last value, so that only what stays is copied later.
+// key keeps its first place and takes its last value, so that only what stays is taken later.
 fn choose(
     alloc: Global,
-    keys: &[&str],
-    values: &[Held<'_>],
+    keys: &[Text],
+    values: &[Value],
     firsts: &[usize],
     tags: &[u64],
 ) -> Result<Option<Vec<(usize, usize)>>, AllocError>
-    requires { AreFirsts firsts.now (texts_seen keys.now) }
-    ensures pairs { IfOk result (λ chosen. option_map (put_all []) (named (texts_seen keys.now) (map value_seen values.now) tags.now)
-        ≡ option_map (λ pairs. pairs_seen (texts_seen keys.now) (map value_seen values.now) pairs.items) chosen) }
+    requires { AreFirsts firsts.now keys.now }
+    ensures pairs { IfOk result (λ chosen. option_map (put_all []) (named keys.now (map data_of values.now) tags.now)
+        ≡ option_map (λ pairs. pairs_seen keys.now (map data_of values.now) pairs.items) chosen) }
     ensures inside { IfOk result (λ chosen. IfSome chosen (λ pairs. AreInside firsts.now (length values.now) pairs.items)) }
 {
     let mut places: BTreeMap<usize, usize> = BTreeMap::new(alloc);
@@ -172,23 +216,24 @@ fn put(
 // The properties of these pairs of indices.
 fn entries(
     alloc: Global,
-    keys: &[&str],
-    values: &[Held<'_>],
+    keys: &[Text],
+    values: &[Value],
     chosen: &[(usize, usize)],
 ) -> Result<Entries, AllocError>
     requires inside { (i : ℕ) → i < length chosen.now → IndicesWithin (length keys.now) (length values.now) (slice_index_or chosen.now i (0, 0)) }
-    requires distinct { HasDistinctKeys (pairs_seen (texts_seen keys.now) (map value_seen values.now) chosen.now) }
-    ensures { IfOk result (λ all. all ≡ pairs_seen (texts_seen keys.now) (map value_seen values.now) chosen.now) }
+    requires distinct { HasDistinctKeys (pairs_seen keys.now (map data_of values.now) chosen.now) }
+    ensures { IfOk result (λ all. all ≡ pairs_seen keys.now (map data_of values.now) chosen.now) }
 {
     let mut entries = Entries::new(alloc);
     for (key, value) in chosen {
-        let text = Text::copy_of(alloc, keys[*key])?;
-        let value = value_of(alloc, values[*value])?;
+        let text = keys[*key].share()?;
+        let value = copy(alloc, &values[*value])?;
         entries.push(text, value)?;
     }
     Ok(entries)
 }
 
+// A value with a text of its own.
 fn value_of(alloc: Global, held: Held<'_>) -> Result<Value, AllocError>
     ensures { IfOk result (λ value. data_of value ≡ value_seen held.entry) }
 {

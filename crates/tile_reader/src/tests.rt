@@ -1,7 +1,46 @@
+mod accepted;
+mod order;
+mod places;
+
 use crate::{Feature, Tile, TileFault, TileKind, read_tile};
 use prop_values::Value;
 use proto_wire::WireKind;
 use std::alloc::{AllocError, Global};
+use std::process::Abort;
+
+// Bytes that are written in hex.
+fn bytes_of(alloc: Global, hex: &str) -> Result<Vec<u8>, AllocError> {
+    let mut bytes = Vec::new(alloc);
+    let mut high = None;
+    for byte in hex.as_bytes() {
+        let digit = match *byte {
+            digit @ b'0'..=b'9' => digit - b'0',
+            digit @ b'a'..=b'f' => digit - b'a' + 10,
+            _ => continue,
+        };
+        match high {
+            None => high = Some(digit),
+            Some(first) => {
+                bytes.push(first << 4 | digit)?;
+                high = None;
+            }
+        }
+    }
+    Ok(bytes)
+}
+
+// For each row the bytes, in hex, and the tile that they are or their fault.
+fn assert_answers(rt: &impl Abort, alloc: Global, rows: &[(&str, &str)]) -> Result<(), AllocError> {
+    for (hex, want) in rows {
+        let bytes = bytes_of(alloc, hex)?;
+        let answer = match read_tile(alloc, bytes.as_slice())? {
+            Ok(tile) => shown(alloc, &tile)?,
+            Err(fault) => format!(in alloc; "{:?} {}", fault.kind, fault.at)?,
+        };
+        assert_eq!(rt; answer.as_str(), *want, "at {hex}");
+    }
+    Ok(())
+}
 
 // A text of a tile, to compare: of each layer the name and of each feature the id, the shape and the properties.
 fn shown(alloc: Global, tile: &Tile) -> Result<String, AllocError> {

@@ -21,7 +21,8 @@ pub(crate) fn next_field<'a>(fields: &mut Fields<'a>) -> Result<Option<Field<'a>
     }
 }
 
-fn wrong_type(at: usize) -> TileFault
+/// The fault of a known field of another wire type, whose tag stands at `at`.
+pub(crate) fn wrong_type(at: usize) -> TileFault
     ensures { result ≡ record { kind = TileKind.FieldType; at = at } }
 {
     TileFault {

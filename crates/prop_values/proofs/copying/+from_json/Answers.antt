@@ -24,7 +24,7 @@ entries_from-returns-in-Err t c =
 pub entries_from-loop-member-preserved : goal.entries_from-loop-member-preserved
 entries_from-loop-member-preserved t c =
     let pushed : c.push.new.self ≡ c.loop-member.entries ++ (c.member-item.result.key, data_of c.in-Ok.value) ∷ [] =
-    c.in_ok-push-in-Ok.ensures.ok ∙ ap (λ k. c.loop-member.entries ++ (k, data_of c.in-Ok.value) ∷ []) (c.in_ok-key-in-Ok.ensures ∙ c.as_str.ensures) in (
+    c.in_ok-push-in-Ok.ensures.ok ∙ ap (λ k. c.loop-member.entries ++ (k, data_of c.in-Ok.value) ∷ []) c.in_ok-key-in-Ok.ensures in (
       keys_step c.loop-member.entries c.push.new.self c.as_slice-member-items.result.now c.loop-member.member-index c.member-item.result (data_of c.in-Ok.value) (omega arith) c.member-item.is pushed c.loop-member.invariant.0,
       pairs_step c.loop-member.entries c.push.new.self c.as_slice-member-items.result.now c.loop-member.member-index c.member-item.result c.in-Ok.value _ (omega arith) c.member-item.is (ap (read_by data_of) (sym c.in-Ok.is) ∙ c.in_ok-value.ensures) pushed c.loop-member.invariant.1,
     )

@@ -1,7 +1,7 @@
 use Rattle.std.proofs.Common.{◌≡◌, [], length}
 use Rattle.std.specs.Prelude.{map}
 use Rattle.tile_reader.specs.Lookup.{ArePlaces, AreInside, pairs_seen}
-use Rattle.tile_reader.specs.View.{texts_seen, value_seen}
+use Rattle.prop_values.specs.View.{data_of}
 use Rattle.tile_reader.proofs.Chosen.{after_pairs}
 use Rattle.tile_reader.proofs.properties.choose.Given as goal
 
@@ -9,7 +9,7 @@ abbrev pub invariant-loop-key : goal.invariant-loop-key
 invariant-loop-key l = record {
   places : ArePlaces l.places l.chosen.items;
   inside : AreInside l.firsts (length l.values) l.chosen.items;
-  left : after_pairs (texts_seen l.keys) (map value_seen l.values) (pairs_seen (texts_seen l.keys) (map value_seen l.values) l.chosen.items) l.rest ≡ after_pairs (texts_seen l.keys) (map value_seen l.values) [] l.fn.tags;
+  left : after_pairs l.keys (map data_of l.values) (pairs_seen l.keys (map data_of l.values) l.chosen.items) l.rest ≡ after_pairs l.keys (map data_of l.values) [] l.fn.tags;
 }
 
 abbrev pub decreases-loop-key : goal.decreases-loop-key

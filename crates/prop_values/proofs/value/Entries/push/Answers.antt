@@ -1,10 +1,9 @@
 -- The new entry stands behind the others: its key differs from theirs, and the index knows its place.
 use Rattle.std.proofs.Common.{◌≡◌, ◌<◌, ◌≤◌, [], ◌∷◌, ◌++◌, length, sym, subst, ap, ◌∙◌, arith, Some, if◌then◌else◌}
-use Rattle.std.specs.BTreeMap.{get_by_text}
 use Rattle.std.specs.Str.{bytes_eq}
 use Rattle.prop_values.specs.declared.value.Entry.{Entry}
 use Rattle.prop_values.specs.Data.{LacksKey, HasDistinctKeys}
-use Rattle.prop_values.specs.Places.{IsIndexed}
+use Rattle.prop_values.specs.Places.{IsIndexed, noted}
 use Rattle.prop_values.specs.View.{entries_view}
 use Rattle.prop_values.proofs.Keys.{entries_push}
 use Rattle.prop_values.proofs.IndexSteps.{few_push, more_push}
@@ -18,7 +17,7 @@ invariant_of-self-then-place-lt-FIRST c =
     let lacks : LacksKey c.args.key (entries_view es) = subst (LacksKey c.args.key) seen c.requires in
     let few : length es < 16 = omega arith in
     subst (λ xs. HasDistinctKeys (entries_view xs) × IsIndexed c.self.inside.places (entries_view xs)) (sym c.in_ok-push.ensures.items)
-    (entries_push es e c.self.invariant.0 lacks, few_push (get_by_text c.self.inside.places) es e few c.self.invariant.1)
+    (entries_push es e c.self.invariant.0 lacks, few_push (noted c.self.inside.places) es e few c.self.invariant.1)
 
 pub invariant_of-self-2 : goal.invariant_of-self-2
 invariant_of-self-2 c =
@@ -31,6 +30,6 @@ invariant_of-self-2 c =
     let added : c.push-2.new.self.items ≡ es ++ e ∷ [] = c.in_ok-push-2.ensures.items ∙ ap (λ xs. xs ++ e ∷ []) c.reserve.ensures.items in
     subst (λ xs. HasDistinctKeys (entries_view xs) × IsIndexed c.note_place.new.places (entries_view xs)) (sym added) (
       entries_push es e c.self.invariant.0 lacks,
-      more_push (get_by_text c.self.inside.places) (get_by_text c.note_place.new.places) es e many lacks c.self.invariant.1
-          (λ q. c.in_ok-note_place.ensures.ok q ∙ (λ i. if bytes_eq (c.as_str.ensures i) q then Some (place i) else get_by_text c.self.inside.places q)),
+      more_push (noted c.self.inside.places) (noted c.note_place.new.places) es e many lacks c.self.invariant.1
+          (λ q. c.in_ok-note_place.ensures.ok q ∙ ap (λ p. if bytes_eq c.args.key q then Some p else noted c.self.inside.places q) place),
     )

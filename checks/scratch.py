@@ -1,0 +1,55 @@
+"""Programs over crates of this repository, made in a temporary folder outside it."""
+
+import pathlib
+import shutil
+import struct
+import subprocess
+import sys
+
+TOP = pathlib.Path(__file__).resolve().parent.parent
+
+
+def crates_below(names, lines):
+    """The lines of these crates, and of the crates of the repository on which they stand."""
+    deps = dict(line.split(":") for line in lines if ":" in line and not line.startswith("#"))
+    found = []
+    left = list(names)
+    while left:
+        crate = left.pop()
+        if crate in deps and crate not in found:
+            found.append(crate)
+            left += deps[crate].split()
+    return [line for line in lines if line.split(":")[0] in found]
+
+
+def make_program(folder, name, source, below):
+    """A repository of the program NAME, whose main.rt is checks/SOURCE, over these crates, with what is proved of them here; gives the program's folder."""
+    lines = crates_below(below, (TOP / "crates.txt").read_text().splitlines())
+    for line in lines:
+        crate = line.split(":")[0]
+        shutil.copytree(TOP / "crates" / crate, folder / "crates" / crate)
+    program = folder / "crates" / name
+    (program / "src").mkdir(parents=True)
+    shutil.copy(TOP / "checks" / source, program / "src" / "main.rt")
+    lines.append(f"{name}: {' '.join(below)}")
+    (folder / "crates.txt").write_text("\n".join(lines) + "\n")
+    return program
+
+
+def run(program, *words):
+    """The bytes that a call prints."""
+    done = subprocess.run(list(map(str, words)), cwd=program, capture_output=True)
+    if done.returncode != 0:
+        sys.exit(f"{words} failed: {done.stdout[-2000:].decode(errors='replace')} {done.stderr[-2000:].decode(errors='replace')}")
+    return done.stdout
+
+
+def build(program, *words):
+    """Proves and builds the program, and runs it once with these words; gives the file that runs it."""
+    run(program, "rt", "run", "--", *words)
+    return program / "out" / program.name
+
+
+def framed(parts):
+    """Byte strings one after the other, each after its length in four bytes, the lowest first."""
+    return b"".join(struct.pack("<I", len(part)) + part for part in parts)
