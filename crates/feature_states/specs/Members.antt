@@ -1,0 +1,45 @@
+-- Which members each feature has.
+use Rattle.std.specs.Prelude.{ℕ, List, [], Bool, ◌&&◌, nat_eq, Option, Some, None, unwrap_or, option_map}
+use Rattle.std.specs.BTreeMap.{BTreeMap, get, get_by_text}
+use Rattle.std.specs.Ordering.{nat_cmp}
+use Rattle.std.specs.Str.{bytes_eq}
+use Rattle.std.specs.declared.string.String.{String}
+use Rattle.std.specs.declared.alloc.Global.{Global}
+use Rattle.prop_values.specs.Changes.{without_key}
+use Rattle.prop_values.specs.Data.{Data}
+use Rattle.prop_values.specs.declared.value.Entries.{Entries}
+use Rattle.feature_states.specs.declared.states.States.{States}
+
+-- the states of one layer by their ids, and those of one source by their layers
+abbrev pub Ids : Type 0
+Ids = BTreeMap ℕ Entries
+
+abbrev pub Layers : Type 0
+Layers = BTreeMap (String Global) Ids
+
+-- The members of an id: none where nothing is kept for it.
+abbrev pub members_of_id : Ids → ℕ → List (List ℕ × Data)
+members_of_id ids id = unwrap_or (get nat_cmp ids id) []
+
+abbrev pub members_in_layer : Layers → List ℕ → ℕ → List (List ℕ × Data)
+members_in_layer layers layer id = unwrap_or (option_map (λ ids. members_of_id ids id) (get_by_text layers layer)) []
+
+abbrev pub Sources : Type 0
+Sources = BTreeMap (String Global) Layers
+
+abbrev pub members_in_source : Sources → List ℕ → List ℕ → ℕ → List (List ℕ × Data)
+members_in_source sources source layer id = unwrap_or (option_map (λ layers. members_in_layer layers layer id) (get_by_text sources source)) []
+
+-- The members that a feature has, by its source, layer and id, as a list of pairs of a key and data. A feature of
+-- which nothing was told has none. Own.
+abbrev pub members_at : States → List ℕ → List ℕ → ℕ → List (List ℕ × Data)
+members_at states = members_in_source states.sources
+
+-- Whether two places are one: the same source, layer and id.
+abbrev pub same_feature : List ℕ → List ℕ → ℕ → List ℕ → List ℕ → ℕ → Bool
+same_feature source layer id s l i = bytes_eq source s && (bytes_eq layer l && nat_eq id i)
+
+-- The members that are left once one is removed, or, without a key, all. Own.
+abbrev pub left_of : Option (List ℕ) → List (List ℕ × Data) → List (List ℕ × Data)
+left_of None members = []
+left_of (Some key) members = without_key key members

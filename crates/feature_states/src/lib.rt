@@ -1,0 +1,24 @@
+//! The states of features: for each feature, named by its source, its layer and its id, a map of members.
+//!
+//! ```text
+//! let mut states = States::new(alloc);
+//! states.merge("tiles", "roads", 7, members)?;            // sets each of the members
+//! states.get("tiles", "roads", 7);                        // Some(the members of that feature)
+//! states.remove("tiles", "roads", 7, Some("hover"));      // removes one of them
+//! states.remove("tiles", "roads", 7, None);               // removes all
+//! ```
+//!
+//! Promised: contracts see the members of every feature (`members_at`). Each call says which members the feature
+//! that it names has afterwards, and that every other feature has the members that it had. `get` is `None` exactly
+//! where a feature has no members. After want of memory all features have the members that they had. Only `merge`
+//! takes memory.
+//!
+//! A source without layers keeps its features under the layer of the empty name.
+#![tactic(auto)]
+
+mod kept;
+mod states;
+#[cfg(test)]
+mod tests;
+
+pub use states::States;
