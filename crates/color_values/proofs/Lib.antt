@@ -1,0 +1,5 @@
+pub mod NameLaws
+pub mod DecimalLaws
+pub mod AmountLaws
+pub mod PartLaws
+pub mod HslLaws

@@ -1,0 +1,48 @@
+-- What contracts of private functions see of numbers, parts and names in a text.
+use Rattle.std.specs.Prelude.{ℕ, ◌*◌, ◌^◌, ◌≤◌, List, ◌++◌, length, take, drop, map, not, nat_eq, if◌then◌else◌, Option, Some, None, option_map}
+use Rattle.std.specs.Option.{is_some}
+use Rattle.std.specs.List.{prefix_len}
+use Rattle.std.specs.Borrow.{Bor}
+use Rattle.fixed_num.specs.Decimal.{number_of}
+use Rattle.color_values.specs.ColorNumber.{Number, most_units}
+use Rattle.color_values.specs.declared.names.Name.{Name}
+use Rattle.color_values.specs.Parts.{Parts, trimmed}
+use Rattle.color_values.specs.declared.parts.Parts.{Parts as PartTexts}
+use Rattle.color_values.specs.declared.number.Number.{Number as NumberText}
+
+-- the number that a text has
+abbrev pub number_view : NumberText → Number
+number_view n = record { negative = n.negative; digits = number_of (n.whole.now ++ n.fraction.now); places = length n.fraction.now }
+
+-- a number is within the bound
+abbrev pub IsWithin : Number → Type 0
+IsWithin n = n.digits ≤ most_units * 10 ^ n.places
+
+-- names as the table has them
+abbrev pub pairs_of : List Name → List (List ℕ × ℕ)
+pairs_of ns = map (λ n. (n.text.now, n.value)) ns
+
+-- the bytes of a part, where there is one
+abbrev pub bytes_of : Option (Bor (List ℕ)) → Option (List ℕ)
+bytes_of part = option_map (λ b. b.now) part
+
+-- the arguments that a text has
+abbrev pub parts_view : PartTexts → Parts
+parts_view p = record { first = p.first.now; second = p.second.now; third = p.third.now; opacity = bytes_of p.opacity }
+
+abbrev pub pair_of : Bor (List ℕ) × Bor (List ℕ) → List ℕ × List ℕ
+pair_of p = (p.0.now, p.1.now)
+
+-- what stands before the first comma and what behind it; ',' is 44
+abbrev pub before_comma : List ℕ → ℕ
+before_comma bs = prefix_len (λ c. not (nat_eq c 44)) bs
+
+unfoldable pub first_piece : List ℕ → Option (List ℕ × List ℕ)
+first_piece bs =
+    if nat_eq (before_comma bs) (length bs) then None else Some (take (before_comma bs) bs, drop 1 (drop (before_comma bs) bs))
+
+-- the arguments whose last is an opacity, where no comma stands in it
+unfoldable pub parts_with_last : List ℕ → List ℕ → List ℕ → List ℕ → Option Parts
+parts_with_last x y z a =
+    if is_some (first_piece a) then None else
+    Some (record { first = trimmed x; second = trimmed y; third = trimmed z; opacity = Some (trimmed a) })
