@@ -15,14 +15,10 @@ It needs `rt` on the path. The program that reads the texts is made in a tempora
 json_program.txt; `rt run` proves it and LLVM builds it, which takes minutes where crates/*/out is empty.
 """
 
-import argparse
 import collections
 import json
-import pathlib
 import random
-import shutil
 import sys
-import tempfile
 import time
 
 import json_large
@@ -128,28 +124,26 @@ def measure(runner, folder):
         print(f"{name}, {size / 1e6:.2f} MB, {answer}: {1000 * seconds:.1f} ms, {speeds}; {memory:.0f} MB of memory", flush=True)
 
 
-def main():
-    parser = argparse.ArgumentParser(description="Compares the JSON reader with others.")
-    parser.add_argument("--short", type=int, default=3, help="all texts of so many tokens")
-    parser.add_argument("--random", type=int, default=20000, help="how many random texts")
-    parser.add_argument("--keys", type=int, default=5000, help="how many objects of few keys")
-    parser.add_argument("--changed", type=int, default=20000, help="how many texts with bytes changed")
-    parser.add_argument("--seed", type=int, default=1)
-    parser.add_argument("--times", action="store_true", help="measure large texts instead")
-    options = parser.parse_args()
-    if shutil.which("rt") is None:
-        print("skipped, since rt is not on the path")
-        return 0
-    with tempfile.TemporaryDirectory() as name:
-        folder = pathlib.Path(name)
-        program = scratch.make_program(folder, PROGRAM, "json_program.txt", ["decimal_json"])
-        (folder / "texts").write_bytes(b"")
-        runner = scratch.build(program, "lines", folder / "texts")
-        if options.times:
-            measure(runner, folder)
-            return 0
-        return 1 if compare_all(runner, folder, options) else 0
+def built_runner(folder):
+    """The program that reads texts, proved and built in this folder."""
+    program = scratch.make_program(folder, PROGRAM, "json_program.txt", ["decimal_json"])
+    (folder / "texts").write_bytes(b"")
+    return scratch.build(program, "lines", folder / "texts")
 
+
+COUNTS = {
+    "short": (3, "all texts of so many tokens"),
+    "random": (20000, "how many random texts"),
+    "keys": (5000, "how many objects of few keys"),
+    "changed": (20000, "how many texts with bytes changed"),
+}
 
 if __name__ == "__main__":
-    sys.exit(main())
+    sys.exit(
+        scratch.status_of(
+            "Compares the JSON reader with others.",
+            COUNTS,
+            lambda folder, options: compare_all(built_runner(folder), folder, options),
+            lambda folder: measure(built_runner(folder), folder),
+        )
+    )

@@ -1,10 +1,12 @@
 """Programs over crates of this repository, made in a temporary folder outside it."""
 
+import argparse
 import pathlib
 import shutil
 import struct
 import subprocess
 import sys
+import tempfile
 
 TOP = pathlib.Path(__file__).resolve().parent.parent
 
@@ -53,3 +55,21 @@ def build(program, *words):
 def framed(parts):
     """Byte strings one after the other, each after its length in four bytes, the lowest first."""
     return b"".join(struct.pack("<I", len(part)) + part for part in parts)
+
+
+def status_of(description, counts, compare, measure):
+    """Reads the words of a check with these counts, each a default and what it is, and does it in a temporary folder; gives its status."""
+    parser = argparse.ArgumentParser(description=description)
+    for name, (default, what) in counts.items():
+        parser.add_argument(f"--{name}", type=int, default=default, help=what)
+    parser.add_argument("--seed", type=int, default=1)
+    parser.add_argument("--times", action="store_true", help="measure large inputs instead")
+    options = parser.parse_args()
+    if shutil.which("rt") is None:
+        print("skipped, since rt is not on the path")
+        return 0
+    with tempfile.TemporaryDirectory() as name:
+        if options.times:
+            measure(pathlib.Path(name))
+            return 0
+        return 1 if compare(pathlib.Path(name), options) else 0

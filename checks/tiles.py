@@ -13,13 +13,11 @@ The program that reads the tiles is made in a temporary folder, from a copy of c
 `rt try` runs it unproved; for the times `rt run` proves it and LLVM builds it, which takes minutes where crates/*/out is empty.
 """
 
-import argparse
 import collections
 import json
 import pathlib
 import random
 import re
-import shutil
 import sys
 import tempfile
 
@@ -72,48 +70,40 @@ def random_tiles(rng, count):
     return [tile_makes.Maker(rng, rng.choice([0, 0.02, 0.1, 0.3])).tile() for _ in range(count)]
 
 
-def compare(program, options):
+def made_program(folder):
+    """The program that reads tiles, in this folder."""
+    return scratch.make_program(folder, PROGRAM, "tile_program.txt", ["tile_reader", "prop_values", "decimal_json"])
+
+
+def compare(folder, options):
     """All comparisons; gives how many tiles differ."""
+    program = made_program(folder)
     rng = random.Random(options.seed)
     whole = [tile_makes.Maker(rng, 0).tile() for _ in range(500)]
     made = random_tiles(rng, options.random)
     bytes_changed = [tile_makes.changed(rng, rng.choice(whole), whole) for _ in range(options.changed)]
-    with tempfile.TemporaryDirectory() as folder:
-        mapped = tile_gdal.tiles(pathlib.Path(folder), rng)
+    with tempfile.TemporaryDirectory() as maps:
+        mapped = tile_gdal.tiles(pathlib.Path(maps), rng)
         lines = reader_lines(program, [tile for tile, _ in mapped] + made + bytes_changed)
     differ = tile_gdal.compare(mapped, lines[: len(mapped)])
     differ += compare_with_rules("random", made, lines[len(mapped) : len(mapped) + len(made)])
     return differ + compare_with_rules("changed", bytes_changed, lines[len(mapped) + len(made) :])
 
 
-def measure(program, folder):
+def measure(folder):
     """Prints what reading each large tile takes."""
     large = folder / "large"
     large.write_bytes(b"")
-    runner = scratch.build(program, "count", large)
+    runner = scratch.build(made_program(folder), "count", large)
     for name, make in tile_large.KINDS.items():
         size = large.write_bytes(make())
         print(f"{name}, {size / 1e6:.1f} MB: {scratch.run(folder, runner, 'count', large).decode().splitlines()[0]}", flush=True)
 
 
-def main():
-    parser = argparse.ArgumentParser(description="Compares the tile reader with others.")
-    parser.add_argument("--random", type=int, default=30000, help="how many random tiles")
-    parser.add_argument("--changed", type=int, default=30000, help="how many tiles with bytes changed")
-    parser.add_argument("--seed", type=int, default=1)
-    parser.add_argument("--times", action="store_true", help="measure large tiles instead")
-    options = parser.parse_args()
-    if shutil.which("rt") is None:
-        print("skipped, since rt is not on the path")
-        return 0
-    with tempfile.TemporaryDirectory() as name:
-        folder = pathlib.Path(name)
-        program = scratch.make_program(folder, PROGRAM, "tile_program.txt", ["tile_reader", "prop_values", "decimal_json"])
-        if options.times:
-            measure(program, folder)
-            return 0
-        return 1 if compare(program, options) else 0
-
+COUNTS = {
+    "random": (30000, "how many random tiles"),
+    "changed": (30000, "how many tiles with bytes changed"),
+}
 
 if __name__ == "__main__":
-    sys.exit(main())
+    sys.exit(scratch.status_of("Compares the tile reader with others.", COUNTS, compare, measure))
