@@ -1,6 +1,6 @@
-ghost use Rattle.std.specs.Prelude.{◌≡◌, [], ◌∷◌, ◌++◌, OnOk, OnErr};
-ghost use Rattle.decimal_json.specs.Tree.{HasDistinctKeys, LacksKey};
-ghost use Rattle.decimal_json.specs.View.{tree_of, items_view, members_view};
+ghost use Rattle.std.specs.Prelude.{◌≡◌, [], ◌∷◌, ◌++◌, OnOk, OnErr, option_map};
+ghost use Rattle.decimal_json.specs.Tree.{HasDistinctKeys, LacksKey, field_at, fields_of};
+ghost use Rattle.decimal_json.specs.View.{tree_of, items_view, members_view, fields};
 
 use crate::texts::{NumText, Text};
 use std::alloc::{AllocError, Global};
@@ -136,4 +136,22 @@ impl Members {
     {
         self.members.as_slice()
     }
+
+    /// The value at a key, or `None` exactly where no member has the key. Takes time linear in the members.
+    pub fn get(&self, key: &str) -> Option<&Json>
+        ensures { option_map (λ v. tree_of v.now) result ≡ field_at key.now (fields_of self.now) }
+    {
+        value_at(self.members.as_slice(), key)
+    }
+}
+
+fn value_at<'a>(members: &'a [Member], key: &str) -> Option<&'a Json>
+    ensures { option_map (λ v. tree_of v.now) result ≡ field_at key.now (fields members.now) }
+{
+    for member in members {
+        if member.key.as_str() == key {
+            return Some(&member.value);
+        }
+    }
+    None
 }
