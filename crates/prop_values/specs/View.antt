@@ -1,5 +1,5 @@
 -- Which data a value of the program is.
-use Rattle.std.specs.Prelude.{◌≡◌, ℕ, List, [], ◌∷◌, map, refl}
+use Rattle.std.specs.Prelude.{◌≡◌, ℕ, List, [], ◌∷◌, map, refl, Result, Ok, Err}
 use Rattle.std.proofs.Common.{ap}
 use Rattle.std.specs.Coded.{Coded, code_by}
 use Rattle.prop_values.specs.Data.{Data, null, boolean, number, text, color, list, map as mapping, Items, Pairs, items_of, pairs_of, list_of, entries_of, items_nodes, pairs_nodes}
@@ -7,6 +7,7 @@ use Rattle.prop_values.specs.DataCode.{data_code}
 use Rattle.prop_values.specs.declared.value.Value.{Value}
 use Rattle.prop_values.specs.declared.value.Value.TheVariants.{Null, Bool as Flag, Num, Text, Color, List as ListOf, Map}
 use Rattle.prop_values.specs.declared.value.Entry.{Entry}
+use Rattle.prop_values.specs.declared.fault.EvalFault.{EvalFault}
 
 -- The data of a value: each variant is the form of its name. Own.
 abbrev pub data_of : Value → Data
@@ -71,3 +72,8 @@ values_size ds = items_nodes (items_of ds)
 
 abbrev pub entries_size : List (List ℕ × Data) → ℕ
 entries_size ps = pairs_nodes (pairs_of ps)
+
+-- For callers: the data that an evaluation gave, or its fault.
+abbrev pub evaluated_of : Result Value EvalFault → Result Data EvalFault
+evaluated_of (Ok v) = Ok (data_of v)
+evaluated_of (Err fault) = Err fault

@@ -1,0 +1,7 @@
+use Rattle.std.proofs.Common.{◌≡◌, drop}
+use Rattle.prop_values.specs.View.{items}
+use Rattle.property_tables.specs.Fitting.{are_items}
+use Rattle.property_tables.proofs.fitting.are_items.Given as goal
+
+abbrev pub invariant-loop-value : goal.invariant-loop-value
+invariant-loop-value l = are_items l.item (items (drop l.value-index l.values)) ≡ are_items l.item (items l.values)

@@ -1,0 +1,26 @@
+//! What style properties want: the types of layers, and how a value is fitted to what is wanted.
+//!
+//! ```text
+//! LayerType::named("fill-extrusion")                      // Some(LayerType::FillExtrusion)
+//! fit(alloc, Value::Text(red), &Want::Color)?             // Ok(Value::Color(..)), 255, 0, 0 and 1
+//! fit(alloc, Value::Text(reddish), &Want::Color)?         // Err(EvalFault::NotColor)
+//! fit(alloc, Value::Num(one), &Want::Text)?               // Err(EvalFault::WrongType)
+//! ```
+//!
+//! Promised, for all values and wants: `fit` gives exactly the value or the fault of the definition `fit` of
+//! `specs/Fitting.antt`, and a fitted value is left as it is by the same want (`specs/Stays.antt`). The names of layer
+//! types are those of `specs/LayerTypes.antt`, in both directions.
+//!
+//! A value that passes is handed on and not copied. Only the text of a value that is no text takes memory, and
+//! time is linear in the items of a list and in a text.
+#![tactic(auto)]
+
+mod fitting;
+mod laws;
+mod layer_type;
+#[cfg(test)]
+mod tests;
+
+pub use fitting::fit;
+pub use laws::fitted_values_stay;
+pub use layer_type::LayerType;
