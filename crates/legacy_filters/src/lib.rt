@@ -1,0 +1,16 @@
+//! Legacy filters of MapLibre styles: which filters are legacy and which are expressions.
+//!
+//! ```text
+//! is_legacy(&parse(alloc, b"[\"==\",\"kind\",\"park\"]")?);              // true
+//! is_legacy(&parse(alloc, b"[\"==\",[\"get\",\"kind\"],\"park\"]")?);    // false
+//! ```
+//!
+//! Promised: `is_legacy` is the split that `specs/Split.antt` defines, for all JSON trees. It takes no memory, its recursion is
+//! as deep as the tree, and it looks at each node once at most.
+#![tactic(auto)]
+
+mod split;
+#[cfg(test)]
+mod tests;
+
+pub use split::is_legacy;
