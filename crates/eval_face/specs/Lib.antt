@@ -1,0 +1,4 @@
+pub mod World
+pub mod Operators
+pub mod Meaning
+pub mod Fitted

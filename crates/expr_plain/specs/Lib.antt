@@ -1,0 +1,3 @@
+pub mod Resolved
+pub mod Evaluation
+pub mod Manners
