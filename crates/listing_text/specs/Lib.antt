@@ -1,0 +1,4 @@
+pub mod Listed
+pub mod View
+pub mod Listing
+pub mod Parts
