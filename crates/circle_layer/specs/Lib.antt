@@ -1,0 +1,3 @@
+pub mod CircleStyle
+pub mod StyleView
+pub mod CircleLayout
