@@ -1,6 +1,4 @@
-pub mod Values
-pub mod Branches
-pub mod ReadingLaws
-pub mod Parsed
+pub mod Counts
+pub mod Answered
 pub mod OneOutcome
 pub mod Fronts

@@ -1,23 +1,58 @@
--- What a run does to its two sinks.
-use Rattle.std.specs.Prelude.{◌≡◌, ℕ, ◌<◌, List, length, Option, ◌⊎◌}
+-- What a run does to files and to its two sinks.
+use Rattle.std.specs.Prelude.{◌≡◌, ℕ, ◌<◌, List, ◌++◌, codes, length, Bool, Option, Some, ◌⊎◌}
 use Rattle.outside_io.specs.Counts.{Rose}
 use Rattle.outside_io.specs.Writing.{Gains, GainsPrefix}
+use Rattle.decimal_json.specs.JsonText.{text_json}
 use Rattle.style_program.specs.declared.status.Status.{Status}
+use Rattle.style_program.specs.declared.status.Status.TheVariants as status
 use Rattle.style_program.specs.Ending.{status_of}
-use Rattle.style_program.specs.Outcome.{Outcome, IsOutcome}
+use Rattle.style_program.specs.Outcome.{Outcome, line}
+use Rattle.style_program.specs.Replies.{IsOutcome, AreTold, IsReached}
+use Rattle.style_program.specs.Words.{Asked, asked}
 
--- the words have an outcome, both its texts were written whole, and the status is its own
-pub record Completes (ws : List (List ℕ)) (answer : Status) (out_old out_new err_old err_new : Option (List ℕ)) : Type 0 where
-  pub outcome : Outcome
-  pub defined : IsOutcome ws outcome
-  pub status : answer ≡ status_of outcome.ending
-  pub out : Gains out_old out_new outcome.out
-  pub err : Gains err_old err_new outcome.err
+-- the line of a file that could not be read
+abbrev pub unread_line : List ℕ → List ℕ
+unread_line name = line (codes "read " ++ text_json name)
 
--- an err line is due: the words have an outcome with one
-abbrev pub ErrLineIsDue : List (List ℕ) → Type 0
-ErrLineIsDue ws = (o : Outcome) × IsOutcome ws o × (0 < length o.err)
+-- how a run ends once a read has failed: the line was written, or a write failed, or memory lacked
+abbrev pub EndsUnread : Status → (err_old err_new : Option (List ℕ)) → (faults_old faults_new : ℕ) → List ℕ → Type 0
+EndsUnread status.ReadFault err_old err_new faults_old faults_new name = Gains err_old err_new (unread_line name)
+EndsUnread status.WriteFault err_old err_new faults_old faults_new name = Rose faults_old faults_new
+EndsUnread status.NoMemory err_old err_new faults_old faults_new name = Unit {0}
+EndsUnread _ err_old err_new faults_old faults_new name = ⊥
 
--- a count of faults rose: of out, or of err while an err line was due
-abbrev pub WriteFails : List (List ℕ) → ℕ → ℕ → ℕ → ℕ → Type 0
-WriteFails ws out_old out_new err_old err_new = Rose out_old out_new ⊎ (ErrLineIsDue ws × Rose err_old err_new)
+-- A read failed: the count of faults rose, the name of the read that failed is this, and the run came to read that file.
+pub record ReadFails (files : List ℕ → Option (List ℕ)) (ask : Asked) (old new : ℕ) (failed : Option (List ℕ)) (name : List ℕ) : Type 0 where
+  pub rose : Rose old new
+  pub noted : failed ≡ Some name
+  pub reached : IsReached files ask name
+
+module _ (files : List ℕ → Option (List ℕ)) (images scripts : List ℕ → Bool) (ws : List (List ℕ)) where
+  -- the words have an outcome, both its texts were written whole, and the status is its own
+  pub record Completes (answer : Status) (out_old out_new err_old err_new : Option (List ℕ)) : Type 0 where
+    pub outcome : Outcome
+    pub defined : IsOutcome files images scripts ws outcome
+    pub status : answer ≡ status_of outcome.ending
+    pub out : Gains out_old out_new outcome.out
+    pub err : Gains err_old err_new outcome.err
+
+  -- what out holds more is a prefix of the out text, where files are told
+  pub record OutFront (old new : Option (List ℕ)) : Type 0 where
+    pub front : (o : Outcome) → AreTold files (asked ws) → IsOutcome files images scripts ws o → GainsPrefix old new o.out
+
+  -- What err holds more is a prefix of the err text, where files are told; or, where a read failed, of the line that tells so. The first
+  -- three arguments are the count of failed reads before and after, and the name of the last of them.
+  pub record ErrFront (reads_old reads_new : ℕ) (failed : Option (List ℕ)) (old new : Option (List ℕ)) : Type 0 where
+    pub front :
+        ((o : Outcome) → AreTold files (asked ws) → IsOutcome files images scripts ws o → GainsPrefix old new o.err)
+        ⊎ ((name : List ℕ) × ReadFails files (asked ws) reads_old reads_new failed name × GainsPrefix old new (unread_line name))
+
+  -- an err line is due: the words have an outcome with one, or a read failed
+  abbrev pub ErrLineIsDue : ℕ → ℕ → Option (List ℕ) → Type 0
+  ErrLineIsDue reads_old reads_new failed =
+      ((o : Outcome) × IsOutcome files images scripts ws o × (0 < length o.err))
+      ⊎ ((name : List ℕ) × ReadFails files (asked ws) reads_old reads_new failed name)
+
+  -- a count of faults rose: of out, or of err while an err line was due
+  pub record WriteFails (reads_old reads_new : ℕ) (failed : Option (List ℕ)) (out_old out_new err_old err_new : ℕ) : Type 0 where
+    pub cause : Rose out_old out_new ⊎ (ErrLineIsDue reads_old reads_new failed × Rose err_old err_new)

@@ -5,23 +5,23 @@
 //! // words `value` and `["+",0.1,0.2]`: out holds `0.3` and an LF more, and the status is `Fine`
 //! ```
 //!
-//! What is promised stands on `run_style`, over one relation: `IsOutcome` of `specs/Outcome.antt` relates words to an out
-//! text, an err text and an ending, and no words have two (`words_have_one_outcome`). Where nothing outside fails and
-//! memory suffices, the run is its outcome; in every run what is written is a prefix of it; and each status has its cause.
-//!
-//! Expressions, their reading from JSON and their meaning are private modules for now.
+//! What is promised stands on `run_style`, over one relation: `IsOutcome` of `specs/Replies.antt` relates words, by what is told of
+//! files, to an out text, an err text and an ending, and no words have two (`words_have_one_outcome`). Where nothing outside fails and
+//! memory suffices, the run is its outcome; in every run what is written is a prefix of it, or of the line that tells which file could
+//! not be read; and each status has its cause.
 #![tactic(auto)]
 
 mod answer;
-mod evaluation;
-mod expression;
+mod eval_command;
+mod files;
 mod laws;
-mod reading;
+mod refusals;
+mod reply;
 mod status;
 #[cfg(test)]
 mod tests;
 mod top;
-mod value;
+mod value_command;
 mod words;
 
 pub use laws::words_have_one_outcome;

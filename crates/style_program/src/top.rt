@@ -1,21 +1,25 @@
-ghost use Rattle.std.specs.Prelude.{◌≡◌, ◌≢◌, ◌⊎◌, ◌<◌, length, map, string_bytes, OnOk, OnErr};
+ghost use Rattle.std.specs.Prelude.{◌≡◌, ◌≢◌, ◌⊎◌, ℕ, ◌<◌, ◌≤◌, List, [], length, map, string_bytes, OnOk, OnErr, IfOk};
 ghost use Rattle.outside_io.specs.Counts.{Rose, Still};
 ghost use Rattle.outside_io.specs.Writing.{Gains, GainsPrefix};
-ghost use Rattle.style_program.specs.Outcome.{Outcome, IsOutcome};
-ghost use Rattle.style_program.specs.Run.{Completes, WriteFails};
+ghost use Rattle.style_program.specs.Replies.{IsFileless};
+ghost use Rattle.style_program.specs.Run.{Completes, OutFront, ErrFront, ReadFails, WriteFails, unread_line, EndsUnread};
+ghost use Rattle.style_program.specs.Words.{asked};
 
-use crate::answer::{Answer, answer_to};
+use crate::answer::{Answer, Stop};
+use crate::reply::answer_to;
 use crate::status::Status;
 use crate::words::request_of;
+use decimal_json::write_text;
 use host_ops::HostOp;
 use outside_io::{Files, Sink, SinkFailed, Steps};
-use std::alloc::Global;
+use std::alloc::{AllocError, Global};
 use std::sync::ledger::Ledger;
 
-/// Does what the words after the program's name ask for: writes to `out` and `err`, and answers how the run ended.
+/// Does what the words after the program's name ask for: reads from `files`, writes to `out` and `err`, and answers how
+/// the run ended.
 ///
-/// `files` are the files that words name, `images` and `scripts` the tests that expressions ask; no command asks them so
-/// far. Want of memory is the one free answer.
+/// `images` and `scripts` are the tests that expressions ask. Nothing is written before all reading is done. Want of memory is
+/// the one free answer.
 pub fn run_style<F: Files, O: Sink, E: Sink, L: Ledger>(
     alloc: Global,
     words: &[String],
@@ -31,38 +35,79 @@ pub fn run_style<F: Files, O: Sink, E: Sink, L: Ledger>(
         Still (F.faults files.old) (F.faults files.new) →
         Still (O.faults out.old) (O.faults out.new) →
         Still (E.faults err.old) (E.faults err.new) →
-        Completes (map string_bytes words.now) result
+        Completes (F.told files.old) (test images) (test scripts) (map string_bytes words.now) result
         (O.held out.old) (O.held out.new) (E.held err.old) (E.held err.new) }
 
-    // So it is after every answer but two, whatever the counts of faults.
+    // So it is after every answer but three, whatever the counts of faults.
     ensures completes { result ≢ Status.NoMemory →
+        result ≢ Status.ReadFault →
         result ≢ Status.WriteFault →
-        Completes (map string_bytes words.now) result
+        Completes (F.told files.old) (test images) (test scripts) (map string_bytes words.now) result
         (O.held out.old) (O.held out.new) (E.held err.old) (E.held err.new) }
 
-    // In every run what is written is a prefix of what is defined.
-    ensures out_front { (o : Outcome) → IsOutcome (map string_bytes words.now) o →
-        GainsPrefix (O.held out.old) (O.held out.new) o.out }
-    ensures err_front { (o : Outcome) → IsOutcome (map string_bytes words.now) o →
-        GainsPrefix (E.held err.old) (E.held err.new) o.err }
+    // In every run what is written is a prefix of what is defined, or of the line of a read that failed.
+    ensures out_front { OutFront (F.told files.old) (test images) (test scripts) (map string_bytes words.now)
+        (O.held out.old) (O.held out.new) }
+    ensures err_front { ErrFront (F.told files.old) (test images) (test scripts) (map string_bytes words.now)
+        (F.faults files.old) (F.faults files.new) (F.failed files.new) (E.held err.old) (E.held err.new) }
 
-    // A write fault has its cause.
-    ensures write_fault { result ≡ Status.WriteFault →
-        WriteFails (map string_bytes words.now)
+    // A read fault has its cause and its line, and a write fault has its cause.
+    ensures read_fault { result ≡ Status.ReadFault → (name : List ℕ)
+        × ReadFails (F.told files.old) (asked (map string_bytes words.now)) (F.faults files.old) (F.faults files.new) (F.failed files.new) name
+        × Gains (O.held out.old) (O.held out.new) []
+        × Gains (E.held err.old) (E.held err.new) (unread_line name) }
+    ensures write_fault { result ≡ Status.WriteFault → WriteFails (F.told files.old) (test images) (test scripts) (map string_bytes words.now)
+        (F.faults files.old) (F.faults files.new) (F.failed files.new)
         (O.faults out.old) (O.faults out.new) (E.faults err.old) (E.faults err.new) }
 
-    // No command reads a file or counts a step so far.
-    ensures no_read { result ≢ Status.ReadFault }
-    ensures files { files.new ≡ files.old }
+    // Only `eval` reads files, and no command counts a step so far.
+    ensures told { F.told files.new ≡ F.told files.old }
+    ensures files { IsFileless (asked (map string_bytes words.now)) → files.new ≡ files.old }
     ensures steps { steps.new ≡ steps.old }
 {
+    run_with(alloc, words, files, out, err, &*images, &*scripts)
+}
+
+// The same over tests that are lent.
+fn run_with<F: Files, O: Sink, E: Sink>(
+    alloc: Global,
+    words: &[String],
+    files: &mut F,
+    out: &mut O,
+    err: &mut E,
+    images: &dyn HostOp,
+    scripts: &dyn HostOp,
+) -> Status
+    ensures completes { result ≢ Status.NoMemory →
+        result ≢ Status.ReadFault →
+        result ≢ Status.WriteFault →
+        Completes (F.told files.old) (test images.now) (test scripts.now) (map string_bytes words.now) result
+        (O.held out.old) (O.held out.new) (E.held err.old) (E.held err.new) }
+    ensures out_front { OutFront (F.told files.old) (test images.now) (test scripts.now) (map string_bytes words.now)
+        (O.held out.old) (O.held out.new) }
+    ensures err_front { ErrFront (F.told files.old) (test images.now) (test scripts.now) (map string_bytes words.now)
+        (F.faults files.old) (F.faults files.new) (F.failed files.new) (E.held err.old) (E.held err.new) }
+
+    ensures read_fault { result ≡ Status.ReadFault → (name : List ℕ)
+        × ReadFails (F.told files.old) (asked (map string_bytes words.now)) (F.faults files.old) (F.faults files.new) (F.failed files.new) name
+        × Gains (O.held out.old) (O.held out.new) []
+        × Gains (E.held err.old) (E.held err.new) (unread_line name) }
+    ensures write_fault { result ≡ Status.WriteFault → WriteFails (F.told files.old) (test images.now) (test scripts.now) (map string_bytes words.now)
+        (F.faults files.old) (F.faults files.new) (F.failed files.new)
+        (O.faults out.old) (O.faults out.new) (E.faults err.old) (E.faults err.new) }
+
+    ensures told { F.told files.new ≡ F.told files.old }
+    ensures faults { F.faults files.old ≤ F.faults files.new }
+    ensures files { IsFileless (asked (map string_bytes words.now)) → files.new ≡ files.old }
+{
     let request = request_of(words);
-    let Ok(answer) = answer_to(alloc, &request) else {
-        return Status::NoMemory;
-    };
-    match write_answer(&answer, out, err) {
-        Ok(()) => answer.ending.status(),
-        Err(_) => Status::WriteFault,
+    match answer_to(alloc, &request, files, images, scripts) {
+        Ok(answer) => match write_answer(&answer, out, err) {
+            Ok(()) => answer.ending.status(),
+            Err(_) => Status::WriteFault,
+        },
+        Err(Stop::NoMemory) => Status::NoMemory,
+        Err(Stop::Unread(name)) => write_unread(alloc, name, err),
     }
 }
 
@@ -88,4 +133,28 @@ fn write_answer<O: Sink, E: Sink>(
         err.write(answer.err.as_slice())?;
     }
     Ok(())
+}
+
+/// Writes the line of a file that could not be read.
+fn write_unread<E: Sink>(alloc: Global, name: &str, err: &mut E) -> Status
+    ensures status { EndsUnread result (E.held err.old) (E.held err.new) (E.faults err.old) (E.faults err.new) name.now }
+    ensures front { GainsPrefix (E.held err.old) (E.held err.new) (unread_line name.now) }
+{
+    let Ok(line) = unread_line(alloc, name) else {
+        return Status::NoMemory;
+    };
+    match err.write(line.as_slice()) {
+        Ok(()) => Status::ReadFault,
+        Err(_) => Status::WriteFault,
+    }
+}
+
+fn unread_line(alloc: Global, name: &str) -> Result<Vec<u8>, AllocError>
+    ensures { IfOk result (λ line. line.items ≡ unread_line name.now) }
+{
+    let mut line = Vec::new(alloc);
+    line.extend_from_slice(b"read ")?;
+    write_text(name, &mut line)?;
+    line.push(b'\n')?;
+    Ok(line)
 }

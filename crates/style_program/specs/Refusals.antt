@@ -1,0 +1,68 @@
+-- The lines on standard error that say why something is refused.
+use Rattle.std.specs.Prelude.{ℕ, List, ◌++◌, codes, decimal}
+use Rattle.decimal_json.specs.JsonText.{text_json}
+use Rattle.json_tokens.specs.declared.kind.JsonKind.{JsonKind}
+use Rattle.json_tokens.specs.declared.kind.JsonKind.TheVariants as json
+use Rattle.proto_wire.specs.declared.wire.WireKind.TheVariants as wire
+use Rattle.tile_reader.specs.declared.fault.TileFault.{TileFault}
+use Rattle.tile_reader.specs.declared.fault.TileKind.{TileKind}
+use Rattle.tile_reader.specs.declared.fault.TileKind.TheVariants as tiles
+use Rattle.style_program.specs.Outcome.{Outcome, refused}
+
+-- the kinds of faults of JSON
+abbrev pub json_kind_name : JsonKind → List ℕ
+json_kind_name json.Syntax = codes "Syntax"
+json_kind_name json.Utf8 = codes "Utf8"
+json_kind_name json.DuplicateKey = codes "DuplicateKey"
+json_kind_name json.Depth = codes "Depth"
+json_kind_name json.NumberLength = codes "NumberLength"
+json_kind_name json.LoneSurrogate = codes "LoneSurrogate"
+
+-- no JSON text: what it should have been, the kind of the fault, and its place in bytes from the beginning
+abbrev pub no_json : List ℕ → JsonKind → ℕ → Outcome
+no_json what kind at = refused (what ++ (codes " json " ++ (json_kind_name kind ++ (codes " " ++ decimal at))))
+
+-- an expression or a style that is none of those that are read so far
+abbrev pub unbuilt : List ℕ → Outcome
+unbuilt what = refused (what ++ codes " Unbuilt")
+
+abbrev pub style_too_long : Outcome
+style_too_long = refused (codes "style TooLong")
+
+-- the kinds of faults of tiles
+abbrev pub tile_kind_name : TileKind → List ℕ
+tile_kind_name (tiles.Wire wire.Varint) = codes "Varint"
+tile_kind_name (tiles.Wire wire.Truncated) = codes "Truncated"
+tile_kind_name (tiles.Wire wire.WireType) = codes "WireType"
+tile_kind_name tiles.Compressed = codes "Compressed"
+tile_kind_name tiles.NoName = codes "NoName"
+tile_kind_name tiles.NoVersion = codes "NoVersion"
+tile_kind_name tiles.Version = codes "Version"
+tile_kind_name tiles.RepeatedName = codes "RepeatedName"
+tile_kind_name tiles.TagIndex = codes "TagIndex"
+tile_kind_name tiles.OddTags = codes "OddTags"
+tile_kind_name tiles.ValueKind = codes "ValueKind"
+tile_kind_name tiles.FloatValue = codes "FloatValue"
+tile_kind_name tiles.Utf8 = codes "Utf8"
+tile_kind_name tiles.FieldType = codes "FieldType"
+tile_kind_name tiles.GeometryType = codes "GeometryType"
+
+-- the tile of a source is longer than a tile may be
+abbrev pub tile_too_long : List ℕ → Outcome
+tile_too_long source = refused (codes "tile " ++ (text_json source ++ codes " TooLong"))
+
+-- the tile of a source is none: the kind of the fault, and its place
+abbrev pub no_tile : List ℕ → TileFault → Outcome
+no_tile source fault = refused (codes "tile " ++ (text_json source ++ (codes " " ++ (tile_kind_name fault.kind ++ (codes " " ++ decimal fault.at)))))
+
+-- the style has no source of this name
+abbrev pub unknown_source : List ℕ → Outcome
+unknown_source source = refused (codes "open UnknownSource " ++ text_json source)
+
+-- more cells than are allowed
+abbrev pub too_many_cells : ℕ → Outcome
+too_many_cells count = refused (codes "open CellLimit " ++ decimal count)
+
+-- the zoom is not from 0 to 24
+abbrev pub no_zoom : Outcome
+no_zoom = refused (codes "open ZoomRange")

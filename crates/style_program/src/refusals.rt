@@ -1,0 +1,136 @@
+//! The lines on standard error that say why something is refused.
+
+ghost use Rattle.std.specs.Prelude.{◌≡◌, IfOk};
+ghost use Rattle.style_program.specs.Refusals.{json_kind_name, no_json, unbuilt, style_too_long, tile_kind_name, tile_too_long, no_tile, unknown_source, too_many_cells, no_zoom};
+ghost use Rattle.style_program.specs.AnswerView.{outcome_of};
+
+use crate::answer::{Answer, answer_refused, begin_refusal};
+use decimal_json::{JsonFault, JsonKind, write_text};
+use itoa::Buffer;
+use proto_wire::WireKind;
+use std::alloc::{AllocError, Global};
+use tile_reader::{TileFault, TileKind};
+
+/// No JSON text, where `what` should be one.
+pub fn no_json(alloc: Global, what: &[u8], fault: JsonFault) -> Result<Answer, AllocError>
+    ensures { IfOk result (λ answer. outcome_of answer ≡ no_json what.now fault.kind fault.at) }
+{
+    let mut at = Buffer::new();
+    let mut line = begin_refusal(alloc)?;
+    line.extend_from_slice(what)?;
+    line.extend_from_slice(b" json ")?;
+    line.extend_from_slice(json_kind_name(fault.kind))?;
+    line.extend_from_slice(b" ")?;
+    line.extend_from_slice(at.format(fault.at).as_bytes())?;
+    answer_refused(alloc, line)
+}
+
+/// An expression or a style that is none of those that are read so far.
+pub fn unbuilt(alloc: Global, what: &[u8]) -> Result<Answer, AllocError>
+    ensures { IfOk result (λ answer. outcome_of answer ≡ unbuilt what.now) }
+{
+    let mut line = begin_refusal(alloc)?;
+    line.extend_from_slice(what)?;
+    line.extend_from_slice(b" Unbuilt")?;
+    answer_refused(alloc, line)
+}
+
+/// A style that is longer than one may be.
+pub fn style_too_long(alloc: Global) -> Result<Answer, AllocError>
+    ensures { IfOk result (λ answer. outcome_of answer ≡ style_too_long) }
+{
+    let mut line = begin_refusal(alloc)?;
+    line.extend_from_slice(b"style TooLong")?;
+    answer_refused(alloc, line)
+}
+
+/// A tile that is longer than one may be.
+pub fn tile_too_long(alloc: Global, source: &str) -> Result<Answer, AllocError>
+    ensures { IfOk result (λ answer. outcome_of answer ≡ tile_too_long source.now) }
+{
+    let mut line = begin_refusal(alloc)?;
+    line.extend_from_slice(b"tile ")?;
+    write_text(source, &mut line)?;
+    line.extend_from_slice(b" TooLong")?;
+    answer_refused(alloc, line)
+}
+
+/// Bytes that are no tile.
+pub fn no_tile(alloc: Global, source: &str, fault: TileFault) -> Result<Answer, AllocError>
+    ensures { IfOk result (λ answer. outcome_of answer ≡ no_tile source.now fault) }
+{
+    let mut at = Buffer::new();
+    let mut line = begin_refusal(alloc)?;
+    line.extend_from_slice(b"tile ")?;
+    write_text(source, &mut line)?;
+    line.extend_from_slice(b" ")?;
+    line.extend_from_slice(tile_kind_name(fault.kind))?;
+    line.extend_from_slice(b" ")?;
+    line.extend_from_slice(at.format(fault.at).as_bytes())?;
+    answer_refused(alloc, line)
+}
+
+/// A source that the style does not have.
+pub fn unknown_source(alloc: Global, source: &str) -> Result<Answer, AllocError>
+    ensures { IfOk result (λ answer. outcome_of answer ≡ unknown_source source.now) }
+{
+    let mut line = begin_refusal(alloc)?;
+    line.extend_from_slice(b"open UnknownSource ")?;
+    write_text(source, &mut line)?;
+    answer_refused(alloc, line)
+}
+
+/// More cells than are allowed.
+pub fn too_many_cells(alloc: Global, count: u64) -> Result<Answer, AllocError>
+    ensures { IfOk result (λ answer. outcome_of answer ≡ too_many_cells count) }
+{
+    let mut digits = Buffer::new();
+    let mut line = begin_refusal(alloc)?;
+    line.extend_from_slice(b"open CellLimit ")?;
+    line.extend_from_slice(digits.format(count).as_bytes())?;
+    answer_refused(alloc, line)
+}
+
+/// A zoom that is not from 0 to 24.
+pub fn no_zoom(alloc: Global) -> Result<Answer, AllocError>
+    ensures { IfOk result (λ answer. outcome_of answer ≡ no_zoom) }
+{
+    let mut line = begin_refusal(alloc)?;
+    line.extend_from_slice(b"open ZoomRange")?;
+    answer_refused(alloc, line)
+}
+
+fn json_kind_name(kind: JsonKind) -> &'static [u8]
+    ensures { result.now ≡ json_kind_name kind }
+{
+    match kind {
+        JsonKind::Syntax => b"Syntax",
+        JsonKind::Utf8 => b"Utf8",
+        JsonKind::DuplicateKey => b"DuplicateKey",
+        JsonKind::Depth => b"Depth",
+        JsonKind::NumberLength => b"NumberLength",
+        JsonKind::LoneSurrogate => b"LoneSurrogate",
+    }
+}
+
+fn tile_kind_name(kind: TileKind) -> &'static [u8]
+    ensures { result.now ≡ tile_kind_name kind }
+{
+    match kind {
+        TileKind::Wire(WireKind::Varint) => b"Varint",
+        TileKind::Wire(WireKind::Truncated) => b"Truncated",
+        TileKind::Wire(WireKind::WireType) => b"WireType",
+        TileKind::Compressed => b"Compressed",
+        TileKind::NoName => b"NoName",
+        TileKind::NoVersion => b"NoVersion",
+        TileKind::Version => b"Version",
+        TileKind::RepeatedName => b"RepeatedName",
+        TileKind::TagIndex => b"TagIndex",
+        TileKind::OddTags => b"OddTags",
+        TileKind::ValueKind => b"ValueKind",
+        TileKind::FloatValue => b"FloatValue",
+        TileKind::Utf8 => b"Utf8",
+        TileKind::FieldType => b"FieldType",
+        TileKind::GeometryType => b"GeometryType",
+    }
+}

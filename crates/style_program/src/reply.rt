@@ -1,0 +1,44 @@
+ghost use Rattle.std.specs.Prelude.{◌≡◌, ◌≤◌, IfOk, IfErr};
+ghost use Rattle.style_program.specs.AnswerView.{outcome_of, IsStop};
+ghost use Rattle.style_program.specs.Replies.{IsReply, IsFileless};
+ghost use Rattle.style_program.specs.WordsView.{asked_by};
+
+use crate::answer::{Answer, Stop, answer_said, answer_usage};
+use crate::eval_command::answer_eval;
+use crate::value_command::answer_value;
+use crate::words::Request;
+use host_ops::HostOp;
+use outside_io::Files;
+use std::alloc::Global;
+
+const HELP: &[u8] =
+    b"value EXPR                      prints the value of an expression as JSON, or error and the fault's name
+eval STYLE ZOOM SOURCE=TILE     prints what a style shows at a zoom over a tile of its source
+--help                          prints these lines
+--version                       prints the program's name and version
+";
+
+const VERSION: &[u8] = b"pirgesh 0.1.0\n";
+
+/// What a request is answered.
+pub fn answer_to<'a, F: Files>(
+    alloc: Global,
+    request: &Request<'a>,
+    files: &mut F,
+    images: &dyn HostOp,
+    scripts: &dyn HostOp,
+) -> Result<Answer, Stop<'a>>
+    ensures told { F.told files.new ≡ F.told files.old }
+    ensures faults { F.faults files.old ≤ F.faults files.new }
+    ensures fileless { IsFileless (asked_by request.now) → files.new ≡ files.old }
+    ensures answer { IfOk result (λ answer. IsReply (F.told files.old) (test images.now) (test scripts.now) (asked_by request.now) (outcome_of answer)) }
+    ensures stop { IfErr result (λ stop. IsStop (F.told files.old) (asked_by request.now) (F.faults files.old) (F.faults files.new) (F.failed files.new) stop) }
+{
+    match request {
+        Request::Value(expression) => Ok(answer_value(alloc, expression, images, scripts)?),
+        Request::Eval(request) => answer_eval(alloc, request, files, images, scripts),
+        Request::Help => Ok(answer_said(alloc, HELP)?),
+        Request::Version => Ok(answer_said(alloc, VERSION)?),
+        Request::Wrong => Ok(answer_usage(alloc)?),
+    }
+}

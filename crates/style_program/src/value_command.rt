@@ -1,0 +1,90 @@
+//! `value`: the value of an expression.
+
+ghost use Rattle.std.specs.Prelude.{◌≡◌, pos, IfOk};
+ghost use Rattle.prop_values.specs.View.{evaluated_of};
+ghost use Rattle.expr_syntax.specs.ReadView.{reading_of};
+ghost use Rattle.style_program.specs.ValueOutcome.{IsValueOutcome, expression_outcome, value_outcome};
+ghost use Rattle.style_program.specs.AnswerView.{outcome_of};
+
+use crate::answer::{Answer, answer_out};
+use crate::refusals::{no_json, unbuilt};
+use crate::status::Ending;
+use decimal_json::parse;
+use eval_face::Context;
+use expr_plain::eval_plain;
+use expr_syntax::{Expr, SynFault, read_expr};
+use fixed_num::Fixed;
+use host_ops::HostOp;
+use prop_values::{EvalFault, Value, Want, write_listed};
+use std::alloc::{AllocError, Global};
+
+/// The answer to an expression's text.
+pub fn answer_value(
+    alloc: Global,
+    text: &str,
+    images: &dyn HostOp,
+    scripts: &dyn HostOp,
+) -> Result<Answer, AllocError>
+    ensures { IfOk result (λ answer. IsValueOutcome (test images.now) (test scripts.now) text.now (outcome_of answer)) }
+{
+    match parse(alloc, text.as_bytes())? {
+        Ok(json) => {
+            let read = read_expr(alloc, &json)?;
+            answer_expression(alloc, read, images, scripts)
+        }
+        Err(fault) => no_json(alloc, b"expr", fault),
+    }
+}
+
+fn answer_expression(
+    alloc: Global,
+    read: Result<Expr, SynFault>,
+    images: &dyn HostOp,
+    scripts: &dyn HostOp,
+) -> Result<Answer, AllocError>
+    ensures { IfOk result (λ answer. outcome_of answer ≡ expression_outcome (test images.now) (test scripts.now) (reading_of read)) }
+{
+    match read {
+        Ok(expression) => {
+            let context = Context {
+                zoom: zero(),
+                feature: None,
+                state: None,
+            };
+            let evaluated = eval_plain(alloc, &expression, &Want::Any, &context, images, scripts)?;
+            answer_evaluated(alloc, &evaluated)
+        }
+        Err(_) => unbuilt(alloc, b"expr"),
+    }
+}
+
+fn zero() -> Fixed
+    ensures { result ≡ pos 0 }
+{
+    match Fixed::from_millionths(0) {
+        Some(zero) => zero,
+        None => unreachable!(),
+    }
+}
+
+fn answer_evaluated(
+    alloc: Global,
+    evaluated: &Result<Value, EvalFault>,
+) -> Result<Answer, AllocError>
+    ensures { IfOk result (λ answer. outcome_of answer ≡ value_outcome (evaluated_of evaluated.now)) }
+{
+    let mut out = Vec::new(alloc);
+    match evaluated {
+        Ok(value) => {
+            write_listed(value, &mut out)?;
+            out.push(b'\n')?;
+            Ok(answer_out(alloc, out, Ending::Fine))
+        }
+        Err(fault) => {
+            out.extend_from_slice(b"error ")?;
+            out.extend_from_slice(fault.name().as_bytes())?;
+            out.push(b'\n')?;
+            Ok(answer_out(alloc, out, Ending::Found))
+        }
+    }
+}
