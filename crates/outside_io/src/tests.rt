@@ -112,6 +112,8 @@ const FOLDER: &str = "outside_io_test";
 
 const PATH: &str = "outside_io_test/file";
 
+const EMPTY: &str = "outside_io_test/empty";
+
 const MISSING: &str = "outside_io_test/missing";
 
 #[test]
@@ -126,12 +128,15 @@ fn real_files_and_streams(rt: HostRuntime) -> Result<(), Fail> {
         assert_eq!(rt; sink.write(line), Ok(()));
         held.extend_from_slice(line)?;
     }
+    let _ = fs::create(&rt, EMPTY)?;
     let mut files = HostFiles::new(&rt);
-    let reads: [(&str, usize, ReadAnswer); 6] = [
+    let reads: [(&str, usize, ReadAnswer); 8] = [
         (PATH, 9600, ReadAnswer::Done),
         (PATH, 9599, ReadAnswer::TooLong),
         (MISSING, 9600, ReadAnswer::Failed),
         (FOLDER, 9600, ReadAnswer::Failed),
+        (EMPTY, 9600, ReadAnswer::Done),
+        (EMPTY, 0, ReadAnswer::Done),
         (PATH, 1_000_000, ReadAnswer::Done),
         (PATH, 0, ReadAnswer::TooLong),
     ];
@@ -142,7 +147,7 @@ fn real_files_and_streams(rt: HostRuntime) -> Result<(), Fail> {
             answer,
             "{name} {at_most}"
         );
-        let wanted = if answer == ReadAnswer::Done {
+        let wanted = if name == PATH && answer == ReadAnswer::Done {
             held.as_slice()
         } else {
             &[]
