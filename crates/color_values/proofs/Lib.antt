@@ -2,4 +2,9 @@ pub mod NameLaws
 pub mod DecimalLaws
 pub mod AmountLaws
 pub mod PartLaws
+pub mod FirstLimbLaws
+pub mod SlopeLaws
+pub mod FactorLaws
+pub mod ComponentLaws
+pub mod ScaleLaws
 pub mod HslLaws

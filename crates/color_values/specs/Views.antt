@@ -1,10 +1,12 @@
 -- What contracts of private functions see of numbers, parts and names in a text.
-use Rattle.std.specs.Prelude.{ℕ, ◌*◌, ◌^◌, ◌≤◌, List, ◌++◌, length, take, drop, map, not, nat_eq, if◌then◌else◌, Option, Some, None, option_map}
+use Rattle.std.specs.Prelude.{ℕ, ◌-◌, ◌*◌, ◌^◌, ◌≤◌, IsTrue, List, ◌++◌, length, take, drop, map, not, nat_eq, if◌then◌else◌, Option, Some, None, option_map}
 use Rattle.std.specs.Option.{is_some}
-use Rattle.std.specs.List.{prefix_len}
+use Rattle.std.specs.Char.{is_ascii_digit}
+use Rattle.std.specs.List.{list_all, prefix_len}
 use Rattle.std.specs.Borrow.{Bor}
 use Rattle.fixed_num.specs.Decimal.{number_of}
 use Rattle.color_values.specs.ColorNumber.{Number, most_units}
+use Rattle.decimal_limbs.specs.Limbs.{limbs_for}
 use Rattle.color_values.specs.declared.names.Name.{Name}
 use Rattle.color_values.specs.Parts.{Parts, trimmed}
 use Rattle.color_values.specs.declared.parts.Parts.{Parts as PartTexts}
@@ -17,6 +19,14 @@ number_view n = record { negative = n.negative; digits = number_of (n.whole.now 
 -- a number is within the bound
 abbrev pub IsWithin : Number → Type 0
 IsWithin n = n.digits ≤ most_units * 10 ^ n.places
+
+-- the bytes behind the point are digits
+abbrev pub HasDigits : NumberText → Type 0
+HasDigits n = IsTrue (list_all is_ascii_digit n.fraction.now)
+
+-- The limbs of a number have zeros behind its last digit: one at that digit is so many at the last place of the limbs.
+abbrev pub limb_scale : ℕ → ℕ
+limb_scale places = 10 ^ (9 * limbs_for places - places)
 
 -- names as the table has them
 abbrev pub pairs_of : List Name → List (List ℕ × ℕ)

@@ -10,7 +10,7 @@
 //! Promised, for all texts: `read_color` is the definition `color_of`, `Some` and `None` alike, and
 //! its colors are in range. Each component is the exact value of its text, rounded once to the nearest
 //! millionth; numbers are read at any length, but of a hue and of a saturation the digits past the
-//! fifteenth behind the point are not counted. Reading takes no memory, and time linear in the text.
+//! thousandth behind the point are not counted. Reading takes no memory, and time linear in the text.
 //! `color_text` is the text that `prop_values` writes.
 //!
 //! Definitions, in reading order: `specs/Parts.antt` (spaces, commas, arguments), `specs/ColorNumber.antt`,
@@ -20,6 +20,7 @@
 
 mod amount;
 mod color;
+mod component;
 mod hexadecimal;
 mod hsl;
 mod names;

@@ -4,7 +4,7 @@ ghost use Rattle.std.specs.List.{list_all, prefix_len};
 ghost use Rattle.fixed_num.specs.Decimal.{number_of, is_digits, leading_digits, after_digits};
 ghost use Rattle.fixed_num.specs.Saturation.{saturated};
 ghost use Rattle.color_values.specs.ColorNumber.{most_units, number_with, unsigned_at, number_at, percent_at, is_percent};
-ghost use Rattle.color_values.specs.Views.{number_view, IsWithin};
+ghost use Rattle.color_values.specs.Views.{number_view, HasDigits, IsWithin};
 
 /// A number of a color text: its sign, and its digits before and behind the point, any number of them.
 #[derive(Clone, Copy)]
@@ -20,6 +20,7 @@ pub(crate) struct Number<'a> {
 pub(crate) fn number_at(bytes: &[u8]) -> Option<Number<'_>>
     ensures value { option_map number_view result ≡ number_at bytes.now }
     ensures within { IfSome result (λ n. IsWithin (number_view n)) }
+    ensures digits { IfSome result (λ n. HasDigits n) }
 {
     if begins_with(bytes, b'-') {
         return unsigned_at(true, &bytes[1..]);
@@ -33,7 +34,8 @@ pub(crate) fn number_at(bytes: &[u8]) -> Option<Number<'_>>
 /// The number of a percentage, a number and `%` at once behind it. Else `None`.
 #[tactic(auto, unfolding(crate::specs::ColorNumber::percent_at))]
 pub(crate) fn percent_at(bytes: &[u8]) -> Option<Number<'_>>
-    ensures { option_map number_view result ≡ percent_at bytes.now }
+    ensures value { option_map number_view result ≡ percent_at bytes.now }
+    ensures digits { IfSome result (λ n. HasDigits n) }
 {
     if is_percent(bytes) {
         return number_at(&bytes[..bytes.len() - 1]);
@@ -63,6 +65,7 @@ pub(crate) fn begins_with(bytes: &[u8], byte: u8) -> bool
 fn unsigned_at(negative: bool, bytes: &[u8]) -> Option<Number<'_>>
     ensures value { option_map number_view result ≡ unsigned_at negative bytes.now }
     ensures within { IfSome result (λ n. IsWithin (number_view n)) }
+    ensures digits { IfSome result (λ n. HasDigits n) }
 {
     if are_digits(bytes) {
         return number_with(negative, bytes, &[]);
@@ -80,6 +83,7 @@ fn number_with<'a>(negative: bool, whole: &'a [u8], fraction: &'a [u8]) -> Optio
     requires { IsTrue (list_all is_ascii_digit fraction.now) }
     ensures value { option_map number_view result ≡ number_with negative whole.now fraction.now }
     ensures within { IfSome result (λ n. IsWithin (number_view n)) }
+    ensures digits { IfSome result (λ n. HasDigits n) }
 {
     if is_within(whole, fraction) {
         return Some(Number {
