@@ -1,0 +1,96 @@
+#!/usr/bin/env python3
+"""Joins the rows of crates/worked_rows/rows/*.jsonl, in the order of the files' names, into the crate's stdin and stdout.
+
+    checks/rows.py            writes both files
+    checks/rows.py --check    says whether they are what it would write, by its exit status
+    checks/rows.py --run PROGRAM [NAME.jsonl ..]    runs rows by the program itself, in a folder with their files
+
+Each line of those files is one row: a JSON object in the form that crates/worked_rows/src/main.rt gives. Names of rows differ. Rows
+with `fails` are left out by --run, since no real call is made to fail.
+"""
+
+import json
+import os
+import subprocess
+import sys
+import tempfile
+
+HERE = os.path.dirname(os.path.abspath(__file__))
+CRATE = os.path.join(HERE, "..", "crates", "worked_rows")
+ROWS = os.path.join(CRATE, "rows")
+
+
+def row_files():
+    return sorted(name for name in os.listdir(ROWS) if name.endswith(".jsonl"))
+
+
+def read_rows(names):
+    rows = []
+    for name in names:
+        with open(os.path.join(ROWS, name), encoding="utf-8") as file:
+            rows += [(line.strip(), json.loads(line)) for line in file if line.strip()]
+    names = [row["name"] for _, row in rows]
+    twice = sorted({name for name in names if names.count(name) > 1})
+    if twice:
+        sys.exit("rows: these names stand twice: " + ", ".join(twice))
+    return rows
+
+
+def joined():
+    """What stdin and stdout have to be."""
+    rows = read_rows(row_files())
+    return ("".join(line + "\n" for line, _ in rows), "".join(f"ok {row['name']}\n" for _, row in rows))
+
+
+def content(value):
+    if isinstance(value, list):
+        return b"".join(content(piece) for piece in value)
+    if isinstance(value, str):
+        return value.encode()
+    if "times" in value:
+        return content(value["of"]) * value["times"]
+    return bytes.fromhex(value["hex"])
+
+
+def run_row(program, row):
+    """What the program gives, as out, err and status."""
+    with tempfile.TemporaryDirectory() as folder:
+        for name, value in row.get("files", {}).items():
+            with open(os.path.join(folder, name), "wb") as file:
+                file.write(content(value))
+        words = [content(word).decode() for word in row["words"]]
+        run = subprocess.run([program] + words, cwd=folder, capture_output=True, timeout=60)
+        return (run.stdout, run.stderr, run.returncode)
+
+
+def run_rows(program, names):
+    failed = 0
+    for _, row in read_rows(names or row_files()):
+        # The system hands no word over that is longer than 128 KiB.
+        if "fails" in row or any(len(content(word)) >= 131072 for word in row["words"]):
+            continue
+        if run_row(program, row) != (content(row["out"]), content(row["err"]), row["status"]):
+            failed += 1
+            print("FAILED " + row["name"])
+    print(f"{failed} failed")
+    return 1 if failed else 0
+
+
+def main(arguments):
+    if arguments[:1] == ["--run"]:
+        return run_rows(os.path.abspath(arguments[1]), arguments[2:])
+    texts = dict(zip(("stdin", "stdout"), joined()))
+    stored = True
+    for name, text in texts.items():
+        path = os.path.join(CRATE, name)
+        if arguments[:1] == ["--check"]:
+            with open(path, encoding="utf-8") as file:
+                stored = stored and file.read() == text
+        else:
+            with open(path, "w", encoding="utf-8") as file:
+                file.write(text)
+    return 0 if stored else 1
+
+
+if __name__ == "__main__":
+    sys.exit(main(sys.argv[1:]))

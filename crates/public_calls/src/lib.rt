@@ -1,0 +1,8 @@
+//! Tests of public calls that no command of the program reaches: one module for each crate that has some.
+//!
+//! A row that a command reaches stands in `worked_rows`, where it costs no proof. Here each call that can lack memory is made
+//! once with ample memory, and its answer is compared.
+#![tactic(auto)]
+
+#[cfg(test)]
+mod io_calls;
