@@ -25,8 +25,6 @@ mod laws;
 mod paths;
 mod reading;
 mod starts;
-#[cfg(test)]
-mod tests;
 mod texts;
 mod tokens;
 mod tree;
@@ -38,6 +36,7 @@ pub use json_tokens::JsonKind;
 pub use laws::{spells_one_tree, texts_have_one_fault, written_trees_are_spelled};
 pub use paths::{Here, Path, PathPart, path_to};
 pub use reading::parse;
-pub use texts::{Bytes, NumText, Text};
+pub use shared_text::Text;
+pub use texts::{Bytes, NumText};
 pub use tree::{Items, Json, Member, Members};
 pub use writing::{write, write_path, write_text};

@@ -1,21 +1,20 @@
-ghost use Rattle.std.specs.Prelude.{◌≡◌, ◌≤◌, ◌<◌, ℕ, List, [], ◌∷◌, ◌++◌, Some, length, not, true, if◌then◌else◌, OnOk, IfOk};
-ghost use Rattle.std.specs.BTreeSet.{contains_text};
+ghost use Rattle.std.specs.Prelude.{◌≡◌, ◌≤◌, ◌<◌, IsUtf8, ℕ, List, [], ◌∷◌, ◌++◌, Some, length, not, true, if◌then◌else◌, OnOk, IfOk};
 ghost use Rattle.std.specs.Str.{bytes_eq};
 ghost use Rattle.json_tokens.specs.Production.{Gives, GivesSurely};
 ghost use Rattle.json_tokens.specs.Runs.{first_of};
 ghost use Rattle.json_tokens.specs.Sequence.{BehindByte};
 ghost use Rattle.decimal_json.specs.Grammar.{IsNew, SpellsKey, SpellsValue, SpellsItems, SpellsTail, SpellsMembers, SpellsMore};
 ghost use Rattle.decimal_json.specs.Parses.{Parses};
-ghost use Rattle.decimal_json.specs.Reading.{AreNoted, GivesTurn, SpellsMembersOn, SpellsNamed, SpellsPair, SpellsSome, GivesWhole, pair_of};
+ghost use Rattle.decimal_json.specs.Reading.{AreNoted, is_noted, GivesTurn, SpellsMembersOn, SpellsNamed, SpellsPair, SpellsSome, GivesWhole, pair_of};
 ghost use Rattle.decimal_json.specs.Tree.{no_trees, no_fields, trees_of, fields_of};
 ghost use Rattle.decimal_json.specs.View.{tree_of};
 
 use crate::fault::JsonFault;
 use crate::starts::{Start, start_of};
-use crate::texts::Text;
 use crate::tokens::{read_number, read_string, read_text, read_word};
 use crate::tree::{Items, Json, Member, Members};
 use json_tokens::{Cursor, Halt, JsonKind};
+use shared_text::{Document, Text};
 use std::alloc::{AllocError, Global};
 use std::collections::BTreeSet;
 
@@ -26,7 +25,8 @@ const MAX_OPEN: usize = 64;
 pub fn parse(alloc: Global, bytes: &[u8]) -> Result<Result<Json, JsonFault>, AllocError>
     ensures { IfOk result (Parses bytes.now) }
 {
-    let mut cursor = Cursor::new(bytes);
+    let document = Document::copy_of(alloc, bytes)?;
+    let mut cursor = Cursor::new(&document);
     match read_whole(alloc, &mut cursor) {
         Ok(json) => Ok(Ok(json)),
         Err(Halt::Fault(kind)) => Ok(Err(JsonFault {
@@ -64,7 +64,7 @@ fn read_value(alloc: Global, cursor: &mut Cursor<'_>, depth: usize) -> Result<Js
         Start::List => read_list(alloc, cursor, depth),
         Start::Object => read_object(alloc, cursor, depth),
         Start::Text => read_text(alloc, cursor),
-        Start::Number => read_number(alloc, cursor),
+        Start::Number => read_number(cursor),
         Start::True => read_word(cursor, "true", Json::Bool(true)),
         Start::False => read_word(cursor, "false", Json::Bool(false)),
         Start::Null => read_word(cursor, "null", Json::Null),
@@ -185,7 +185,7 @@ fn read_pair(
     alloc: Global,
     cursor: &mut Cursor<'_>,
     depth: usize,
-    keys: &mut BTreeSet<String>,
+    keys: &mut BTreeSet<Text>,
 ) -> Result<Member, Halt>
     requires { depth ≤ MAX_OPEN }
     ensures gives { (taken : List (List ℕ)) → AreNoted keys.old taken → Gives (SpellsPair depth taken) pair_of cursor.old result cursor.new }
@@ -218,11 +218,7 @@ fn read_named(alloc: Global, cursor: &mut Cursor<'_>, depth: usize) -> Result<Js
 }
 
 // Reads a key that is none of these, its marks included, and notes it.
-fn read_key(
-    alloc: Global,
-    cursor: &mut Cursor<'_>,
-    keys: &mut BTreeSet<String>,
-) -> Result<Text, Halt>
+fn read_key(alloc: Global, cursor: &mut Cursor<'_>, keys: &mut BTreeSet<Text>) -> Result<Text, Halt>
     ensures gives { (taken : List (List ℕ)) → AreNoted keys.old taken → Gives (BehindByte 34 (SpellsKey taken)) (λ key. key) cursor.old result cursor.new }
     ensures noted { IfOk result (λ key. (taken : List (List ℕ)) → AreNoted keys.old taken → IsNew key taken × AreNoted keys.new (taken ++ key ∷ [])) }
     ensures shorter { length cursor.new ≤ length cursor.old }
@@ -230,15 +226,15 @@ fn read_key(
     if !cursor.take_if(b'"') {
         return Err(Halt::Fault(JsonKind::Syntax));
     }
-    let start = cursor.rest();
+    let start = cursor.fork();
     let key = match read_string(alloc, cursor) {
         Ok(key) => key,
         Err(halt) => return Err(halt),
     };
-    if !note_key(alloc, keys, key.as_str())? {
+    if !note_key(keys, &key)? {
         // The fault is at the mark that closes the key.
-        let taken = start.len() - cursor.rest().len();
-        *cursor = Cursor::new(start);
+        let taken = start.rest().len() - cursor.rest().len();
+        *cursor = start;
         cursor.take_front(taken - 1);
         return Err(Halt::Fault(JsonKind::DuplicateKey));
     }
@@ -246,11 +242,12 @@ fn read_key(
 }
 
 // Notes a key, and tells whether it was not noted yet.
-fn note_key(alloc: Global, keys: &mut BTreeSet<String>, key: &str) -> Result<bool, AllocError>
-    ensures fresh { IfOk result (λ fresh. fresh ≡ not (contains_text keys.old key.now)) }
-    ensures noted { OnOk result ((q : List ℕ) → contains_text keys.new q ≡ (if bytes_eq key.now q then true else contains_text keys.old q)) }
+fn note_key(keys: &mut BTreeSet<Text>, key: &Text) -> Result<bool, AllocError>
+    ensures fresh { IfOk result (λ fresh. fresh ≡ not (is_noted keys.old key.now)) }
+    ensures noted { OnOk result ((q : List ℕ) → is_noted keys.new q ≡ (if bytes_eq key.now q then true else is_noted keys.old q)) }
+    ensures utf8 { IsUtf8 key.now }
 {
-    let name = String::from_str(alloc, key)?;
+    let name = key.share()?;
     let Ok(fresh) = keys.insert(name) else {
         return Err(AllocError);
     };

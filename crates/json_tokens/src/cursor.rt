@@ -1,14 +1,17 @@
-ghost use Rattle.std.specs.Prelude.{◌≡◌, ◌↔◌, ◌≤◌, [], ◌∷◌, ◌++◌, ℕ, List, length, take, drop, IsTrue, Some, None, IfSome};
+ghost use Rattle.std.specs.Prelude.{◌≡◌, ◌↔◌, ◌≤◌, [], ◌∷◌, ◌++◌, ℕ, List, length, take, drop, IsTrue, Some, None, IfSome, IfOk, IsUtf8};
 ghost use Rattle.std.specs.Bool.{OnTrue, OnFalse};
 ghost use Rattle.json_tokens.specs.Runs.{first_of, Stops};
 ghost use Rattle.json_tokens.specs.Sequence.{is_space, IsSkipped};
 ghost use Rattle.std.specs.List.{list_all};
 
+use shared_text::{Document, Text};
+use std::alloc::AllocError;
 use std::marker::Model;
 
 /// A place in a byte string, which clauses see as the bytes that are left.
 #[derive(Drop)]
 pub struct Cursor<'a> {
+    document: &'a Document,
     rest: &'a [u8],
 }
 
@@ -18,13 +21,40 @@ impl<'a> Model for Cursor<'a> {
     ghost Value = { List ℕ };
 
     ghost view = { λ a. a.rest.now };
+
+    ghost use Rattle.shared_text.specs.Ranges.{IsRest};
+
+    ghost invariant = { λ a. IsRest a.rest.now a.document.now };
 }
 
 impl<'a> Cursor<'a> {
-    pub fn new(bytes: &'a [u8]) -> Cursor<'a>
-        ensures { result ≡ bytes.now }
+    /// The start of a document.
+    pub fn new(document: &'a Document) -> Cursor<'a>
+        ensures { result ≡ document.now }
     {
-        Cursor { rest: bytes }
+        Cursor {
+            document,
+            rest: document.as_slice(),
+        }
+    }
+
+    /// The same place.
+    pub fn fork(&self) -> Cursor<'a>
+        ensures { result ≡ self.now }
+    {
+        Cursor {
+            document: self.document,
+            rest: self.rest,
+        }
+    }
+
+    /// The next bytes as a text. No byte is copied.
+    pub fn text(&self, count: usize) -> Result<Text, AllocError>
+        requires within { count ≤ length self.now }
+        requires utf8 { IsUtf8 (take count self.now) }
+        ensures { IfOk result (λ text. text ≡ take count self.now) }
+    {
+        Text::of_rest(self.document, self.rest, count)
     }
 
     /// The bytes that are left.
