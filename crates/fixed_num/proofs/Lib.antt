@@ -3,4 +3,5 @@ pub mod Decimals
 pub mod Scales
 pub mod Signs
 pub mod Grammar
+pub mod JsonNumbers
 pub mod RoundTrip

@@ -9,7 +9,9 @@ use Rattle.std.proofs.lemmas.Nat.{div_below, mod_below, div-add-mod', pow-add}
 use Rattle.std.proofs.lemmas.Str.{IsAscii-append}
 use Rattle.std.proofs.lemmas.Str.Ascii.{IsAscii-nil, IsAscii-cons}
 use Rattle.std.proofs.Math.Nat.{pow-suc}
+use Rattle.std.specs.Bool.{IsTrue}
 use Rattle.std.specs.Str.{IsAscii}
+use Rattle.json_tokens.specs.Number.{is_number}
 use Rattle.fixed_num.specs.Decimal.{read_text, value_of, in_range, number_of}
 use Rattle.fixed_num.specs.Number.{bound}
 use Rattle.fixed_num.specs.NumberGrammar.{IsDigits, IsWhole, IsFraction, minus_text}
@@ -17,6 +19,7 @@ use Rattle.fixed_num.specs.NumberText.{number_text, magnitude_text, fraction_tex
 use Rattle.fixed_num.specs.Rounding.{nearest}
 use Rattle.fixed_num.proofs.Decimals.{digit_range, number_of-append, number_of-push, list_all_both, nearest-whole, ten_pow}
 use Rattle.fixed_num.proofs.Grammar.{read_text-grammar, no_bytes}
+use Rattle.fixed_num.proofs.JsonNumbers.{read_is_json_number}
 
 digit_byte : (n : ℕ) → n < 10 → is_ascii_digit (48 + n) ≡ true
 digit_byte n h = grind arith
@@ -165,6 +168,10 @@ pub number_text_is_read : (z : ℤ) → unsigned_abs z ≤ bound → read_text (
 unfolding number_text
 number_text_is_read (pos n) h = magnitude_is_read false n h ∙ rw (le-leb n bound h) refl
 number_text_is_read (negsuc n) h = magnitude_is_read true (suc n) h ∙ rw (le-leb (suc n) bound h) refl
+
+-- so it is a JSON number
+pub written_number : (z : ℤ) → unsigned_abs z ≤ bound → IsTrue (is_number (number_text z))
+written_number z h = read_is_json_number (number_text z) (λ refused. let same = sym (number_text_is_read z h) ∙ refused in cc)
 
 -- the text of a number is ASCII
 digits_ascii : (ds : List ℕ) → list_all is_ascii_digit ds ≡ true → IsAscii ds

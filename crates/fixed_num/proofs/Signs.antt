@@ -1,13 +1,14 @@
 -- Clauses by sign and magnitude, joined to those by whole numbers.
-use Rattle.std.proofs.Common.{◌≡◌, ℕ, zero, suc, ◌+◌, ◌*◌, ◌/◌, ◌<◌, ◌≤◌, ℤ, pos, negsuc, neg_ℤ, ◌*ℤ◌, ◌-ℤ◌, ◌+ℤ◌, List, ◌∷◌, ◌++◌, Bool, refl, sym, ap, ◌∙◌, arith, length, take, set}
+use Rattle.std.proofs.Common.{◌≡◌, ℕ, zero, suc, ◌+◌, ◌*◌, ◌/◌, ◌%◌, ◌<◌, ◌≤◌, ℤ, pos, negsuc, neg_ℤ, ◌*ℤ◌, ◌-ℤ◌, ◌+ℤ◌, List, ◌∷◌, ◌++◌, Bool, refl, sym, ap, ◌∙◌, arith, length, take, set}
 use Rattle.std.specs.Prelude.{int_div, int_rem, nat_abs, if◌then◌else◌, nat_lt, nat_eq, Ok, true, false, not}
+use Rattle.std.proofs.lemmas.Bool.{le-leb}
 use Rattle.std.proofs.lemmas.Int.{quot-rem}
 use Rattle.std.proofs.Math.IntN.{+ℤ_comm, *ℤ_comm, +ℤ-neg_ℤ_cancel, negsuc-*ℤ-pos}
 use Rattle.std.proofs.lemmas.List.{length-take-le, take_more_set}
 use Rattle.std.proofs.lemmas.Nat.{div_below}
 use lib.Signed.{lt_z}
 use mathlib.Core.Bool.{beq}
-use Rattle.fixed_num.specs.Number.{floor_of, bounded, quotient, remainder}
+use Rattle.fixed_num.specs.Number.{bound, floor_of, bounded, quotient, remainder}
 use Rattle.fixed_num.specs.NumberText.{number_text, magnitude_text}
 use Rattle.fixed_num.specs.Rounding.{nearest, rounded}
 
@@ -38,8 +39,22 @@ remainder_is x y =
     let whole : x ≡ int_rem x y +ℤ y *ℤ int_div x y = sym (quot-rem x y) ∙ +ℤ_comm (int_div x y *ℤ y) (int_rem x y) ∙ ap (λ w. int_rem x y +ℤ w) (*ℤ_comm (int_div x y) y) in
     sym (ap (λ w. w -ℤ y *ℤ int_div x y) whole ∙ +ℤ-neg_ℤ_cancel (int_rem x y) (y *ℤ int_div x y))
 
-pub remainder_by_rem : (x y : ℤ) → (nat_abs y ≡ 0 → ⊥) → Ok (int_rem x y) ≡ remainder x y
-remainder_by_rem x y h = let some : nat_eq (nat_abs y) 0 ≡ false = grind arith in rw some (ap Ok (remainder_is x y))
+-- the same by sign and magnitudes
+rem_by_magnitudes : (x y : ℤ) → (if lt_z x (pos 0) then neg_ℤ (pos (nat_abs x % nat_abs y)) else pos (nat_abs x % nat_abs y)) ≡ int_rem x y
+rem_by_magnitudes (pos n) y = rw (none_below n) refl
+rem_by_magnitudes (negsuc n) y = refl
+
+bounded_signed : (negative : Bool) (m : ℕ) → m ≤ bound → bounded (if negative then neg_ℤ (pos m) else pos m) ≡ Ok (if negative then neg_ℤ (pos m) else pos m)
+bounded_signed true zero h = refl
+bounded_signed true (suc m) h = rw (le-leb (suc m) bound h) refl
+bounded_signed false m h = rw (le-leb m bound h) refl
+
+pub remainder_by_magnitudes : (x y : ℤ) → nat_abs x ≤ bound → (nat_abs y ≡ 0 → ⊥) →
+    bounded (if lt_z x (pos 0) then neg_ℤ (pos (nat_abs x % nat_abs y)) else pos (nat_abs x % nat_abs y)) ≡ remainder x y
+remainder_by_magnitudes x y within h =
+    let some : nat_eq (nat_abs y) 0 ≡ false = grind arith in
+    let left : nat_abs x % nat_abs y ≤ bound = omega arith in
+    rw some (bounded_signed (lt_z x (pos 0)) (nat_abs x % nat_abs y) left ∙ ap Ok (rem_by_magnitudes x y ∙ remainder_is x y))
 
 -- the text by sign and magnitude
 pub number_text_is : (z : ℤ) → (if lt_z z (pos 0) then 45 ∷ magnitude_text (nat_abs z) else magnitude_text (nat_abs z)) ≡ number_text z

@@ -1,5 +1,5 @@
--- Counts that stop growing once they are past every bound. The contracts of private functions alone
--- cite these. Source: own.
+-- Counts that stop growing once they are past every bound. The contracts of calls that read digits
+-- alone cite these. Source: own.
 use Rattle.std.specs.Prelude.{ℕ, min}
 
 -- 10^27, a number past every bound

@@ -1,10 +1,10 @@
-ghost use Rattle.std.specs.Prelude.{◌≡◌, ◌≢◌, ◌<◌, ◌≤◌, ◌++◌, length, slice_index, nat_eq, IsTrue};
+ghost use Rattle.std.specs.Prelude.{◌≡◌, ◌≤◌, ◌++◌, IsTrue};
 ghost use Rattle.std.specs.Char.{is_ascii_digit};
 ghost use Rattle.std.specs.List.{list_all};
 ghost use Rattle.fixed_num.specs.Decimal.{value_of, in_range, read_exponent_digits, read_exponent_sign, read_exponent, read_fraction_digits, read_fraction, read_whole, read_text};
 ghost use Rattle.fixed_num.specs.Saturation.{past};
 
-use crate::digits::{are_digits, magnitude, split_digits};
+use crate::digits::{are_digits, begins_with, magnitude, split_digits};
 use crate::fixed::Fixed;
 
 /// Why bytes are no number.
@@ -26,15 +26,6 @@ pub fn read_decimal(bytes: &[u8]) -> Result<Fixed, NumFault>
         return whole_from(true, &bytes[1..]);
     }
     whole_from(false, bytes)
-}
-
-// Whether the first byte is this one, which is not zero.
-fn begins_with(bytes: &[u8], byte: u8) -> bool
-    requires { byte ≢ 0 }
-    ensures value { result ≡ nat_eq (slice_index bytes.now 0) byte }
-    ensures some { IsTrue result → 0 < length bytes.now }
-{
-    bytes.first() == Some(&byte)
 }
 
 // The number whose whole part begins the bytes.

@@ -1,4 +1,4 @@
-ghost use Rattle.std.specs.Prelude.{◌≡◌, ◌≤◌, ◌<◌, ◌+◌, ◌*◌, ◌^◌, ◌++◌, length, take, slice_index, IsTrue};
+ghost use Rattle.std.specs.Prelude.{◌≡◌, ◌≢◌, ◌≤◌, ◌<◌, ◌+◌, ◌*◌, ◌^◌, ◌++◌, length, take, slice_index, nat_eq, IsTrue};
 ghost use Rattle.std.specs.Char.{is_ascii_digit};
 ghost use Rattle.std.specs.List.{list_all, prefix_len};
 ghost use Rattle.fixed_num.specs.Decimal.{number_of, scaled, is_digits, leading_digits, after_digits};
@@ -9,8 +9,17 @@ ghost use Rattle.fixed_num.specs.Saturation.{past, saturated};
 // slice too, and so above each exponent that matters.
 const PAST: u128 = 1_000_000_000_000_000_000_000_000_000;
 
+/// Whether the first byte is this one, which is not zero.
+pub fn begins_with(bytes: &[u8], byte: u8) -> bool
+    requires { byte ≢ 0 }
+    ensures value { result ≡ nat_eq (slice_index bytes.now 0) byte }
+    ensures some { IsTrue result → 0 < length bytes.now }
+{
+    bytes.first() == Some(&byte)
+}
+
 /// The digits that the bytes begin with, and what follows them.
-pub(crate) fn split_digits(bytes: &[u8]) -> (&[u8], &[u8])
+pub fn split_digits(bytes: &[u8]) -> (&[u8], &[u8])
     ensures digits { result.0.now ≡ leading_digits bytes.now }
     ensures rest { result.1.now ≡ after_digits bytes.now }
     ensures all { IsTrue (list_all is_ascii_digit result.0.now) }
@@ -29,10 +38,17 @@ fn count_digits(bytes: &[u8]) -> usize
 }
 
 /// Whether there are bytes, and all are digits.
-pub(crate) fn are_digits(bytes: &[u8]) -> bool
+pub fn are_digits(bytes: &[u8]) -> bool
     ensures { result ≡ is_digits bytes.now }
 {
     !bytes.is_empty() && count_digits(bytes) == bytes.len()
+}
+
+/// The number that digits write, or 10^27 where it is greater.
+pub fn saturated_number(digits: &[u8]) -> u128
+    ensures { result ≡ saturated (number_of digits.now) }
+{
+    extended(0, digits)
 }
 
 /// The millionths, rounded, of the digits of `whole` and `fraction` with the point between them and
@@ -43,7 +59,7 @@ pub(crate) fn magnitude(whole: &[u8], fraction: &[u8], is_down: bool, exponent: 
         scaled (number_of (whole.now ++ fraction.now)) (length fraction.now)
         is_down (number_of exponent.now)) }
 {
-    let size = extended(0, exponent);
+    let size = saturated_number(exponent);
     let before_point = whole.len() as u128 + 6;
     if !is_down {
         return moved(whole, fraction, before_point + size);
@@ -80,7 +96,10 @@ fn first_digits(whole: &[u8], fraction: &[u8], kept: u128) -> u128
 {
     let in_whole = kept.min(whole.len() as u128) as usize;
     let in_fraction = (kept - in_whole as u128).min(fraction.len() as u128) as usize;
-    extended(extended(0, &whole[..in_whole]), &fraction[..in_fraction])
+    extended(
+        saturated_number(&whole[..in_whole]),
+        &fraction[..in_fraction],
+    )
 }
 
 // The number that the digits write behind those of `front`, saturated.

@@ -1,7 +1,7 @@
-ghost use Rattle.std.specs.Prelude.{IsAscii, ◌≡◌, ◌≤◌, ℤ, pos, neg_ℤ, if◌then◌else◌, unsigned_abs, IfSome, IsSome, ◌↔◌, take, length};
+ghost use Rattle.std.specs.Prelude.{IsAscii, ◌≡◌, ◌≤◌, ℤ, pos, neg_ℤ, if◌then◌else◌, unsigned_abs, IfSome, IsSome, IsTrue, ◌↔◌, take, length};
 ghost use Rattle.fixed_num.specs.Number.{bound, bounded};
 
-use crate::rounding::nearest;
+use crate::rounding::{divided, nearest};
 use crate::text::put_number;
 use std::marker::Model;
 
@@ -56,6 +56,7 @@ fn signed(negative: bool, magnitude: u128) -> Result<Fixed, Arith>
 impl Fixed {
     ghost use Rattle.fixed_num.specs.Number.{sum, difference, product, quotient, remainder, absolute, floor_of, ceil_of, round_of};
     ghost use Rattle.fixed_num.specs.NumberText.{number_text};
+    ghost use Rattle.json_tokens.specs.Number.{is_number};
 
     /// The number of this many millionths, or `None` exactly where they are past the bound.
     pub fn from_millionths(millionths: i128) -> Option<Fixed>
@@ -124,9 +125,8 @@ impl Fixed {
         if other.value == 0 {
             return Err(Arith::DivideByZero);
         }
-        Ok(Fixed {
-            value: self.value % other.value,
-        })
+        let (_, left) = divided(self.value.unsigned_abs(), other.value.unsigned_abs());
+        signed(self.value < 0, left)
     }
 
     /// The number on the other side of zero.
@@ -149,8 +149,16 @@ impl Fixed {
     pub fn floor(self) -> Fixed
         ensures { result ≡ floor_of self }
     {
+        let magnitude = self.value.unsigned_abs();
+        if self.value < 0 {
+            let (units_above, _) = divided(magnitude - 1, ONE);
+            return Fixed {
+                value: -((units_above + 1) as i128 * UNIT),
+            };
+        }
+        let (units, _) = divided(magnitude, ONE);
         Fixed {
-            value: self.value.div_euclid(UNIT) * UNIT,
+            value: units as i128 * UNIT,
         }
     }
 
@@ -172,13 +180,14 @@ impl Fixed {
         }
     }
 
-    /// Puts the number's text at the front of `out` and answers its length in bytes, at most 48.
-    /// What stands behind the text may be anything.
+    /// Puts the number's text, a JSON number, at the front of `out` and answers its length in bytes,
+    /// at most 48. What stands after the text may be anything.
     pub fn write(self, out: &mut [u8; 48]) -> usize
         ensures text { take result out.new ≡ number_text self }
         ensures length { result ≡ length (number_text self) }
         ensures within { result ≤ 48 }
         ensures ascii { IsAscii (number_text self) }
+        ensures number { IsTrue (is_number (number_text self)) }
     {
         put_number(out, self.value < 0, self.value.unsigned_abs())
     }

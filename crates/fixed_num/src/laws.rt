@@ -1,11 +1,12 @@
 //! Laws of the definitions that the contracts cite. Each is a function with an empty body, which is
 //! proved and never needs a call.
 
-ghost use Rattle.std.specs.Prelude.{◌≡◌, ◌≢◌, ◌≤◌, ◌<◌, ◌≤ℤ◌, ◌<ℤ◌, ◌+ℤ◌, ◌*ℤ◌, ℕ, ℤ, pos, List, Bool, Ok, Err, unsigned_abs};
+ghost use Rattle.std.specs.Prelude.{◌≡◌, ◌≢◌, ◌≤◌, ◌<◌, ◌≤ℤ◌, ◌<ℤ◌, ◌+ℤ◌, ◌*ℤ◌, ℕ, ℤ, pos, List, Bool, Ok, Err, IsTrue, unsigned_abs};
 ghost use Rattle.fixed_num.specs.Decimal.{read_text, value_of};
 ghost use Rattle.fixed_num.specs.Number.{bound, remainder, floor_of};
 ghost use Rattle.fixed_num.specs.NumberGrammar.{IsNumberText, HasNumberParts};
 ghost use Rattle.fixed_num.specs.NumberText.{number_text};
+ghost use Rattle.json_tokens.specs.Number.{is_number};
 ghost use Rattle.fixed_num.specs.declared.decimal.NumFault.TheVariants.{NotNumber};
 
 /// The texts that are read are those of the grammar of RFC 8259 section 6, each as the number of
@@ -19,6 +20,13 @@ pub fn number_texts_are_the_grammar()
         (is_down : Bool) (exponent : List ℕ) →
         IsNumberText bs negative whole fraction is_down exponent → read_text bs ≢ Err NotNumber }
     ensures only { (bs : List ℕ) → read_text bs ≢ Err NotNumber → HasNumberParts bs }
+{}
+
+/// The texts that are read are the JSON numbers of `json_tokens`: of one of these, the only fault is
+/// `Range`.
+pub fn json_numbers_are_read()
+    ensures read { (bs : List ℕ) → IsTrue (is_number bs) → read_text bs ≢ Err NotNumber }
+    ensures only { (bs : List ℕ) → read_text bs ≢ Err NotNumber → IsTrue (is_number bs) }
 {}
 
 /// Reading the text of a number gives the number back.

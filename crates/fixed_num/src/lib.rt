@@ -11,8 +11,8 @@
 //! Each answer of the arithmetic is the exact rational result, rounded once to the nearest millionth
 //! with halves away from zero. It is a fault exactly where that is past 10^20 units or the divisor
 //! is zero. The texts that are read are exactly the JSON numbers, of any length and any exponent,
-//! each as its exact value rounded once, and a written text reads as the number that it is of. No
-//! call takes memory, and each takes time linear in its text.
+//! each as its exact value rounded once. A written text is a JSON number too, and reads as the number
+//! that it is of. No call takes memory, and each takes time linear in its text.
 #![tactic(auto)]
 
 mod color;
@@ -21,14 +21,14 @@ mod digits;
 mod fixed;
 mod laws;
 mod rounding;
-#[cfg(test)]
-mod tests;
 mod text;
 
 pub use color::Color;
 pub use decimal::{NumFault, read_decimal};
+pub use digits::{are_digits, begins_with, saturated_number, split_digits};
 pub use fixed::{Arith, Fixed};
 pub use laws::{
-    floor_is_just_below, number_texts_are_the_grammar, remainder_is_left, written_numbers_are_read,
+    floor_is_just_below, json_numbers_are_read, number_texts_are_the_grammar, remainder_is_left,
+    written_numbers_are_read,
 };
-pub use rounding::nearest_is_nearest;
+pub use rounding::{nearest, nearest_is_nearest};

@@ -2,6 +2,7 @@ ghost use Rattle.std.specs.Prelude.{◌≡◌, ◌≤◌, ◌<◌, ◌+◌, ◌^
 ghost use Rattle.fixed_num.specs.NumberText.{last_digits, without_end_zeros, fraction_text, magnitude_text};
 
 use crate::fixed::ONE;
+use crate::rounding::divided;
 use itoa::Buffer;
 
 /// Puts the text of a number at the front, and answers where it ends.
@@ -24,10 +25,11 @@ fn put_magnitude(out: &mut [u8; 48], at: usize, magnitude: u128) -> usize
     ensures within { result ≤ 48 }
     ensures text { take result out.new ≡ take at out.old ++ magnitude_text magnitude }
 {
+    let (whole, fraction) = divided(magnitude, ONE);
     let mut buffer = Buffer::new();
-    let whole = buffer.format(magnitude / ONE).as_bytes();
-    put(out, at, whole);
-    put_fraction(out, at + whole.len(), (magnitude % ONE) as u32)
+    let digits = buffer.format(whole).as_bytes();
+    put(out, at, digits);
+    put_fraction(out, at + digits.len(), fraction as u32)
 }
 
 // Puts bytes at a place.

@@ -1,3 +1,5 @@
+pub mod NewtonSteps
 pub mod Squares
 pub mod WholePowers
+pub mod PartPowers
 pub mod FixedBases

@@ -3,6 +3,7 @@ use Rattle.std.proofs.Common.{◌≡◌, ℕ, zero, suc, ◌+◌, ◌-◌, ◌*�
 use Rattle.std.specs.Prelude.{Ok, nat_eq}
 use Rattle.std.proofs.lemmas.Bool.{cases_eq, eq-eqb, ne_eqb}
 use Rattle.std.proofs.lemmas.Nat.{shr-shr, div_below}
+use Rattle.std.proofs.Math.Nat.{pow-suc, one-le-pow}
 use Rattle.power_fixed.specs.Power.{one, times, whole_within, whole_of}
 
 -- one step, by the case of the exponent
@@ -80,5 +81,7 @@ pub one_digit_less : (n j k : ℕ) → k ≡ j + 1 → n / 2 ^ j / 2 ≡ n / 2 ^
 one_digit_less n j k h = shr-shr n j 1 ∙ ap (λ m. n / 2 ^ m) (sym h)
 
 -- no digit is left
-pub no_digits : (n : ℕ) → n < 2 ^ 67 → n / 2 ^ 67 ≡ 0
-no_digits n h = omega (arith, div_below n (2 ^ 67) 1 (omega arith) (omega arith))
+pub no_digits : (n highest k : ℕ) → n < 2 * 2 ^ highest → k ≡ suc highest → n / 2 ^ k ≡ 0
+no_digits n highest k h e =
+    let power : 2 ^ k ≡ 2 * 2 ^ highest = ap (λ m. 2 ^ m) e ∙ pow-suc 2 highest ∙ omega arith in
+    omega (arith, div_below n (2 ^ k) 1 (omega (arith, one-le-pow highest 2 (omega arith))) (omega arith))

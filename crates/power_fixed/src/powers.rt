@@ -6,9 +6,6 @@ use fixed_num::{Arith, Fixed};
 
 const UNIT: u128 = 1_000_000;
 
-// How many binary digits a whole exponent has at most: 10^20 is below 2^67.
-const WHOLE_DIGITS: u32 = 67;
-
 // How many binary digits of the exponent's fraction count.
 const FRACTION_DIGITS: u32 = 20;
 
@@ -50,12 +47,15 @@ fn square(root: Result<Fixed, Arith>) -> Result<Fixed, Arith>
 
 // The base to a whole power, from its highest binary digit on.
 fn whole_power(base: Fixed, exponent: u128) -> Result<Fixed, Arith>
-    requires { exponent < 2 ^ 67 }
     ensures { result ≡ whole_of base exponent }
 {
     let mut power = Ok(unit());
-    for taken in 0..WHOLE_DIGITS {
-        power = doubled_power(base, power, exponent >> (WHOLE_DIGITS - 1 - taken));
+    if exponent == 0 {
+        return power;
+    }
+    let highest = exponent.ilog2();
+    for taken in 0..highest + 1 {
+        power = doubled_power(base, power, exponent >> (highest - taken));
     }
     power
 }
@@ -74,7 +74,7 @@ fn doubled_power(base: Fixed, half: Result<Fixed, Arith>, exponent: u128) -> Res
     }
 }
 
-// The base to the power of a fraction in millionths, digit by digit.
+// The base to the power of a fraction in millionths, digit by digit, until nothing is left of it.
 #[tactic(auto, unfolding(crate::specs::Power::part_of, crate::specs::Power::part_after, crate::specs::Power::rest_after, crate::specs::Power::root_after))]
 fn part_power(base: Fixed, fraction: u32) -> Result<Fixed, Arith>
     requires base { pos 0 <ℤ base }
@@ -85,6 +85,9 @@ fn part_power(base: Fixed, fraction: u32) -> Result<Fixed, Arith>
     let mut factor = base;
     let mut rest = fraction;
     for _place in 0..FRACTION_DIGITS {
+        if rest == 0 {
+            return power;
+        }
         factor = root(factor);
         rest *= 2;
         if rest >= 1_000_000 {

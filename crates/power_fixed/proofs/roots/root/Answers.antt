@@ -9,5 +9,5 @@ pub returns-clause-root : goal.returns-clause-root
 returns-clause-root c =
     let made = rw c.unwrap.ensures at c.from_millionths.ensures.value in
     let same : c.unsigned_abs.result ≡ unsigned_abs c.args.number = search rules in
-    let plain : c.unwrap.result ≡ pos c.isqrt.result = omega (arith, ints, made, c.isqrt.ensures.bound) in
-    plain ∙ root_is c.args.number c.isqrt.result (omega arith) (omega arith)
+    let plain : c.unwrap.result ≡ pos c.whole_root.result = omega (arith, ints, made, c.whole_root.ensures.short) in
+    plain ∙ root_is c.args.number c.whole_root.result (omega arith) (omega arith)
