@@ -1,5 +1,5 @@
 pub mod Keys
-pub mod SharedKeys
+pub mod IndexKeys
 pub mod IndexSteps
 pub mod JsonKeys
 pub mod Removing

@@ -3,19 +3,28 @@ use Rattle.std.specs.Prelude.{◌≡◌, ℕ, ◌+◌, ◌-◌, List, [], ◌∷
 use Rattle.std.specs.BTreeMap.{BTreeMap, get_by}
 use Rattle.std.specs.Ordering.{nat_cmp}
 use Rattle.std.specs.Cmp.Lexicographic.{slice_cmp}
-use Rattle.std.specs.Rc.{rc_str_bytes}
-use Rattle.std.specs.declared.rc.RcStr.{RcStr}
+use Rattle.std.specs.Box.{boxed_str_bytes}
+use Rattle.std.specs.declared.boxed.Box.{Box}
+use Rattle.std.specs.declared.boxed.BoxedStr.{BoxedStr}
 use Rattle.std.specs.declared.alloc.Global.{Global}
+use Rattle.prop_values.specs.declared.places.Places.{Places}
 use Rattle.prop_values.specs.Data.{Data}
 use Rattle.prop_values.specs.Equality.{same_text}
 
 -- the index as contracts see it
-abbrev pub Places : Type 0
-Places = BTreeMap (RcStr Global) ℕ
+abbrev pub Index : Type 0
+Index = BTreeMap (BoxedStr Global) ℕ
 
--- the place that the index has for a key
+-- the place that an index has for a key
+abbrev pub noted_in : Index → List ℕ → Option ℕ
+noted_in index key = get_by (λ k. slice_cmp nat_cmp key (boxed_str_bytes k)) index
+
+abbrev pub noted_if : Option (Box Index Global) → List ℕ → Option ℕ
+noted_if None key = None
+noted_if (Some index) key = noted_in index.value key
+
 abbrev pub noted : Places → List ℕ → Option ℕ
-noted places key = get_by (λ k. slice_cmp nat_cmp key (rc_str_bytes k)) places
+noted places key = noted_if places.index key
 
 -- where a key stands, counted from i
 abbrev pub place_from : ℕ → List ℕ → List (List ℕ × Data) → Option ℕ

@@ -1,4 +1,4 @@
-ghost use Rattle.std.specs.Prelude.{◌≡◌, ◌↔◌, ◌<◌, ◌-◌, ℕ, List, [], ◌∷◌, ◌++◌, length, take, remove, slice_set, slice_index_or, OnOk, OnErr, Some, None, IsNone, option_map, if◌then◌else◌};
+ghost use Rattle.std.specs.Prelude.{◌≡◌, ◌↔◌, ◌<◌, ◌-◌, ℕ, List, [], ◌∷◌, ◌++◌, length, take, remove, slice_set, slice_index_or, OnOk, OnErr, IfOk, Some, None, IsNone, option_map, if◌then◌else◌};
 ghost use Rattle.std.specs.Option.{option_or};
 ghost use Rattle.prop_values.specs.Changes.{with_member, merged, without_key};
 ghost use Rattle.prop_values.specs.Data.{HasDistinctKeys, LacksKey, pairs_of};
@@ -8,11 +8,10 @@ ghost use Rattle.prop_values.specs.Places.{IsIndexed, place_from};
 ghost use Rattle.prop_values.specs.View.{data_of, values_view, entries_view};
 ghost use Rattle.prop_values.specs.declared.value.Entry.{Entry};
 
-use crate::places::{FIRST, Places, forget_place, note_place, noted_place};
+use crate::places::{FIRST, Places, forget_key, forget_place, note_place, noted_place};
 use decimal_json::Text;
 use fixed_num::{Color, Fixed};
 use std::alloc::{AllocError, Global};
-use std::collections::BTreeMap;
 use std::marker::Model;
 
 /// A value of a property, an expression or a feature. `data_of` says which data it is to a clause.
@@ -44,7 +43,7 @@ pub struct Values {
 }
 
 /// The entries of a map in the order in which they came, which clauses see as a list of pairs of a key
-/// and data. No key stands twice.
+/// and data. No key stands twice. A map of at most sixteen entries is a vector of them and nothing else.
 #[derive(Drop)]
 #[cycle(value)]
 pub struct Entries {
@@ -106,6 +105,15 @@ impl Values {
         }
     }
 
+    /// No items, with room for `count` of them.
+    pub fn with_capacity(alloc: Global, count: usize) -> Result<Values, AllocError>
+        ensures { IfOk result (λ made. made ≡ []) }
+    {
+        Ok(Values {
+            values: Vec::with_capacity(alloc, count)?,
+        })
+    }
+
     /// Adds an item at the end.
     pub fn push(&mut self, item: Value) -> Result<(), AllocError>
         ensures ok { OnOk result (self.new ≡ self.old ++ data_of item ∷ []) }
@@ -128,11 +136,22 @@ impl Entries {
     {
         Entries {
             entries: Vec::new(alloc),
-            places: BTreeMap::new(alloc),
+            places: Places::new(),
         }
     }
 
-    /// Adds an entry at the end, whose key may not be there.
+    /// No entries, with room for `count` of them.
+    pub fn with_capacity(alloc: Global, count: usize) -> Result<Entries, AllocError>
+        ensures { IfOk result (λ made. made ≡ []) }
+    {
+        Ok(Entries {
+            entries: Vec::with_capacity(alloc, count)?,
+            places: Places::new(),
+        })
+    }
+
+    /// Adds an entry at the end, whose key may not be there. Nothing is looked for, and up to the sixteenth
+    /// entry nothing but the entry is kept.
     pub fn push(&mut self, key: Text, value: Value) -> Result<(), AllocError>
         requires { LacksKey key self.old }
         ensures ok { OnOk result (self.new ≡ self.old ++ (key, data_of value) ∷ []) }
@@ -145,7 +164,12 @@ impl Entries {
         }
         // With room for the entry nothing can fail once its place is noted.
         self.entries.reserve(1)?;
-        note_place(&mut self.places, &key, place)?;
+        note_place(
+            *self.entries.allocator(),
+            &mut self.places,
+            key.as_str(),
+            place,
+        )?;
         self.entries.push(Entry { key, value })?;
         Ok(())
     }
@@ -292,7 +316,7 @@ impl Entries {
     {
         let count = self.entries.len();
         if count > 0 {
-            let _ = self.places.remove(self.entries[count - 1].key.as_str());
+            forget_key(&mut self.places, self.entries[count - 1].key.as_str());
             self.entries.truncate(count - 1);
         }
     }

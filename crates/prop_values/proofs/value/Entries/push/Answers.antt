@@ -31,5 +31,5 @@ invariant_of-self-2 c =
     subst (λ xs. HasDistinctKeys (entries_view xs) × IsIndexed c.note_place.new.places (entries_view xs)) (sym added) (
       entries_push es e c.self.invariant.0 lacks,
       more_push (noted c.self.inside.places) (noted c.note_place.new.places) es e many lacks c.self.invariant.1
-          (λ q. c.in_ok-note_place.ensures.ok q ∙ ap (λ p. if bytes_eq c.args.key q then Some p else noted c.self.inside.places q) place),
+          (λ q. c.in_ok-note_place.ensures.ok q ∙ (ap (λ k. if bytes_eq k q then Some c.len-place.result else noted c.self.inside.places q) c.as_str.ensures ∙ ap (λ p. if bytes_eq c.args.key q then Some p else noted c.self.inside.places q) place)),
     )

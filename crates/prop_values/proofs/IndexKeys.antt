@@ -1,4 +1,4 @@
--- An index by shared texts: what a change at one key leaves at each other key.
+-- An index by texts: what a change at one key leaves at each other key.
 use Rattle.std.proofs.Common.{◌≡◌, ℕ, List, Bool, true, false, refl, sym, subst, ◌∙◌}
 use Rattle.std.specs.Prelude.{Option, if◌then◌else◌}
 use Rattle.std.specs.BTreeMap.{UpdatesBy}
@@ -6,10 +6,10 @@ use Rattle.std.specs.Map.{lookup, KeepsOthers, IsKeyTest, AreApart}
 use Rattle.std.specs.Ordering.{is_eq, nat_cmp}
 use Rattle.std.specs.Cmp.{eq_by_cmp_equiv}
 use Rattle.std.specs.Cmp.Lexicographic.{slice_cmp, bytes_decides, nat_list_cmp_total, nat_list_eq_equiv}
-use Rattle.std.specs.Rc.{rc_str_bytes}
+use Rattle.std.specs.Box.{boxed_str_bytes}
 use Rattle.std.specs.Str.{bytes_eq}
 use Rattle.std.proofs.lemmas.Map.Text.{is_eq-slice_cmp}
-use Rattle.prop_values.specs.Places.{Places, noted}
+use Rattle.prop_values.specs.Places.{Index, noted_in}
 
 -- a key that equals one text equals no other
 apart : (bs cs ks : List ℕ) → bytes_eq bs cs ≡ false → is_eq (slice_cmp nat_cmp bs ks) ≡ true → is_eq (slice_cmp nat_cmp cs ks) ≡ false
@@ -19,9 +19,9 @@ others_stay : {K X : Type 0} (eq : K → K → Bool) (test : K → Bool) (old ne
 unfolding KeepsOthers
 others_stay eq test old new keeps = keeps
 
-noted_at : (bs cs : List ℕ) (m n : Places) (w : Option ℕ) (t : Bool) → UpdatesBy (λ x y. slice_cmp nat_cmp (rc_str_bytes x) (rc_str_bytes y)) (λ k. slice_cmp nat_cmp bs (rc_str_bytes k)) m n w → bytes_eq bs cs ≡ t → noted n cs ≡ (if t then w else noted m cs)
-noted_at bs cs m n w true changed e = subst (λ key. noted n key ≡ w) ((bytes_decides bs cs).0 e) changed.1
-noted_at bs cs m n w false changed e = others_stay _ _ _ _ changed.3 _ (λ x y. (eq_by_cmp_equiv nat_list_cmp_total).congr cs (rc_str_bytes x) (rc_str_bytes y)) (λ k. apart bs cs (rc_str_bytes k) e)
+noted_at : (bs cs : List ℕ) (m n : Index) (w : Option ℕ) (t : Bool) → UpdatesBy (λ x y. slice_cmp nat_cmp (boxed_str_bytes x) (boxed_str_bytes y)) (λ k. slice_cmp nat_cmp bs (boxed_str_bytes k)) m n w → bytes_eq bs cs ≡ t → noted_in n cs ≡ (if t then w else noted_in m cs)
+noted_at bs cs m n w true changed e = subst (λ key. noted_in n key ≡ w) ((bytes_decides bs cs).0 e) changed.1
+noted_at bs cs m n w false changed e = others_stay _ _ _ _ changed.3 _ (λ x y. (eq_by_cmp_equiv nat_list_cmp_total).congr cs (boxed_str_bytes x) (boxed_str_bytes y)) (λ k. apart bs cs (boxed_str_bytes k) e)
 
-pub noted_updates : (bs : List ℕ) (m n : Places) (w : Option ℕ) → UpdatesBy (λ x y. slice_cmp nat_cmp (rc_str_bytes x) (rc_str_bytes y)) (λ k. slice_cmp nat_cmp bs (rc_str_bytes k)) m n w → (cs : List ℕ) → noted n cs ≡ (if bytes_eq bs cs then w else noted m cs)
+pub noted_updates : (bs : List ℕ) (m n : Index) (w : Option ℕ) → UpdatesBy (λ x y. slice_cmp nat_cmp (boxed_str_bytes x) (boxed_str_bytes y)) (λ k. slice_cmp nat_cmp bs (boxed_str_bytes k)) m n w → (cs : List ℕ) → noted_in n cs ≡ (if bytes_eq bs cs then w else noted_in m cs)
 noted_updates bs m n w changed cs = noted_at bs cs m n w (bytes_eq bs cs) changed refl
