@@ -1,19 +1,16 @@
 -- What reading a number digit by digit gives.
-use Rattle.std.proofs.Common.{◌≡◌, ℕ, zero, suc, ◌+◌, ◌-◌, ◌*◌, ◌%◌, ◌^◌, ◌<◌, ◌≤◌, List, [], ◌∷◌, refl, sym, ap, ◌∙◌, arith, true, false, length}
+use Rattle.std.proofs.Common.{◌≡◌, ℕ, suc, ◌+◌, ◌-◌, ◌*◌, ◌%◌, ◌^◌, ◌<◌, ◌≤◌, List, [], ◌∷◌, refl, sym, ap, ◌∙◌, subst, arith, true, false, length}
 use Rattle.std.specs.Prelude.{Result, Ok, Err, nat_lt}
 use Rattle.std.proofs.lemmas.Nat.{pow-add}
-use Rattle.std.proofs.Math.Nat.{mul-le-mul_left}
+use Rattle.std.proofs.Math.Nat.{mul-le-mul_left, pow-le-pow_right}
+use Rattle.std.specs.Borrow.{Bor}
 use Rattle.proto_wire.specs.declared.wire.WireKind.{WireKind}
 use Rattle.proto_wire.specs.declared.wire.WireKind.TheVariants.{Varint, Truncated}
-use Rattle.proto_wire.specs.Varint.{above_digit, number_of, within_64_bits, varint_at}
+use Rattle.proto_wire.specs.View.{Gives}
+use Rattle.proto_wire.specs.Varint.{above_digit, number_of, within_64_bits, varint_at, onto}
 
 abbrev pub Read : Type 0
 Read = Result (ℕ × List ℕ) WireKind
-
--- the digits so far, and above them what was read after them
-abbrev pub onto : ℕ → ℕ → Read → Read
-onto value weight (Ok (n, rest)) = Ok (value + weight * n, rest)
-onto value weight (Err kind) = Err kind
 
 -- before the first digit
 pub onto_none : (read : Read) → onto 0 1 read ≡ read
@@ -48,13 +45,15 @@ read_more v w i c b all h l e =
     let stepped : onto v w (number_of (suc (10 - (i + 1))) (c ∷ b)) ≡ onto v w (above_digit (c % 128) (number_of (10 - (i + 1)) b)) = rw (not_below c l) refl in
     sym (onto-above_digit v w (c % 128) (number_of (10 - (i + 1)) b)) ∙ sym stepped ∙ sym (ap (λ n. onto v w (number_of n (c ∷ b))) k) ∙ e
 
--- too many bytes
-pub read_never : (v w i : ℕ) (b : List ℕ) (all : Read) → 10 ≤ i → onto v w (number_of (10 - i) b) ≡ all → all ≡ Err Varint
-read_never v w i b all h e = let k : 10 - i ≡ zero = omega arith in sym e ∙ ap (λ n. onto v w (number_of n b)) k
-
 -- the weight of the next digit
 pub next_weight : (w i : ℕ) → w ≡ 2 ^ (7 * i) → w * 128 ≡ 2 ^ (7 * (i + 1))
 next_weight w i e = ap (λ x. x * 128) e ∙ sym (pow-add 2 (7 * i) 7) ∙ ap (λ k. 2 ^ k) (omega arith)
+
+-- nine digits fit 63 bits
+pub weight_within : (w i : ℕ) → w ≡ 2 ^ (7 * i) → i < 9 → w * 128 ≤ 2 ^ 63
+weight_within w i e h =
+    let p : 2 ^ (7 * i) ≤ 2 ^ 56 = pow-le-pow_right {n = 2} (omega arith) {i = 7 * i} {j = 56} (omega arith) in
+    omega arith
 
 -- the digits so far stay below the next weight
 pub next_small : (v w d : ℕ) → v < w → d < 128 → v + w * d < w * 128
@@ -74,9 +73,16 @@ pub fails : (b : List ℕ) (k : WireKind) → number_of 10 b ≡ Err k → varin
 unfolding varint_at
 fails b k e = ap within_64_bits e
 
--- the number of the last byte fits, or passes 64 bits
-pub last_fits : (b : List ℕ) (v w c f n : ℕ) (rest : List ℕ) → number_of 10 b ≡ Ok (v + w * c, rest) → f ≡ c → n ≡ v + w * f → v + w * f < 2 ^ 64 → varint_at b ≡ Ok (n, rest)
-last_fits b v w c f n rest e same is h = fits b n rest (e ∙ ap (λ m. Ok (m, rest)) (ap (λ x. v + w * x) (sym same) ∙ sym is)) (rw is h)
+-- what the tenth byte makes of nine digits is the varint
+pub tenth : (b : List ℕ) (v w i : ℕ) (rest : List ℕ) (read : Result (ℕ × Bor (List ℕ)) WireKind) → i ≡ 9 → w ≡ 2 ^ (7 * i) → onto v w (number_of (10 - i) rest) ≡ number_of 10 b → Gives (λ r. (r.0, r.1.now)) read (within_64_bits (onto v (2 ^ 63) (number_of 1 rest))) → Gives (λ r. (r.0, r.1.now)) read (varint_at b)
+unfolding varint_at
+tenth b v w i rest read last weight e gives =
+    let top : w ≡ 2 ^ 63 = weight ∙ ap (λ k. 2 ^ (7 * k)) last in
+    let one : 10 - i ≡ 1 = omega arith in
+    let same : within_64_bits (onto v (2 ^ 63) (number_of 1 rest)) ≡ within_64_bits (number_of 10 b) =
+    ap within_64_bits (ap (λ x. onto v x (number_of 1 rest)) (sym top) ∙ ap (λ k. onto v w (number_of k rest)) (sym one) ∙ e) in
+    subst (Gives {X = ℕ × Bor (List ℕ)} {Y = ℕ × List ℕ} (λ r. (r.0, r.1.now)) read) same gives
 
-pub last_past : (b : List ℕ) (v w c f : ℕ) (rest : List ℕ) → number_of 10 b ≡ Ok (v + w * c, rest) → f ≡ c → (v + w * f < 2 ^ 64 → ⊥) → varint_at b ≡ Err Varint
-last_past b v w c f rest e same h = past b (v + w * f) rest (e ∙ ap (λ x. Ok (v + w * x, rest)) (sym same)) (omega (arith, h))
+-- a number of one byte
+pub one_byte : (c : ℕ) (b : List ℕ) → c < 128 → varint_at (c ∷ b) ≡ Ok (c, b)
+one_byte c b h = fits (c ∷ b) c b (rw (below c h) refl) (omega arith)

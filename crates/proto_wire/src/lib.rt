@@ -20,8 +20,6 @@
 mod field;
 mod fields;
 mod laws;
-#[cfg(test)]
-mod tests;
 mod wire;
 
 pub use field::{Field, Wire, WireFault};

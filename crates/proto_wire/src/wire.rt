@@ -1,5 +1,6 @@
-ghost use Rattle.std.specs.Prelude.{◌≡◌, ◌<◌, length, OnOk, OnErr, IfOk, IfErr, Ok, Err};
-ghost use Rattle.proto_wire.specs.Varint.{varint_at};
+ghost use Rattle.std.specs.Prelude.{◌≡◌, ◌<◌, ◌^◌, length, OnOk, OnErr, IfOk, IfErr, Ok, Err};
+ghost use Rattle.proto_wire.specs.Varint.{varint_at, number_of, within_64_bits, onto};
+ghost use Rattle.proto_wire.specs.View.{Gives};
 
 /// What is wrong with the bytes of a field.
 #[derive(Clone, Copy, Debug, PartialEq, Eq)]
@@ -17,6 +18,7 @@ pub enum WireKind {
 ///
 /// The fault is `Varint` where the tenth byte has the high bit or the number passes 64 bits, and `Truncated` where
 /// `bytes` end first. It leaves `bytes` as they were.
+#[inline]
 pub fn varint(bytes: &mut &[u8]) -> Result<u64, WireKind>
     ensures ok { IfOk result (λ number. varint_at bytes.old.now ≡ Ok (number, bytes.new.now)) }
     ensures taken { OnOk result (length bytes.new.now < length bytes.old.now) }
@@ -24,23 +26,50 @@ pub fn varint(bytes: &mut &[u8]) -> Result<u64, WireKind>
     ensures fault { IfErr result (λ kind. varint_at bytes.old.now ≡ Err kind) }
     ensures unchanged { OnErr result (bytes.new.now ≡ bytes.old.now) }
 {
-    let mut value = 0u128;
-    let mut weight = 1u128;
-    let mut rest = *bytes;
-    for index in 0..10u32 {
+    // Most numbers have one byte.
+    if let Some((first, rest)) = bytes.split_first() {
+        if *first < 128 {
+            *bytes = rest;
+            return Ok(u64::from(*first));
+        }
+    }
+    let (number, rest) = digits(bytes)?;
+    *bytes = rest;
+    Ok(number)
+}
+
+// The number at the front in whatever spelling, and the bytes after it. Nine digits fit 63 bits.
+fn digits(bytes: &[u8]) -> Result<(u64, &[u8]), WireKind>
+    ensures number { Gives (λ read. (read.0, read.1.now)) result (varint_at bytes.now) }
+    ensures taken { IfOk result (λ read. length read.1.now < length bytes.now) }
+{
+    let mut value = 0u64;
+    let mut weight = 1u64;
+    let mut rest = bytes;
+    for index in 0..9u32 {
         let Some((first, others)) = rest.split_first() else {
             return Err(WireKind::Truncated);
         };
         rest = others;
         if *first < 128 {
-            let Ok(number) = u64::try_from(value + weight * u128::from(*first)) else {
-                return Err(WireKind::Varint);
-            };
-            *bytes = rest;
-            return Ok(number);
+            return Ok((value + weight * u64::from(*first), rest));
         }
-        value += weight * u128::from(*first % 128);
+        value += weight * u64::from(*first % 128);
         weight *= 128;
     }
-    Err(WireKind::Varint)
+    tenth_digit(value, rest)
+}
+
+// The number whose first nine digits are `value`, of which the tenth is the highest bit of 64.
+fn tenth_digit(value: u64, bytes: &[u8]) -> Result<(u64, &[u8]), WireKind>
+    requires { value < 2 ^ 63 }
+    ensures number { Gives (λ read. (read.0, read.1.now)) result (within_64_bits (onto value (2 ^ 63) (number_of 1 bytes.now))) }
+    ensures taken { IfOk result (λ read. length read.1.now < length bytes.now) }
+{
+    match bytes.split_first() {
+        None => Err(WireKind::Truncated),
+        Some((0, rest)) => Ok((value, rest)),
+        Some((1, rest)) => Ok((value + (1 << 63), rest)),
+        Some(_) => Err(WireKind::Varint),
+    }
 }
