@@ -1,5 +1,5 @@
 ghost use Rattle.std.specs.Prelude.{◌≡◌, ◌≢◌, ℕ, ◌≤◌, List, [], Some, None, length, IfOk, OnOk, OnErr};
-ghost use Rattle.outside_io.specs.Counts.{Rose};
+ghost use Rattle.outside_io.specs.Counts.{raised, raised_by};
 ghost use Rattle.outside_io.specs.Reading.{OnDone, OnNotDone, OnTooLong, OnFailed, IsContent, IsWithin, IsLonger};
 ghost use Rattle.outside_io.specs.Contents.{no_files, with_file, bytes_of};
 ghost use Rattle.outside_io.specs.FilesState.{read_end, after_read};
@@ -90,8 +90,8 @@ impl Files for FilesInMemory {
 
         // The trait's clauses, on what is told here.
         ensures told { bytes_of self.new.files ≡ bytes_of self.old.files }
-        ensures faults { self.old.faults ≤ self.new.faults }
         ensures taken { self.old.taken ≤ self.new.taken }
+        ensures counted { OnDone result (self.new.taken ≡ raised_by (length into.new.items) self.old.taken) }
 
         ensures content { OnDone result (IsContent (bytes_of self.old.files name.now) into.new.items) }
         ensures length { length into.new.items ≤ at_most }
@@ -101,8 +101,11 @@ impl Files for FilesInMemory {
         ensures too_long { OnTooLong result
             (IsLonger (bytes_of self.old.files name.now) at_most self.old.taken self.new.taken) }
 
+        ensures faults { OnFailed result
+            (self.new.faults ≡ raised self.old.faults)
+            (self.new.faults ≡ self.old.faults) }
         ensures failed { OnFailed result
-            (Rose self.old.faults self.new.faults × (self.new.failed ≡ Some name.now))
+            (self.new.failed ≡ Some name.now)
             (self.new.failed ≡ self.old.failed) }
     {
         if self.fails.contains(&self.reads) {
@@ -130,8 +133,6 @@ impl FilesInMemory {
         ensures answer { result ≢ ReadAnswer.NoMemory → result ≡ ReadAnswer.Failed }
         ensures after { self.new ≡ after_read self.old name.now result }
         ensures not_done { result ≢ ReadAnswer.Done }
-        ensures faults { self.old.faults ≤ self.new.faults }
-        ensures rose { result ≡ ReadAnswer.Failed → Rose self.old.faults self.new.faults }
     {
         let Ok(name) = String::from_str(alloc, name) else {
             return ReadAnswer::NoMemory;

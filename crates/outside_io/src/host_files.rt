@@ -1,17 +1,19 @@
-ghost use Rattle.std.specs.Prelude.{◌≡◌, ◌≤◌, [], Some, None, length, string_bytes};
-ghost use Rattle.outside_io.specs.Counts.{Rose, RoseBy};
+ghost use Rattle.std.specs.Prelude.{◌≡◌, ◌⊎◌, ◌+◌, ◌<◌, ◌≤◌, [], Some, None, length, take, drop, vec_len, string_bytes, OnOk, IfOk, IfErr};
+ghost use Rattle.std.specs.Io.{StartsWith, appended_bytes};
+ghost use Rattle.std.specs.Io.KnownBytes.{Consumes, IsAtEnd};
+ghost use Rattle.outside_io.specs.Counts.{RoseBy, raised, raised_by};
 ghost use Rattle.outside_io.specs.Reading.{OnDone, OnNotDone, OnTooLong, IsContent, IsLongerIfTold};
 
 use crate::reading::{Files, ReadAnswer};
 use std::alloc::Global;
-use std::io::Read;
+use std::io::{self, Read};
 use std::marker::Model;
 use std::{fs, rt};
 
 /// The real files of a runtime, by their paths. They tell no bytes.
 ///
-/// An error of the runtime, at the opening or in the middle, is a failed read; an interruption counts as an error. A read
-/// that gives nothing is the end of the file. Both counts stand still at 2^64 - 1.
+/// An error of the runtime, at the opening or in the middle, is a failed read; an interruption counts as an error. A turn
+/// that gives nothing is the end of the file.
 #[derive(Drop)]
 pub struct HostFiles<'a, R: rt::Files> {
     rt: &'a R,
@@ -82,9 +84,7 @@ impl<R: rt::Files> HostFiles<'_, R> {
     fn fail(&mut self, name: String) -> ReadAnswer
         ensures answer { result ≡ ReadAnswer.Failed }
         ensures noted { self.new ≡
-            record self.old { faults = self.new.faults; failed = Some (string_bytes name) } }
-        ensures rose { Rose self.old.faults self.new.faults }
-        ensures faults { self.old.faults ≤ self.new.faults }
+            record self.old { faults = raised self.old.faults; failed = Some (string_bytes name) } }
     {
         self.faults = self.faults.saturating_add(1);
         self.failed = Some(name);
@@ -92,8 +92,12 @@ impl<R: rt::Files> HostFiles<'_, R> {
     }
 }
 
+/// How many bytes a turn of a read asks for.
+const TURN: usize = 65_536;
+
 /// Reads what a reader has left into an empty vector, if it is at most `at_most` bytes, and counts the bytes that it gave.
-pub(crate) fn read_rest<F: Read>(
+#[tactic(auto, using(crate::proofs::KnownBytes::consumes_none, crate::proofs::KnownBytes::consumes_turn, crate::proofs::KnownBytes::content_at_end, crate::proofs::KnownBytes::longer_than))]
+fn read_rest<F: Read>(
     file: &mut F,
     at_most: usize,
     into: &mut Vec<u8>,
@@ -103,27 +107,57 @@ pub(crate) fn read_rest<F: Read>(
     ensures content { OnDone result (IsContent (F.remaining file.old) into.new.items) }
     ensures length { length into.new.items ≤ at_most }
     ensures empty { OnNotDone result (into.new.items ≡ []) }
+    ensures counted { OnDone result (taken.new ≡ raised_by (length into.new.items) taken.old) }
     ensures longer { OnTooLong result (IsLongerIfTold (F.remaining file.old) at_most) }
     ensures too_long { OnTooLong result (RoseBy at_most taken.old taken.new) }
     ensures taken { taken.old ≤ taken.new }
 {
-    let mut buffer = [0u8; 4096];
+    let before = *taken;
     loop {
-        let Ok(got) = file.read(&mut buffer) else {
-            into.clear();
-            return ReadAnswer::Failed;
-        };
-        if got == 0 {
-            return ReadAnswer::Done;
+        match read_turn(file, into) {
+            Ok(0) => return ReadAnswer::Done,
+            Ok(_) => *taken = before.saturating_add(into.len() as u64),
+            Err(answer) => {
+                into.clear();
+                return answer;
+            }
         }
-        *taken = taken.saturating_add(got as u64);
-        if got > at_most - into.len() {
+        if into.len() > at_most {
             into.clear();
             return ReadAnswer::TooLong;
         }
-        if into.extend_from_slice(&buffer[..got]).is_err() {
-            into.clear();
-            return ReadAnswer::NoMemory;
-        }
     }
+}
+
+/// One turn of a read, straight into the room after what the vector has. It appends what the reader gave and says how many bytes
+/// that are: none only at the reader's end. Else the read failed or memory lacked.
+fn read_turn<F: Read>(file: &mut F, into: &mut Vec<u8>) -> Result<usize, ReadAnswer>
+    ensures longer { IfOk result (λ count. vec_len into.new ≡ vec_len into.old + count) }
+    ensures appends { OnOk result (StartsWith into.new.items into.old.items) }
+    ensures bytes { OnOk result (Consumes (F.remaining file.old) (F.remaining file.new) (appended_bytes into.old.items into.new.items)) }
+    ensures end { IfOk result (λ count. count ≡ 0 → IsAtEnd (F.remaining file.new)) }
+    ensures stop { IfErr result (λ answer. (answer ≡ ReadAnswer.Failed) ⊎ (answer ≡ ReadAnswer.NoMemory)) }
+{
+    let start = into.len();
+    if into.resize(start.saturating_add(TURN), 0).is_err() {
+        return Err(ReadAnswer::NoMemory);
+    }
+    match read_after(file, into.as_mut_slice(), start) {
+        Ok(count) => {
+            into.truncate(start + count);
+            Ok(count)
+        }
+        Err(_) => Err(ReadAnswer::Failed),
+    }
+}
+
+/// Reads once into the bytes after the first `start`.
+fn read_after<F: Read>(file: &mut F, buffer: &mut [u8], start: usize) -> io::Result<usize>
+    requires { start < length buffer.old }
+    ensures front { take start buffer.new ≡ take start buffer.old }
+    ensures fits { IfOk result (λ count. start + count ≤ length buffer.new) }
+    ensures bytes { IfOk result (λ count. Consumes (F.remaining file.old) (F.remaining file.new) (take count (drop start buffer.new))) }
+    ensures end { IfOk result (λ count. count ≡ 0 → IsAtEnd (F.remaining file.new)) }
+{
+    file.read(&mut buffer[start..])
 }

@@ -1,6 +1,6 @@
 ghost use Rattle.std.specs.Prelude.{◌≡◌, ◌≤◌, ℕ, Some, None, take, OnOk, OnErr};
 ghost use Rattle.std.specs.Io.KnownBytes.{Appends};
-ghost use Rattle.outside_io.specs.Counts.{Rose};
+ghost use Rattle.outside_io.specs.Counts.{raised};
 ghost use Rattle.outside_io.specs.Writing.{Gains, GainsPrefix};
 
 use crate::writing::{Sink, SinkFailed};
@@ -46,8 +46,8 @@ impl<W: Write + Drop> Sink for HostSink<W> {
 
         ensures ok { OnOk result (Gains None None piece.now) }
         ensures err { OnErr result (GainsPrefix None None piece.now) }
-        ensures cause { OnErr result (Rose self.old.faults self.new.faults) }
-        ensures faults { self.old.faults ≤ self.new.faults }
+        ensures cause { OnErr result (self.new.faults ≡ raised self.old.faults) }
+        ensures faults { OnOk result (self.new.faults ≡ self.old.faults) }
     {
         let mut at = 0;
         while at < piece.len() {

@@ -16,7 +16,8 @@
 //! What is promised:
 //! - A read that is done gives the bytes that the files tell of that name, and none that is too long is given in part. A
 //!   write that is `Ok` leaves the sink with the piece more, and one that fails with a prefix of it more.
-//! - A read or a write fails only where the count of faults rose, so that whoever sees a failure can show its cause.
+//! - A read or a write that fails raises the count of faults by one, and no other does, so that whoever sees a failure can show
+//!   its cause, and a count that stands shows that nothing failed.
 //! - [`FilesInMemory`], [`SureFiles`] and [`SinkInMemory`] tell what they hold; what each call does to them is given exactly.
 //! - [`HostFiles`] and [`HostSink`] reach real files and streams. They tell no bytes: they are the edge that is trusted.
 //! - [`Steps`] counts in the contracts alone. It takes no bytes and no time.
@@ -30,8 +31,6 @@ mod named_files;
 mod reading;
 mod sink_in_memory;
 mod sure;
-#[cfg(test)]
-mod tests;
 mod writing;
 
 pub use counter::Steps;

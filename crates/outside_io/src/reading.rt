@@ -1,5 +1,5 @@
 ghost use Rattle.std.specs.Prelude.{◌≡◌, ℕ, ◌≤◌, List, [], Option, Some, length};
-ghost use Rattle.outside_io.specs.Counts.{Rose};
+ghost use Rattle.outside_io.specs.Counts.{raised, raised_by};
 ghost use Rattle.outside_io.specs.Reading.{OnDone, OnNotDone, OnTooLong, OnFailed, IsContent, IsWithin, IsLonger};
 
 use std::alloc::Global;
@@ -22,10 +22,10 @@ pub trait Files {
     /// The bytes of the file of each name, where they are told.
     ghost told: { Self → List ℕ → Option (List ℕ) };
 
-    /// How many reads have failed.
+    /// How many reads have failed. The count stands still at 2^64 - 1.
     ghost faults: { Self → ℕ };
 
-    /// How many bytes were taken from files.
+    /// How many bytes were taken from files. The count stands still at 2^64 - 1.
     ghost taken: { Self → ℕ };
 
     /// The name of the last read that failed.
@@ -36,10 +36,11 @@ pub trait Files {
     fn read(&mut self, alloc: Global, name: &str, at_most: usize, into: &mut Vec<u8>) -> ReadAnswer
         requires { into.old.items ≡ [] }
 
-        // No read changes what is told, and no count falls.
+        // No read changes what is told. No file gives bytes back, and one that is done was taken whole.
         ensures told { told self.new ≡ told self.old }
-        ensures faults { faults self.old ≤ faults self.new }
         ensures taken { taken self.old ≤ taken self.new }
+        ensures counted { OnDone result
+            (taken self.new ≡ raised_by (length into.new.items) (taken self.old)) }
 
         ensures content { OnDone result (IsContent (told self.old name.now) into.new.items) }
         ensures length { length into.new.items ≤ at_most }
@@ -50,8 +51,11 @@ pub trait Files {
         ensures too_long { OnTooLong result
             (IsLonger (told self.old name.now) at_most (taken self.old) (taken self.new)) }
 
-        // A failure raised the count and left the name. Every other answer leaves the name that stood there.
+        // A failure raises the count by one and leaves the name. Every other answer leaves both as they were.
+        ensures faults { OnFailed result
+            (faults self.new ≡ raised (faults self.old))
+            (faults self.new ≡ faults self.old) }
         ensures failed { OnFailed result
-            (Rose (faults self.old) (faults self.new) × (failed self.new ≡ Some name.now))
+            (failed self.new ≡ Some name.now)
             (failed self.new ≡ failed self.old) };
 }

@@ -1,5 +1,5 @@
 ghost use Rattle.std.specs.Prelude.{◌≡◌, ◌↔◌, ◌+◌, ◌≤◌, ◌++◌, [], Some, true, length, IfOk, IsOk, OnOk, OnErr};
-ghost use Rattle.outside_io.specs.Counts.{Rose};
+ghost use Rattle.outside_io.specs.Counts.{raised};
 ghost use Rattle.outside_io.specs.Writing.{Gains, GainsPrefix};
 ghost use Rattle.outside_io.specs.SinkState.{listed as listed_of, takes_all, after_write};
 
@@ -81,8 +81,8 @@ impl Sink for SinkInMemory {
         ensures ok { OnOk result (Gains (Some self.old.bytes) (Some self.new.bytes) piece.now) }
         ensures err { OnErr result
             (GainsPrefix (Some self.old.bytes) (Some self.new.bytes) piece.now) }
-        ensures cause { OnErr result (Rose self.old.faults self.new.faults) }
-        ensures faults { self.old.faults ≤ self.new.faults }
+        ensures cause { OnErr result (self.new.faults ≡ raised self.old.faults) }
+        ensures faults { OnOk result (self.new.faults ≡ self.old.faults) }
     {
         let left = self.room - self.bytes.len();
         let listing = listed(&self.fails, self.writes);

@@ -1,4 +1,5 @@
 ghost use Rattle.std.specs.Prelude.{◌≡◌, ◌≢◌, ℕ, ◌≤◌, List, [], None, length, OnOk, OnErr};
+ghost use Rattle.outside_io.specs.Counts.{raised_by};
 ghost use Rattle.outside_io.specs.Reading.{OnDone, OnNotDone, OnTooLong, IsContent, IsWithin, IsLonger};
 ghost use Rattle.outside_io.specs.Contents.{no_files, with_file};
 ghost use Rattle.outside_io.specs.FilesState.{sure_bytes_of, told_of, sure_read_end, after_sure_read};
@@ -72,6 +73,7 @@ impl Files for SureFiles {
         // The trait's clauses, on what is told here. No read fails.
         ensures told { told_of self.new ≡ told_of self.old }
         ensures taken { self.old.taken ≤ self.new.taken }
+        ensures counted { OnDone result (self.new.taken ≡ raised_by (length into.new.items) self.old.taken) }
 
         ensures content { OnDone result (IsContent (told_of self.old name.now) into.new.items) }
         ensures length { length into.new.items ≤ at_most }

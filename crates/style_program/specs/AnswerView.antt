@@ -1,12 +1,12 @@
 -- What an answer of the program writes and how it ends the run, and what stops a run before it has one.
 use Rattle.std.specs.Prelude.{◌≡◌, ℕ, ◌≤◌, List, length, Option, Some, None}
 use Rattle.outside_io.specs.Reading.{IsContent, IsLongerIfTold}
-use Rattle.outside_io.specs.Counts.{Rose}
+use Rattle.outside_io.specs.Counts.{raised}
 use Rattle.style_program.specs.declared.answer.Answer.{Answer}
 use Rattle.style_program.specs.declared.answer.Stop.{Stop}
 use Rattle.style_program.specs.declared.answer.Stop.TheVariants.{NoMemory, Unread}
 use Rattle.style_program.specs.Outcome.{Outcome}
-use Rattle.style_program.specs.Run.{ReadFails}
+use Rattle.style_program.specs.Run.{ReadFails, NoneFailed}
 use Rattle.style_program.specs.Words.{Asked}
 
 abbrev pub outcome_of : Answer → Outcome
@@ -18,11 +18,11 @@ IsRead file limit (Some bytes) = IsContent file bytes × (length bytes ≤ limit
 IsRead file limit None = IsLongerIfTold file limit
 
 -- the read of this name failed, or memory lacked
-abbrev pub IsReadStop : (old new : ℕ) → (failed : Option (List ℕ)) → (name : List ℕ) → Stop → Type 0
-IsReadStop old new failed name NoMemory = Unit {0}
-IsReadStop old new failed name (Unread unread) = Rose old new × (failed ≡ Some name) × (unread.now ≡ name)
+abbrev pub IsReadStop : (old new : ℕ) → (failed_old failed_new : Option (List ℕ)) → (name : List ℕ) → Stop → Type 0
+IsReadStop old new failed_old failed_new name NoMemory = NoneFailed old new failed_old failed_new
+IsReadStop old new failed_old failed_new name (Unread unread) = (new ≡ raised old) × (failed_new ≡ Some name) × (unread.now ≡ name)
 
 -- a read of what was asked for failed, or memory lacked
-abbrev pub IsStop : (List ℕ → Option (List ℕ)) → Asked → (old new : ℕ) → (failed : Option (List ℕ)) → Stop → Type 0
-IsStop files ask old new failed NoMemory = Unit {0}
-IsStop files ask old new failed (Unread name) = ReadFails files ask old new failed name.now
+abbrev pub IsStop : (List ℕ → Option (List ℕ)) → Asked → (old new : ℕ) → (failed_old failed_new : Option (List ℕ)) → Stop → Type 0
+IsStop files ask old new failed_old failed_new NoMemory = NoneFailed old new failed_old failed_new
+IsStop files ask old new failed_old failed_new (Unread name) = ReadFails files ask old new failed_new name.now

@@ -1,6 +1,6 @@
 -- What a run does to files and to its two sinks.
 use Rattle.std.specs.Prelude.{◌≡◌, ℕ, ◌<◌, List, ◌++◌, codes, length, Bool, Option, Some, ◌⊎◌}
-use Rattle.outside_io.specs.Counts.{Rose}
+use Rattle.outside_io.specs.Counts.{raised}
 use Rattle.outside_io.specs.Writing.{Gains, GainsPrefix}
 use Rattle.decimal_json.specs.JsonText.{text_json}
 use Rattle.style_program.specs.declared.status.Status.{Status}
@@ -14,16 +14,32 @@ use Rattle.style_program.specs.Words.{Asked, asked}
 abbrev pub unread_line : List ℕ → List ℕ
 unread_line name = line (codes "read " ++ text_json name)
 
--- how a run ends once a read has failed: the line was written, or a write failed, or memory lacked
+-- how a run ends once a read has failed, by the count of failed writes of err: the line was written, or its write failed, or memory
+-- lacked for it
 abbrev pub EndsUnread : Status → (err_old err_new : Option (List ℕ)) → (faults_old faults_new : ℕ) → List ℕ → Type 0
-EndsUnread status.ReadFault err_old err_new faults_old faults_new name = Gains err_old err_new (unread_line name)
-EndsUnread status.WriteFault err_old err_new faults_old faults_new name = Rose faults_old faults_new
-EndsUnread status.NoMemory err_old err_new faults_old faults_new name = Unit {0}
+EndsUnread status.ReadFault err_old err_new faults_old faults_new name = Gains err_old err_new (unread_line name) × (faults_new ≡ faults_old)
+EndsUnread status.WriteFault err_old err_new faults_old faults_new name = faults_new ≡ raised faults_old
+EndsUnread status.NoMemory err_old err_new faults_old faults_new name = faults_new ≡ faults_old
 EndsUnread _ err_old err_new faults_old faults_new name = ⊥
 
--- A read failed: the count of faults rose, the name of the read that failed is this, and the run came to read that file.
+-- no read failed: the count of faults and the name of the last read that failed are as they were
+abbrev pub NoneFailed : (old new : ℕ) → (failed_old failed_new : Option (List ℕ)) → Type 0
+NoneFailed old new failed_old failed_new = (new ≡ old) × (failed_new ≡ failed_old)
+
+-- the answers that come without an outcome
+abbrev pub HasNoOutcome : Status → Type 0
+HasNoOutcome status.ReadFault = Unit {0}
+HasNoOutcome status.WriteFault = Unit {0}
+HasNoOutcome status.NoMemory = Unit {0}
+HasNoOutcome _ = ⊥
+
+-- The first read that fails ends the run: none failed, or one did, and the run has no outcome.
+abbrev pub EndsAtFailedRead : Status → (old new : ℕ) → (failed_old failed_new : Option (List ℕ)) → Type 0
+EndsAtFailedRead answer old new failed_old failed_new = NoneFailed old new failed_old failed_new ⊎ ((new ≡ raised old) × HasNoOutcome answer)
+
+-- One read failed: the count of faults was raised by one, the name of the read that failed is this, and the run came to read that file.
 pub record ReadFails (files : List ℕ → Option (List ℕ)) (ask : Asked) (old new : ℕ) (failed : Option (List ℕ)) (name : List ℕ) : Type 0 where
-  pub rose : Rose old new
+  pub counted : new ≡ raised old
   pub noted : failed ≡ Some name
   pub reached : IsReached files ask name
 
@@ -47,12 +63,19 @@ module _ (files : List ℕ → Option (List ℕ)) (images scripts : List ℕ →
         ((o : Outcome) → AreTold files (asked ws) → IsOutcome files images scripts ws o → GainsPrefix old new o.err)
         ⊎ ((name : List ℕ) × ReadFails files (asked ws) reads_old reads_new failed name × GainsPrefix old new (unread_line name))
 
+  -- an out text is due: the words have an outcome with one
+  abbrev pub OutTextIsDue : Type 0
+  OutTextIsDue = (o : Outcome) × IsOutcome files images scripts ws o × (0 < length o.out)
+
   -- an err line is due: the words have an outcome with one, or a read failed
   abbrev pub ErrLineIsDue : ℕ → ℕ → Option (List ℕ) → Type 0
   ErrLineIsDue reads_old reads_new failed =
       ((o : Outcome) × IsOutcome files images scripts ws o × (0 < length o.err))
       ⊎ ((name : List ℕ) × ReadFails files (asked ws) reads_old reads_new failed name)
 
-  -- a count of faults rose: of out, or of err while an err line was due
+  -- One write failed: of out while an out text was due, or of err while an err line was due. Its count of faults was raised by one, and
+  -- that of the other is as it was.
   pub record WriteFails (reads_old reads_new : ℕ) (failed : Option (List ℕ)) (out_old out_new err_old err_new : ℕ) : Type 0 where
-    pub cause : Rose out_old out_new ⊎ (ErrLineIsDue reads_old reads_new failed × Rose err_old err_new)
+    pub cause :
+        (OutTextIsDue × (out_new ≡ raised out_old) × (err_new ≡ err_old))
+        ⊎ (ErrLineIsDue reads_old reads_new failed × (out_new ≡ out_old) × (err_new ≡ raised err_old))

@@ -1,10 +1,11 @@
 //! `eval`: what a style shows over a tile.
 
-ghost use Rattle.std.specs.Prelude.{◌≡◌, ◌≤◌, IfOk, IfErr, Some};
+ghost use Rattle.std.specs.Prelude.{◌≡◌, OnOk, IfOk, IfErr, Some};
 ghost use Rattle.circle_layer.specs.StyleView.{form_of};
 ghost use Rattle.tile_reader.specs.Tile.{tile_of};
 ghost use Rattle.style_program.specs.AnswerView.{outcome_of, IsReadStop, IsStop};
 ghost use Rattle.style_program.specs.EvalOutcome.{IsEvalOutcome, IsStyleOutcome, tile_outcome, features_outcome, is_zoom};
+ghost use Rattle.style_program.specs.Run.{NoneFailed};
 ghost use Rattle.style_program.specs.Words.{Eval};
 ghost use Rattle.style_program.specs.WordsView.{eval_words};
 ghost use Rattle.style_program.specs.StyleRead.{IsStyleRead};
@@ -42,9 +43,9 @@ pub fn answer_eval<'a, F: Files>(
     scripts: &dyn HostOp,
 ) -> Result<Answer, Stop<'a>>
     ensures told { F.told files.new ≡ F.told files.old }
-    ensures faults { F.faults files.old ≤ F.faults files.new }
+    ensures reads { OnOk result (NoneFailed (F.faults files.old) (F.faults files.new) (F.failed files.old) (F.failed files.new)) }
     ensures answer { IfOk result (λ answer. IsEvalOutcome (eval_words request.now) (test images.now) (test scripts.now) (F.told files.old) (outcome_of answer)) }
-    ensures stop { IfErr result (λ stop. IsStop (F.told files.old) (Eval (eval_words request.now)) (F.faults files.old) (F.faults files.new) (F.failed files.new) stop) }
+    ensures stop { IfErr result (λ stop. IsStop (F.told files.old) (Eval (eval_words request.now)) (F.faults files.old) (F.faults files.new) (F.failed files.old) (F.failed files.new) stop) }
 {
     let bytes = match read_file(alloc, request.style, STYLE_LIMIT, files) {
         Ok(Some(bytes)) => bytes,
@@ -80,9 +81,9 @@ fn answer_style<'a, F: Files>(
     scripts: &dyn HostOp,
 ) -> Result<Answer, Stop<'a>>
     ensures told { F.told files.new ≡ F.told files.old }
-    ensures faults { F.faults files.old ≤ F.faults files.new }
+    ensures reads { OnOk result (NoneFailed (F.faults files.old) (F.faults files.new) (F.failed files.old) (F.failed files.new)) }
     ensures answer { IfOk result (λ answer. IsStyleOutcome (eval_words request.now) (test images.now) (test scripts.now) (F.told files.old request.now.tile.now) (Some (form_of style.now)) (outcome_of answer)) }
-    ensures stop { IfErr result (λ stop. IsReadStop (F.faults files.old) (F.faults files.new) (F.failed files.new) request.now.tile.now stop) }
+    ensures stop { IfErr result (λ stop. IsReadStop (F.faults files.old) (F.faults files.new) (F.failed files.old) (F.failed files.new) request.now.tile.now stop) }
 {
     match read_file(alloc, request.tile, TILE_LIMIT, files) {
         Ok(Some(bytes)) => Ok(answer_tile(

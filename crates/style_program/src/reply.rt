@@ -1,6 +1,7 @@
-ghost use Rattle.std.specs.Prelude.{◌≡◌, ◌≤◌, IfOk, IfErr};
+ghost use Rattle.std.specs.Prelude.{◌≡◌, OnOk, IfOk, IfErr};
 ghost use Rattle.style_program.specs.AnswerView.{outcome_of, IsStop};
 ghost use Rattle.style_program.specs.Replies.{IsReply, IsFileless};
+ghost use Rattle.style_program.specs.Run.{NoneFailed};
 ghost use Rattle.style_program.specs.WordsView.{asked_by};
 
 use crate::answer::{Answer, Stop, answer_said, answer_usage};
@@ -29,10 +30,10 @@ pub fn answer_to<'a, F: Files>(
     scripts: &dyn HostOp,
 ) -> Result<Answer, Stop<'a>>
     ensures told { F.told files.new ≡ F.told files.old }
-    ensures faults { F.faults files.old ≤ F.faults files.new }
+    ensures reads { OnOk result (NoneFailed (F.faults files.old) (F.faults files.new) (F.failed files.old) (F.failed files.new)) }
     ensures fileless { IsFileless (asked_by request.now) → files.new ≡ files.old }
     ensures answer { IfOk result (λ answer. IsReply (F.told files.old) (test images.now) (test scripts.now) (asked_by request.now) (outcome_of answer)) }
-    ensures stop { IfErr result (λ stop. IsStop (F.told files.old) (asked_by request.now) (F.faults files.old) (F.faults files.new) (F.failed files.new) stop) }
+    ensures stop { IfErr result (λ stop. IsStop (F.told files.old) (asked_by request.now) (F.faults files.old) (F.faults files.new) (F.failed files.old) (F.failed files.new) stop) }
 {
     match request {
         Request::Value(expression) => Ok(answer_value(alloc, expression, images, scripts)?),

@@ -1,8 +1,8 @@
-ghost use Rattle.std.specs.Prelude.{◌≡◌, ◌≢◌, ◌⊎◌, ℕ, ◌<◌, ◌≤◌, List, [], length, map, string_bytes, OnOk, OnErr, IfOk};
-ghost use Rattle.outside_io.specs.Counts.{Rose, Still};
+ghost use Rattle.std.specs.Prelude.{◌≡◌, ◌≢◌, ◌⊎◌, ℕ, ◌<◌, List, [], length, map, string_bytes, OnOk, OnErr, IfOk};
+ghost use Rattle.outside_io.specs.Counts.{Still, raised};
 ghost use Rattle.outside_io.specs.Writing.{Gains, GainsPrefix};
 ghost use Rattle.style_program.specs.Replies.{IsFileless};
-ghost use Rattle.style_program.specs.Run.{Completes, OutFront, ErrFront, ReadFails, WriteFails, unread_line, EndsUnread};
+ghost use Rattle.style_program.specs.Run.{Completes, OutFront, ErrFront, ReadFails, WriteFails, EndsAtFailedRead, unread_line, EndsUnread};
 ghost use Rattle.style_program.specs.Words.{asked};
 
 use crate::answer::{Answer, Stop};
@@ -60,6 +60,11 @@ pub fn run_style<F: Files, O: Sink, E: Sink, L: Ledger>(
         (F.faults files.old) (F.faults files.new) (F.failed files.new)
         (O.faults out.old) (O.faults out.new) (E.faults err.old) (E.faults err.new) }
 
+    // The first read that fails ends the run, and so does the first write.
+    ensures reads { EndsAtFailedRead result (F.faults files.old) (F.faults files.new) (F.failed files.old) (F.failed files.new) }
+    ensures writes { result ≢ Status.WriteFault →
+        (O.faults out.new ≡ O.faults out.old) × (E.faults err.new ≡ E.faults err.old) }
+
     // Only `eval` reads files, and no command counts a step so far.
     ensures told { F.told files.new ≡ F.told files.old }
     ensures files { IsFileless (asked (map string_bytes words.now)) → files.new ≡ files.old }
@@ -96,8 +101,10 @@ fn run_with<F: Files, O: Sink, E: Sink>(
         (F.faults files.old) (F.faults files.new) (F.failed files.new)
         (O.faults out.old) (O.faults out.new) (E.faults err.old) (E.faults err.new) }
 
+    ensures reads { EndsAtFailedRead result (F.faults files.old) (F.faults files.new) (F.failed files.old) (F.failed files.new) }
+    ensures writes { result ≢ Status.WriteFault →
+        (O.faults out.new ≡ O.faults out.old) × (E.faults err.new ≡ E.faults err.old) }
     ensures told { F.told files.new ≡ F.told files.old }
-    ensures faults { F.faults files.old ≤ F.faults files.new }
     ensures files { IsFileless (asked (map string_bytes words.now)) → files.new ≡ files.old }
 {
     let request = request_of(words);
@@ -122,9 +129,15 @@ fn write_answer<O: Sink, E: Sink>(
     ensures ok { OnOk result
         (Gains (O.held out.old) (O.held out.new) answer.now.out.items
         × Gains (E.held err.old) (E.held err.new) answer.now.err.items) }
-    ensures failed { OnErr result
-        (Rose (O.faults out.old) (O.faults out.new)
-        ⊎ ((0 < length answer.now.err.items) × Rose (E.faults err.old) (E.faults err.new))) }
+    ensures none_failed { OnOk result
+        ((O.faults out.new ≡ O.faults out.old) × (E.faults err.new ≡ E.faults err.old)) }
+    ensures one_failed { OnErr result
+        (((0 < length answer.now.out.items)
+        × (O.faults out.new ≡ raised (O.faults out.old))
+        × (E.faults err.new ≡ E.faults err.old))
+        ⊎ ((0 < length answer.now.err.items)
+        × (O.faults out.new ≡ O.faults out.old)
+        × (E.faults err.new ≡ raised (E.faults err.old)))) }
 {
     if !answer.out.is_empty() {
         out.write(answer.out.as_slice())?;
