@@ -12,15 +12,18 @@
 //! - The meaning of a [`HostOp`] is a test on texts, and `answer` gives it.
 //! - `tell` changes the test at the one text that it names, or refuses and changes nothing. It answers `Fixed` exactly
 //!   where the test cannot change, and no call changes whether it can.
+//! - [`ImageSet`] lets no name pass when it is made, and then those that it was told last that they are there.
 //! - [`ScriptTest`] answers false exactly where a text has a scalar value from U+0590 to U+08FF.
 #![tactic(auto)]
 
 mod host_op;
+mod image_set;
 mod script_test;
 #[cfg(test)]
 mod tests;
 mod text_test;
 
 pub use host_op::{HostOp, TellFault};
+pub use image_set::ImageSet;
 pub use script_test::ScriptTest;
 pub use text_test::TextTest;

@@ -1,0 +1,14 @@
+-- The hash by which keys are told apart.
+use Rattle.std.specs.Prelude.{ℕ, ◌+◌, ◌*◌, ◌/◌, ◌%◌, ◌^◌, List, [], ◌∷◌}
+
+-- A hash of 64 bits with one byte more. Source: own; the factor is 2^64 divided by the golden ratio.
+unfoldable pub mixed : ℕ → ℕ → ℕ
+mixed hash byte = ((hash + byte) % 2 ^ 64 * 11400714819323198485) % 2 ^ 64
+
+abbrev pub hash_from : ℕ → List ℕ → ℕ
+hash_from hash [] = hash
+hash_from hash (b ∷ bs) = hash_from (mixed hash b) bs
+
+-- The upper 32 bits of a key's hash.
+abbrev pub hash_of : List ℕ → ℕ
+hash_of key = hash_from 0 key / 4294967296

@@ -1,0 +1,4 @@
+pub mod Keys
+pub mod Hash
+pub mod Table
+pub mod Index

@@ -1,0 +1,25 @@
+//! Where keys stand in a list whose keys differ: an index for the members of objects and the entries of maps.
+//!
+//! The list and its keys are the caller's: the index keeps places alone. The first sixteen keys are compared one by
+//! one. Later ones stand in buckets by a hash of their bytes, and a key whose bucket is full stands in an ordered map.
+//! So a look-up takes constant time, and whoever chooses keys whose hashes agree makes it take logarithmic time.
+//!
+//! ```text
+//! let mut index = KeyIndex::new();
+//! index.note_next(alloc, entries.as_slice(), key)?;       // the key that is added to the entries next
+//! index.find(entries.as_slice(), key);                    // Some(the place of the entry that has the key)
+//! index.forget(entries.as_slice(), place);                // the entry at a place is taken out next
+//! ```
+//!
+//! What is promised: an index that stands for a list of keys (`IsIndexed`) finds each of them at its place, and no
+//! other key. `note_next` and `forget` give the index that stands for the changed list. When allocation fails, the
+//! index stands for what it stood for.
+#![tactic(auto)]
+
+mod hash;
+mod index;
+mod keyed;
+mod table;
+
+pub use index::KeyIndex;
+pub use keyed::Keyed;
