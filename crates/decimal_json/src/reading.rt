@@ -1,11 +1,10 @@
-ghost use Rattle.std.specs.Prelude.{◌≡◌, ◌≤◌, ◌<◌, IsUtf8, ℕ, List, [], ◌∷◌, ◌++◌, Some, length, not, true, if◌then◌else◌, OnOk, IfOk};
-ghost use Rattle.std.specs.Str.{bytes_eq};
+ghost use Rattle.std.specs.Prelude.{◌≡◌, ◌≤◌, ◌<◌, IsUtf8, ℕ, [], ◌∷◌, Some, length, IfOk};
 ghost use Rattle.json_tokens.specs.Production.{Gives, GivesSurely};
 ghost use Rattle.json_tokens.specs.Runs.{first_of};
 ghost use Rattle.json_tokens.specs.Sequence.{BehindByte};
 ghost use Rattle.decimal_json.specs.Grammar.{IsNew, SpellsKey, SpellsValue, SpellsItems, SpellsTail, SpellsMembers, SpellsMore};
 ghost use Rattle.decimal_json.specs.Parses.{Parses};
-ghost use Rattle.decimal_json.specs.Reading.{AreNoted, is_noted, GivesTurn, SpellsMembersOn, SpellsNamed, SpellsPair, SpellsSome, GivesWhole, pair_of};
+ghost use Rattle.decimal_json.specs.Reading.{AreUtf8, GivesTurn, SpellsMembersOn, SpellsNamed, SpellsPair, SpellsSome, GivesWhole, keys_of, pair_of};
 ghost use Rattle.decimal_json.specs.Tree.{no_trees, no_fields, trees_of, fields_of};
 ghost use Rattle.decimal_json.specs.View.{tree_of};
 
@@ -16,7 +15,6 @@ use crate::tree::{Items, Json, Member, Members};
 use json_tokens::{Cursor, Halt, JsonKind};
 use shared_text::{Document, Text};
 use std::alloc::{AllocError, Global};
-use std::collections::BTreeSet;
 
 /// How many arrays and objects may be open at one place.
 const MAX_OPEN: usize = 64;
@@ -164,9 +162,8 @@ fn read_pairs(alloc: Global, cursor: &mut Cursor<'_>, depth: usize) -> Result<Me
     ensures shorter { length cursor.new ≤ length cursor.old }
 {
     let mut members = Members::new(alloc);
-    let mut keys = BTreeSet::new(alloc);
     loop {
-        let member = match read_pair(alloc, cursor, depth, &mut keys) {
+        let member = match read_pair(alloc, cursor, depth, &members) {
             Ok(member) => member,
             Err(halt) => return Err(halt),
         };
@@ -179,20 +176,21 @@ fn read_pairs(alloc: Global, cursor: &mut Cursor<'_>, depth: usize) -> Result<Me
     }
 }
 
-// Reads a member whose key is none of these, and notes its key.
+// Reads a member whose key none of these members has.
 #[cycle(read)]
 fn read_pair(
     alloc: Global,
     cursor: &mut Cursor<'_>,
     depth: usize,
-    keys: &mut BTreeSet<Text>,
+    members: &Members,
 ) -> Result<Member, Halt>
-    requires { depth ≤ MAX_OPEN }
-    ensures gives { (taken : List (List ℕ)) → AreNoted keys.old taken → Gives (SpellsPair depth taken) pair_of cursor.old result cursor.new }
-    ensures noted { IfOk result (λ member. (taken : List (List ℕ)) → AreNoted keys.old taken → IsNew member.key taken × AreNoted keys.new (taken ++ member.key ∷ [])) }
+    requires within { depth ≤ MAX_OPEN }
+    requires utf8 { AreUtf8 (keys_of members.now) }
+    ensures gives { Gives (SpellsPair depth (keys_of members.now)) pair_of cursor.old result cursor.new }
+    ensures fresh { IfOk result (λ member. IsNew member.key (keys_of members.now) × IsUtf8 member.key) }
     ensures shorter { length cursor.new ≤ length cursor.old }
 {
-    let key = match read_key(alloc, cursor, keys) {
+    let key = match read_key(alloc, cursor, members) {
         Ok(key) => key,
         Err(halt) => return Err(halt),
     };
@@ -217,10 +215,11 @@ fn read_named(alloc: Global, cursor: &mut Cursor<'_>, depth: usize) -> Result<Js
     read_value(alloc, cursor, depth)
 }
 
-// Reads a key that is none of these, its marks included, and notes it.
-fn read_key(alloc: Global, cursor: &mut Cursor<'_>, keys: &mut BTreeSet<Text>) -> Result<Text, Halt>
-    ensures gives { (taken : List (List ℕ)) → AreNoted keys.old taken → Gives (BehindByte 34 (SpellsKey taken)) (λ key. key) cursor.old result cursor.new }
-    ensures noted { IfOk result (λ key. (taken : List (List ℕ)) → AreNoted keys.old taken → IsNew key taken × AreNoted keys.new (taken ++ key ∷ [])) }
+// Reads a key that none of these members has, its marks included.
+fn read_key(alloc: Global, cursor: &mut Cursor<'_>, members: &Members) -> Result<Text, Halt>
+    requires { AreUtf8 (keys_of members.now) }
+    ensures gives { Gives (BehindByte 34 (SpellsKey (keys_of members.now))) (λ key. key) cursor.old result cursor.new }
+    ensures fresh { IfOk result (λ key. IsNew key (keys_of members.now) × IsUtf8 key) }
     ensures shorter { length cursor.new ≤ length cursor.old }
 {
     if !cursor.take_if(b'"') {
@@ -231,27 +230,16 @@ fn read_key(alloc: Global, cursor: &mut Cursor<'_>, keys: &mut BTreeSet<Text>) -
         Ok(key) => key,
         Err(halt) => return Err(halt),
     };
-    if !note_key(keys, &key)? {
-        // The fault is at the mark that closes the key.
-        let taken = start.rest().len() - cursor.rest().len();
-        *cursor = start;
-        cursor.take_front(taken - 1);
-        return Err(Halt::Fault(JsonKind::DuplicateKey));
+    match members.get(key.as_str()) {
+        None => Ok(key),
+        Some(_value) => {
+            // The fault is at the mark that closes the key.
+            let taken = start.rest().len() - cursor.rest().len();
+            *cursor = start;
+            cursor.take_front(taken - 1);
+            Err(Halt::Fault(JsonKind::DuplicateKey))
+        }
     }
-    Ok(key)
-}
-
-// Notes a key, and tells whether it was not noted yet.
-fn note_key(keys: &mut BTreeSet<Text>, key: &Text) -> Result<bool, AllocError>
-    ensures fresh { IfOk result (λ fresh. fresh ≡ not (is_noted keys.old key.now)) }
-    ensures noted { OnOk result ((q : List ℕ) → is_noted keys.new q ≡ (if bytes_eq key.now q then true else is_noted keys.old q)) }
-    ensures utf8 { IsUtf8 key.now }
-{
-    let name = key.share()?;
-    let Ok(fresh) = keys.insert(name) else {
-        return Err(AllocError);
-    };
-    Ok(fresh)
 }
 
 // Reads what stands behind an item or a member: true at the end, false where the next one stands.
