@@ -1,6 +1,6 @@
 -- What looked-up tags make of a feature.
 use Rattle.std.proofs.Common.{◌≡◌, ℕ, zero, suc, ◌%◌, ◌<◌, List, [], ◌∷◌, refl, ap, ◌∙◌, subst, arith, length, Bool, true, false}
-use Rattle.std.specs.Prelude.{Option, Some, None, option_map, Ok, Err, if◌then◌else◌, nat_eq, slice_index_or, IfSome}
+use Rattle.std.specs.Prelude.{Option, Some, None, option_map, Ok, Err, if◌then◌else◌, nat_eq, slice_index_or}
 use Rattle.std.proofs.lemmas.Bool.Decides.{Decides-eqb}
 use Rattle.prop_values.specs.Data.{Data, HasDistinctKeys}
 use Rattle.tile_reader.specs.declared.fault.TileKind.TheVariants.{TagIndex, OddTags}
@@ -50,11 +50,9 @@ pub feature_odd : (keys : List (List ℕ)) (values : List Data) (tagged : Tagged
 feature_odd keys values tagged odd =
     ap (λ (t : Bool). if t then refused OddTags tagged.at else with_pairs tagged (named keys values tagged.tags)) ((Decides-eqb (length tagged.tags % 2) 1).1 odd)
 
-pub none_from : {X Y : Type 0} (o : Option Y) (f : X → Y) (chosen : Option X) → o ≡ option_map f chosen → chosen ≡ None → o ≡ None
-none_from o f chosen e none = e ∙ ap (option_map f) none
+-- what a test says of a choice
+pub if_known : {Y : Type 0} (o : Option Y) (known : Bool) (y : Y) → o ≡ (if known then Some y else None) → known ≡ true → o ≡ Some y
+if_known {Y} o known y e is = e ∙ ap (λ (t : Bool). if t then Some y else None) is
 
-pub some_from : {X Y : Type 0} (o : Option Y) (f : X → Y) (chosen : Option X) (x : X) → o ≡ option_map f chosen → chosen ≡ Some x → o ≡ Some (f x)
-some_from o f chosen x e some = e ∙ ap (option_map f) some
-
-pub if_some : {X : Type 0} (P : X → Type 0) (o : Option X) (x : X) → o ≡ Some x → IfSome o P → P x
-if_some {X} P o x e holds = subst (λ (o : Option X). IfSome o P) e holds
+pub if_not_known : {Y : Type 0} (o : Option Y) (known : Bool) (y : Y) → o ≡ (if known then Some y else None) → known ≡ false → o ≡ None
+if_not_known {Y} o known y e is = e ∙ ap (λ (t : Bool). if t then Some y else None) is

@@ -1,6 +1,7 @@
 pub mod Messages
 pub mod Texts
 pub mod Packed
+pub mod Tags
 pub mod Places
 pub mod TextPlaces
 pub mod Firsts

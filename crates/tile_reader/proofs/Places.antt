@@ -1,9 +1,11 @@
 -- The pair of a key among the pairs so far, and where it stands after another pair was put.
-use Rattle.std.proofs.Common.{◌≡◌, ℕ, zero, suc, ◌<◌, List, [], ◌∷◌, ◌++◌, refl, sym, ap, ◌∙◌, arith, length, set, Bool, true, false, cond}
-use Rattle.std.specs.Prelude.{Option, Some, None, option_map, if◌then◌else◌, nat_eq}
-use Rattle.std.proofs.lemmas.Bool.Decides.{Decides-eqb, same_from_decides, nat_tests}
-use Rattle.std.specs.BTreeMap.{BTreeMap, get, is_at}
-use Rattle.std.specs.Ordering.{nat_cmp, is_eq}
+use Rattle.std.proofs.Common.{◌≡◌, ◌≢◌, ◌⊎◌, inl, inr, ℕ, zero, suc, ◌<◌, ◌≤◌, List, [], ◌∷◌, ◌++◌, refl, sym, ap, ◌∙◌, subst, arith, length, set, Bool, true, false}
+use Rattle.std.specs.Prelude.{Option, Some, None, option_map, if◌then◌else◌, nat_eq, slice_index, slice_index_or}
+use Rattle.std.proofs.lemmas.Bool.{false_from_ne_true, cases_eq, cases_lt}
+use Rattle.std.proofs.lemmas.Bool.Decides.{Decides-eqb}
+use Rattle.std.proofs.lemmas.List.{get_or-set_same, get_or-set_other, length-append}
+use Rattle.std.proofs.Math.ListN.{get_or-append, length-set}
+use Rattle.std.proofs.Math.Seq.{get_or-append_seam}
 use Rattle.tile_reader.specs.Lookup.{pair_place, put_pair, ArePlaces}
 
 -- the number under a `Some`
@@ -25,9 +27,6 @@ suc_none (Some n) e = absurd (cc)
 pub suc_zero : (o : Option ℕ) → option_map suc o ≡ Some zero → ⊥
 suc_zero None e = cc
 suc_zero (Some n) e = let q : suc n ≡ zero = some_is (suc n) zero e in omega arith
-
-pub nat_eq_comm : (a b : ℕ) → nat_eq a b ≡ nat_eq b a
-nat_eq_comm a b = same_from_decides {P = a ≡ b} (nat_eq a b) (nat_eq b a) (Decides-eqb a b) (λ e. sym ((Decides-eqb b a).0 e), λ p. (Decides-eqb b a).1 (sym p))
 
 -- a pair whose key is there stands in its place
 there_at : (pair first : ℕ × ℕ) (pairs : List (ℕ × ℕ)) (t : Bool) (i : ℕ) → ((j : ℕ) → pair_place pair.0 pairs ≡ Some j → put_pair pair pairs ≡ set pairs j pair) → (if t then Some 0 else option_map suc (pair_place pair.0 pairs)) ≡ Some i → (if t then pair ∷ pairs else first ∷ put_pair pair pairs) ≡ set (first ∷ pairs) i pair
@@ -59,47 +58,79 @@ pub place_below : (key : ℕ) (pairs : List (ℕ × ℕ)) (i : ℕ) → pair_pla
 place_below key [] i e = absurd (cc)
 place_below key (first ∷ pairs) i e = below_at key first pairs (nat_eq key first.0) i (place_below key pairs) e
 
--- places stay where a pair was put in the place of its key
-same_at : (pair first : ℕ × ℕ) (pairs : List (ℕ × ℕ)) (q : ℕ) (t : Bool) → nat_eq pair.0 first.0 ≡ t → ((i : ℕ) → pair_place pair.0 pairs ≡ Some i → pair_place q (put_pair pair pairs) ≡ pair_place q pairs) → (i : ℕ) → (if t then Some 0 else option_map suc (pair_place pair.0 pairs)) ≡ Some i → pair_place q (if t then pair ∷ pairs else first ∷ put_pair pair pairs) ≡ (if nat_eq q first.0 then Some 0 else option_map suc (pair_place q pairs))
-same_at pair first pairs q true is later i e = ap (λ (k : ℕ). if nat_eq q k then Some 0 else option_map suc (pair_place q pairs)) ((Decides-eqb pair.0 first.0).0 is)
-same_at pair first pairs q false is later zero e = absurd (suc_zero (pair_place pair.0 pairs) e)
-same_at pair first pairs q false is later (suc i) e = ap (λ (o : Option ℕ). if nat_eq q first.0 then Some 0 else option_map suc o) (later i (suc_some (pair_place pair.0 pairs) i e))
+-- the pair in the place of a key has that key
+key_at : (key : ℕ) (first : ℕ × ℕ) (pairs : List (ℕ × ℕ)) (t : Bool) (i : ℕ) → nat_eq key first.0 ≡ t → ((j : ℕ) → pair_place key pairs ≡ Some j → (slice_index_or pairs j (0, 0)).0 ≡ key) → (if t then Some 0 else option_map suc (pair_place key pairs)) ≡ Some i → (slice_index_or (first ∷ pairs) i (0, 0)).0 ≡ key
+key_at key first pairs true zero is later e = sym ((Decides-eqb key first.0).0 is)
+key_at key first pairs true (suc i) is later e = let q : zero ≡ suc i = some_is zero (suc i) e in absurd (omega arith)
+key_at key first pairs false zero is later e = absurd (suc_zero (pair_place key pairs) e)
+key_at key first pairs false (suc i) is later e = later i (suc_some (pair_place key pairs) i e)
 
-pub place_same : (pair : ℕ × ℕ) (pairs : List (ℕ × ℕ)) (q i : ℕ) → pair_place pair.0 pairs ≡ Some i → pair_place q (put_pair pair pairs) ≡ pair_place q pairs
-place_same pair [] q i e = absurd (cc)
-place_same pair (first ∷ pairs) q i e = same_at pair first pairs q (nat_eq pair.0 first.0) refl (place_same pair pairs q) i e
+pub place_key : (key : ℕ) (pairs : List (ℕ × ℕ)) (i : ℕ) → pair_place key pairs ≡ Some i → (slice_index_or pairs i (0, 0)).0 ≡ key
+place_key key [] i e = absurd (cc)
+place_key key (first ∷ pairs) i e = key_at key first pairs (nat_eq key first.0) i refl (place_key key pairs) e
 
--- the place of a new key is the end
-end_at : (pair first : ℕ × ℕ) (pairs : List (ℕ × ℕ)) (q : ℕ) (t u : Bool) → nat_eq q first.0 ≡ t → nat_eq pair.0 q ≡ u → (pair_place pair.0 (first ∷ pairs) ≡ None) → pair_place q (pairs ++ pair ∷ []) ≡ (if u then Some (length pairs) else pair_place q pairs) → (if t then Some 0 else option_map suc (pair_place q (pairs ++ pair ∷ []))) ≡ (if u then Some (suc (length pairs)) else (if t then Some 0 else option_map suc (pair_place q pairs)))
-end_at pair first pairs q true true t_is u_is none later =
-    let same : pair.0 ≡ first.0 = (Decides-eqb pair.0 q).0 u_is ∙ (Decides-eqb q first.0).0 t_is in
-    let there : nat_eq pair.0 first.0 ≡ true = (Decides-eqb pair.0 first.0).1 same in
-    let gone : ◌≡◌ {A = Option ℕ} (Some 0) None = ap (λ (b : Bool). if b then Some 0 else option_map suc (pair_place pair.0 pairs)) (sym there) ∙ none in
-    absurd (cc)
-end_at pair first pairs q true false t_is u_is none later = refl
-end_at pair first pairs q false true t_is u_is none later = ap (option_map suc) later
-end_at pair first pairs q false false t_is u_is none later = ap (option_map suc) later
+-- a key without a place is that of no pair
+missing_at : (key : ℕ) (first : ℕ × ℕ) (pairs : List (ℕ × ℕ)) (t : Bool) (i : ℕ) → nat_eq key first.0 ≡ t → ((j : ℕ) → pair_place key pairs ≡ None → j < length pairs → (slice_index_or pairs j (0, 0)).0 ≢ key) → (if t then Some 0 else option_map suc (pair_place key pairs)) ≡ None → i < suc (length pairs) → (slice_index_or (first ∷ pairs) i (0, 0)).0 ≢ key
+missing_at key first pairs true i is later e below = absurd (cc)
+missing_at key first pairs false zero is later e below = λ q. let yes : nat_eq key first.0 ≡ true = (Decides-eqb key first.0).1 (sym q) in cc
+missing_at key first pairs false (suc i) is later e below = later i (suc_none (pair_place key pairs) e) (omega arith)
 
-none_after : (key : ℕ) (first : ℕ × ℕ) (pairs : List (ℕ × ℕ)) (t : Bool) → (if t then Some 0 else option_map suc (pair_place key pairs)) ≡ None → pair_place key pairs ≡ None
-none_after key first pairs true e = absurd (cc)
-none_after key first pairs false e = suc_none (pair_place key pairs) e
+missing : (key : ℕ) (pairs : List (ℕ × ℕ)) (i : ℕ) → pair_place key pairs ≡ None → i < length pairs → (slice_index_or pairs i (0, 0)).0 ≢ key
+missing key [] i e below = absurd (omega arith)
+missing key (first ∷ pairs) i e below = missing_at key first pairs (nat_eq key first.0) i refl (λ j. missing key pairs j) e below
 
-pub place_end : (pair : ℕ × ℕ) (pairs : List (ℕ × ℕ)) (q : ℕ) → pair_place pair.0 pairs ≡ None → pair_place q (pairs ++ pair ∷ []) ≡ (if nat_eq pair.0 q then Some (length pairs) else pair_place q pairs)
-place_end pair [] q none = ap (λ (b : Bool). if b then Some 0 else None) (nat_eq_comm q pair.0)
-place_end pair (first ∷ pairs) q none =
-    end_at pair first pairs q (nat_eq q first.0) (nat_eq pair.0 q) refl refl none (place_end pair pairs q (none_after pair.0 first pairs (nat_eq pair.0 first.0) none))
+-- the first pair of a key is the one in its place
+first_at : (key : ℕ) (pairs : List (ℕ × ℕ)) (i : ℕ) → i < length pairs → (slice_index_or pairs i (0, 0)).0 ≡ key → ((j : ℕ) → j < i → (slice_index_or pairs j (0, 0)).0 ≡ key → ⊥) → pair_place key pairs ≡ Some i
+first_at key [] i below is none = absurd (omega arith)
+first_at key (pair ∷ pairs) zero below is none = let t : nat_eq key pair.0 ≡ true = (Decides-eqb key pair.0).1 (sym is) in rw t refl
+first_at key (pair ∷ pairs) (suc i) below is none =
+    let t : nat_eq key pair.0 ≡ false = false_from_ne_true (nat_eq key pair.0) (λ e. none 0 (omega arith) (sym ((Decides-eqb key pair.0).0 e))) in
+    rw t (ap (option_map suc) (first_at key pairs i (omega arith) is (λ j h e. none (suc j) (omega arith) e)))
 
-is_eq-nat_cmp : (a b : ℕ) → is_eq (nat_cmp a b) ≡ nat_eq a b
-is_eq-nat_cmp a b = grind (arith, nat_tests)
+no_pair : (key : ℕ) (pairs : List (ℕ × ℕ)) → ((j : ℕ) → j < length pairs → (slice_index_or pairs j (0, 0)).0 ≡ key → ⊥) → pair_place key pairs ≡ None
+no_pair key [] none = refl
+no_pair key (pair ∷ pairs) none =
+    let t : nat_eq key pair.0 ≡ false = false_from_ne_true (nat_eq key pair.0) (λ e. none 0 (omega arith) (sym ((Decides-eqb key pair.0).0 e))) in
+    rw t (ap (option_map suc) (no_pair key pairs (λ j h e. none (suc j) (omega arith) e)))
 
-end_place : (pair : ℕ × ℕ) (pairs : List (ℕ × ℕ)) (q : ℕ) (t u : Bool) (o : Option ℕ) → t ≡ u → o ≡ pair_place q pairs → cond t (Some (length pairs)) o ≡ (if u then Some (length pairs) else pair_place q pairs)
-end_place pair pairs q true true o t_is o_is = refl
-end_place pair pairs q false false o t_is o_is = o_is
-end_place pair pairs q true false o t_is o_is = absurd (cc)
-end_place pair pairs q false true o t_is o_is = absurd (cc)
+pub place_found : (places : List ℕ) (pairs : List (ℕ × ℕ)) (key place : ℕ) → ArePlaces places pairs → slice_index places key ≡ place → place < length pairs → (slice_index_or pairs place (0, 0)).0 ≡ key → pair_place key pairs ≡ Some place
+place_found places pairs key place are is below there =
+    first_at key pairs place below there (λ j h e. let here : slice_index places key ≡ j = ap (slice_index places) (sym e) ∙ are j (omega arith) in omega arith)
 
--- a key more in the map is a pair more at the end
-pub places_more : (old new : BTreeMap ℕ ℕ) (pairs : List (ℕ × ℕ)) (pair : ℕ × ℕ) (n : ℕ) → ArePlaces old pairs → pair_place pair.0 pairs ≡ None → n ≡ length pairs → ((q : ℕ) → get nat_cmp new q ≡ cond (is_at (nat_cmp pair.0) q) (Some n) (get nat_cmp old q)) → ArePlaces new (pairs ++ pair ∷ [])
-places_more old new pairs pair n are none size updates q =
-    updates q ∙ ap (λ (m : ℕ). cond (is_at (nat_cmp pair.0) q) (Some m) (get nat_cmp old q)) size
-    ∙ end_place pair pairs q (is_at (nat_cmp pair.0) q) (nat_eq pair.0 q) (get nat_cmp old q) (is_eq-nat_cmp pair.0 q) (are q) ∙ sym (place_end pair pairs q none)
+pub place_missed : (places : List ℕ) (pairs : List (ℕ × ℕ)) (key place : ℕ) → ArePlaces places pairs → slice_index places key ≡ place → (place < length pairs → (slice_index_or pairs place (0, 0)).0 ≡ key → ⊥) → pair_place key pairs ≡ None
+place_missed places pairs key place are is none =
+    no_pair key pairs (λ j h e. let here : place ≡ j = sym is ∙ ap (slice_index places) (sym e) ∙ are j h in none (omega arith) (ap (λ (n : ℕ). (slice_index_or pairs n (0, 0)).0) here ∙ e))
+
+-- a pair in the place of its key changes no place
+pub places_same : (places : List ℕ) (pairs : List (ℕ × ℕ)) (pair : ℕ × ℕ) (i : ℕ) → ArePlaces places pairs → pair_place pair.0 pairs ≡ Some i → ArePlaces places (put_pair pair pairs)
+places_same places pairs pair i are there = subst (ArePlaces places) (sym (put_there pair pairs i there)) (λ j h. same_place (cases_eq j i) h)
+  where
+    below : i < length pairs
+    below = place_below pair.0 pairs i there
+
+    key_is : (slice_index_or pairs i (0, 0)).0 ≡ pair.0
+    key_is = place_key pair.0 pairs i there
+
+    same_place : {j : ℕ} → (j ≡ i) ⊎ (j ≢ i) → j < length (set pairs i pair) → slice_index places (slice_index_or (set pairs i pair) j (0, 0)).0 ≡ j
+    same_place {j} (inl e) h =
+        ap (λ (p : ℕ × ℕ). slice_index places p.0) (ap (λ (n : ℕ). slice_index_or (set pairs i pair) n (0, 0)) e ∙ get_or-set_same pairs i pair (0, 0) below)
+        ∙ ap (slice_index places) (sym key_is) ∙ are i below ∙ sym e
+    same_place {j} (inr d) h =
+        ap (λ (p : ℕ × ℕ). slice_index places p.0) (get_or-set_other pairs i j pair (0, 0) d) ∙ are j (omega (arith, length-set pairs i pair))
+
+-- a pair of a new key is noted
+pub places_more : (places : List ℕ) (pairs : List (ℕ × ℕ)) (pair : ℕ × ℕ) (n : ℕ) → ArePlaces places pairs → pair_place pair.0 pairs ≡ None → pair.0 < length places → n ≡ length pairs → ArePlaces (set places pair.0 n) (pairs ++ pair ∷ [])
+places_more places pairs pair n are none inside size j h = more_place (cases_lt j (length pairs))
+  where
+    other : (i : ℕ) → i < length pairs → (slice_index_or pairs i (0, 0)).0 ≢ pair.0
+    other i below e = missing pair.0 pairs i none below e
+
+    more_place : (j < length pairs) ⊎ (length pairs ≤ j) → slice_index (set places pair.0 n) (slice_index_or (pairs ++ pair ∷ []) j (0, 0)).0 ≡ j
+    more_place (inl below) =
+        ap (λ (p : ℕ × ℕ). slice_index (set places pair.0 n) p.0) (get_or-append pairs (pair ∷ []) (0, 0) j below)
+        ∙ get_or-set_other places pair.0 (slice_index_or pairs j (0, 0)).0 n 0 (other j below) ∙ are j below
+    more_place (inr above) =
+        let last : j ≡ length pairs = omega (arith, length-append pairs (pair ∷ [])) in
+        ap (λ (k : ℕ). slice_index (set places pair.0 n) (slice_index_or (pairs ++ pair ∷ []) k (0, 0)).0) last
+        ∙ ap (λ (p : ℕ × ℕ). slice_index (set places pair.0 n) p.0) (get_or-append_seam pairs pair [] (0, 0))
+        ∙ get_or-set_same places pair.0 n 0 inside ∙ size ∙ sym last

@@ -3,7 +3,7 @@ use Rattle.std.specs.Prelude.{◌≡◌, ℕ, ◌<◌, ◌⊎◌, suc, List, [],
 use Rattle.std.specs.List.{list_any}
 use Rattle.std.specs.Str.{bytes_eq}
 use Rattle.std.specs.Borrow.{Bor}
-use Rattle.std.specs.BTreeMap.{BTreeMap, get, get_by}
+use Rattle.std.specs.BTreeMap.{BTreeMap, get_by}
 use Rattle.std.specs.Ordering.{nat_cmp}
 use Rattle.std.specs.Cmp.Lexicographic.{slice_cmp}
 use Rattle.prop_values.specs.Data.{Data}
@@ -45,9 +45,9 @@ AreInside firsts values (pair ∷ pairs) = (pair.0 < length firsts) × (slice_in
 abbrev pub IndicesWithin : ℕ → ℕ → ℕ × ℕ → Type 0
 IndicesWithin keys values pair = (pair.0 < keys) × (pair.1 < values)
 
--- a map from keys to the places of their pairs
-abbrev pub ArePlaces : BTreeMap ℕ ℕ → List (ℕ × ℕ) → Type 0
-ArePlaces places pairs = (key : ℕ) → get nat_cmp places key ≡ pair_place key pairs
+-- The key of each pair has the place of that pair. Of other keys the places say nothing.
+abbrev pub ArePlaces : List ℕ → List (ℕ × ℕ) → Type 0
+ArePlaces places pairs = (i : ℕ) → i < length pairs → slice_index places (slice_index_or pairs i (0, 0)).0 ≡ i
 
 -- what such a map has for a text
 abbrev pub find_text : {X : Type 0} → BTreeMap (Bor (List ℕ)) X → List ℕ → Option X

@@ -1,5 +1,5 @@
 -- What the definitions see of the values that the reader makes.
-use Rattle.std.specs.Prelude.{◌≡◌, ℕ, pos, List, map, Option, Some, None, option_map, Result, Ok, Err}
+use Rattle.std.specs.Prelude.{◌≡◌, ℕ, ◌+◌, pos, List, [], ◌∷◌, length, take, drop, map, Option, Some, None, option_map, Result, Ok, Err}
 use Rattle.std.specs.Borrow.{Bor}
 use Rattle.proto_wire.specs.Reading.{Reading}
 use Rattle.proto_wire.specs.View.{field_seen}
@@ -54,9 +54,23 @@ value_seen (Unsigned n) = whole (pos n)
 value_seen (Text s) = held.text s.now
 value_seen (Flag b) = held.boolean b
 
--- the feature before its tags are looked up
-abbrev pub tagged_seen : TaggedFeature → Tagged
-tagged_seen feature = record { at = feature.at; id = feature.id; shape = feature.shape; tags = feature.tags.items }
+-- a feature with these tags, before they are looked up
+abbrev pub tagged_seen : TaggedFeature → List ℕ → Tagged
+tagged_seen feature tags = record { at = feature.at; id = feature.id; shape = feature.shape; tags = tags }
+
+-- features whose tags stand one after the other
+abbrev pub tagged_all : List TaggedFeature → List ℕ → List Tagged
+tagged_all [] tags = []
+tagged_all (feature ∷ features) tags = tagged_seen feature (take feature.count tags) ∷ tagged_all features (drop feature.count tags)
+
+-- how many tags features have
+abbrev pub count_of_tags : List TaggedFeature → ℕ
+count_of_tags [] = 0
+count_of_tags (feature ∷ features) = feature.count + count_of_tags features
+
+-- these are the tags of the features, and no others
+abbrev pub HasAllTags : List TaggedFeature → List ℕ → Type 0
+HasAllTags features tags = count_of_tags features ≡ length tags
 
 -- the texts
 abbrev pub texts_seen : List (Bor (List ℕ)) → List (List ℕ)
@@ -69,5 +83,5 @@ parts_seen parts = record {
   version = parts.version;
   keys = texts_seen parts.keys.items;
   values = map value_seen parts.values.items;
-  features = map tagged_seen parts.features.items;
+  features = tagged_all parts.features.items parts.tags.items;
 }

@@ -1,4 +1,4 @@
-ghost use Rattle.std.specs.Prelude.{◌≡◌, ℕ, ◌+◌, ◌++◌, ◌^◌, ◌<◌, length, Ok};
+ghost use Rattle.std.specs.Prelude.{◌≡◌, ℕ, ◌+◌, ◌++◌, ◌^◌, ◌<◌, ◌≤◌, length, take, drop, IfOk, OnOk, Ok};
 ghost use Rattle.proto_wire.specs.View.{field_seen, payload_seen};
 ghost use Rattle.tile_reader.specs.Read.{◌then◌};
 ghost use Rattle.tile_reader.specs.Feature.{feature_member, feature_step, feature_at, packed, placed, tags_in, geometry_in, shape_of};
@@ -9,16 +9,18 @@ use crate::halt::Halt;
 use crate::tile::Shape;
 use crate::wire_parts::{next_field, number_in, wrong_type};
 use proto_wire::{Field, Fields, Wire, varint};
-use std::alloc::Global;
+use std::alloc::AllocError;
 
-/// A feature whose tags are indices of its layer's keys and values.
-#[derive(Drop)]
+/// A feature whose tags are indices of its layer's keys and values. The tags of a layer's features stand one after the
+/// other in one vector.
+#[derive(Clone, Copy)]
 pub(crate) struct TaggedFeature {
     /// The offset of its own tag.
     pub(crate) at: usize,
     pub(crate) id: Option<u64>,
+    /// How many tags it has.
+    pub(crate) count: u32,
     pub(crate) shape: Shape,
-    pub(crate) tags: Vec<u64>,
 }
 
 /// The fields of a feature (Vector Tile 2.1, section 4.2).
@@ -31,37 +33,60 @@ enum FeatureMember {
     Unknown,
 }
 
-/// The feature whose tag stands at `at` and whose content begins at `start`.
+/// The feature whose tag stands at `at` and whose content begins at `start`. Its tags go behind those before it.
 pub(crate) fn read_feature(
-    alloc: Global,
     content: &[u8],
     start: usize,
     at: usize,
+    tags: &mut Vec<u64>,
 ) -> Result<TaggedFeature, Halt>
     requires { start + length content.now < 2 ^ 64 }
-    ensures { GivesOrLacks tagged_seen result (feature_at at start content.now) }
+    ensures feature { GivesOrLacks (λ feature. tagged_seen feature (drop (length tags.old.items) tags.new.items)) result (feature_at at start content.now) }
+    ensures before { OnOk result (take (length tags.old.items) tags.new.items ≡ tags.old.items) }
+    ensures count { IfOk result (λ feature. length tags.old.items + feature.count ≡ length tags.new.items) }
 {
+    let first = tags.len();
     let mut feature = TaggedFeature {
         at,
         id: None,
+        count: 0,
         shape: Shape::Unknown,
-        tags: Vec::new(alloc),
     };
     let mut fields = Fields::new(content, start);
     while let Some(field) = next_field(&mut fields)? {
-        add_field(&mut feature, field)?;
+        add_field(&mut feature, tags, first, field)?;
     }
+    feature.count = count_of(tags.len() - first)?;
     Ok(feature)
 }
 
-// Adds what a field holds to a feature.
-fn add_field(feature: &mut TaggedFeature, field: Field<'_>) -> Result<(), Halt>
-    ensures { (end : ℕ) → Leaves (tagged_seen feature.new) result (feature_step (tagged_seen feature.old) (field_seen field.entry end)) }
+// A count of tags in 32 bits. So many tags fill 4 GiB of a tile at least.
+fn count_of(count: usize) -> Result<u32, AllocError>
+    ensures { IfOk result (λ same. same ≡ count) }
+{
+    match u32::try_from(count) {
+        Ok(count) => Ok(count),
+        Err(_) => Err(AllocError),
+    }
+}
+
+// Adds what a field holds to a feature whose tags begin at the index `first`.
+fn add_field(
+    feature: &mut TaggedFeature,
+    tags: &mut Vec<u64>,
+    first: usize,
+    field: Field<'_>,
+) -> Result<(), Halt>
+    requires { first ≤ length tags.old.items }
+    ensures step { (end : ℕ) → Leaves (tagged_seen feature.new (drop first tags.new.items)) result
+        (feature_step (tagged_seen feature.old (drop first tags.old.items)) (field_seen field.entry end)) }
+    ensures before { OnOk result (take first tags.new.items ≡ take first tags.old.items) }
+    ensures longer { OnOk result (first ≤ length tags.new.items) }
 {
     let Field { number, at, wire } = field;
     match feature_member(number) {
         FeatureMember::Id => feature.id = Some(number_in(at, wire)?),
-        FeatureMember::Tags => add_tags(&mut feature.tags, at, wire)?,
+        FeatureMember::Tags => add_tags(tags, at, wire)?,
         FeatureMember::Shape => feature.shape = shape_of(at, number_in(at, wire)?)?,
         FeatureMember::Geometry => geometry_in(at, wire)?,
         FeatureMember::Unknown => {}

@@ -1,9 +1,10 @@
-ghost use Rattle.std.specs.Prelude.{◌≡◌, ℕ, ◌+◌, ◌^◌, ◌<◌, ◌≤◌, length};
+ghost use Rattle.std.specs.Prelude.{◌≡◌, ℕ, ◌+◌, ◌^◌, ◌<◌, ◌≤◌, [], ◌∷◌, ◌++◌, length, IfOk, OnOk, Ok};
 ghost use Rattle.proto_wire.specs.View.{field_seen, content_length};
 ghost use Rattle.tile_reader.specs.Message.{message};
-ghost use Rattle.tile_reader.specs.Read.{read_fields};
+ghost use Rattle.tile_reader.specs.Read.{◌then◌, read_fields};
+ghost use Rattle.tile_reader.specs.Feature.{feature_at};
 ghost use Rattle.tile_reader.specs.Layer.{layer_member, layer_step, no_parts};
-ghost use Rattle.tile_reader.specs.View.{GivesOrLacks, Leaves, parts_seen};
+ghost use Rattle.tile_reader.specs.View.{GivesOrLacks, Leaves, HasAllTags, tagged_all, parts_seen};
 
 use crate::feature::{TaggedFeature, read_feature};
 use crate::halt::Halt;
@@ -20,6 +21,8 @@ pub(crate) struct LayerParts<'a> {
     pub(crate) keys: Vec<&'a str>,
     pub(crate) values: Vec<Held<'a>>,
     pub(crate) features: Vec<TaggedFeature>,
+    /// The tags of all features in order.
+    pub(crate) tags: Vec<u64>,
 }
 
 /// The fields of a layer (Vector Tile 2.1, section 4.1).
@@ -41,7 +44,8 @@ pub(crate) fn read_parts(
     start: usize,
 ) -> Result<LayerParts<'_>, Halt>
     requires { start + length content.now < 2 ^ 64 }
-    ensures { GivesOrLacks parts_seen result (read_fields layer_step no_parts (message start content.now)) }
+    ensures parts { GivesOrLacks parts_seen result (read_fields layer_step no_parts (message start content.now)) }
+    ensures tags { IfOk result (λ parts. HasAllTags parts.features.items parts.tags.items) }
 {
     let mut parts = LayerParts {
         name: None,
@@ -49,32 +53,36 @@ pub(crate) fn read_parts(
         keys: Vec::new(alloc),
         values: Vec::new(alloc),
         features: Vec::new(alloc),
+        tags: Vec::new(alloc),
     };
     let mut fields = Fields::new(content, start);
     while let Some(field) = next_field(&mut fields)? {
         let end = fields.offset();
-        add_field(alloc, &mut parts, field, end)?;
+        add_field(&mut parts, field, end)?;
     }
     Ok(parts)
 }
 
 // Adds what a field holds to a layer. The byte after the field stands at `end`.
-fn add_field<'a>(
-    alloc: Global,
-    parts: &mut LayerParts<'a>,
-    field: Field<'a>,
-    end: usize,
-) -> Result<(), Halt>
-    requires { content_length field.wire ≤ end }
-    ensures { Leaves (parts_seen parts.new) result (layer_step (parts_seen parts.old) (field_seen field.entry end)) }
+fn add_field<'a>(parts: &mut LayerParts<'a>, field: Field<'a>, end: usize) -> Result<(), Halt>
+    requires inside { content_length field.wire ≤ end }
+    requires room { end < 2 ^ 64 }
+    requires tags { HasAllTags parts.old.features.items parts.old.tags.items }
+    ensures step { Leaves (parts_seen parts.new) result (layer_step (parts_seen parts.old) (field_seen field.entry end)) }
+    ensures tags { OnOk result (HasAllTags parts.new.features.items parts.new.tags.items) }
 {
     let Field { number, at, wire } = field;
     match layer_member(number) {
         LayerMember::Name => parts.name = Some(text_in(at, wire)?),
         LayerMember::Feature => {
             let content = bytes_in(at, wire)?;
-            let feature = read_feature(alloc, content, end - content.len(), at)?;
-            parts.features.push(feature)?;
+            add_feature(
+                &mut parts.features,
+                &mut parts.tags,
+                content,
+                end - content.len(),
+                at,
+            )?;
         }
         LayerMember::Key => parts.keys.push(text_in(at, wire)?)?,
         LayerMember::Value => {
@@ -88,6 +96,25 @@ fn add_field<'a>(
         LayerMember::Version => parts.version = Some(number_in(at, wire)?),
         LayerMember::Unknown => {}
     }
+    Ok(())
+}
+
+// Adds the feature whose tag stands at `at` and whose content begins at `start`, with its tags.
+fn add_feature(
+    features: &mut Vec<TaggedFeature>,
+    tags: &mut Vec<u64>,
+    content: &[u8],
+    start: usize,
+    at: usize,
+) -> Result<(), Halt>
+    requires room { start + length content.now < 2 ^ 64 }
+    requires tags { HasAllTags features.old.items tags.old.items }
+    ensures feature { Leaves (tagged_all features.new.items tags.new.items) result
+        (feature_at at start content.now then λ feature. Ok (tagged_all features.old.items tags.old.items ++ feature ∷ [])) }
+    ensures tags { OnOk result (HasAllTags features.new.items tags.new.items) }
+{
+    let feature = read_feature(content, start, at, tags)?;
+    features.push(feature)?;
     Ok(())
 }
 

@@ -24,8 +24,6 @@ mod laws;
 mod layer;
 mod properties;
 mod reading;
-#[cfg(test)]
-mod tests;
 mod tile;
 mod value;
 mod wire_parts;

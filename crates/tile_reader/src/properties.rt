@@ -1,9 +1,9 @@
-ghost use Rattle.std.specs.Prelude.{◌≡◌, ◌⊎◌, ℕ, ◌+◌, ◌^◌, ◌<◌, ◌≤◌, ◌*ℤ◌, pos, ◌↔◌, List, [], ◌∷◌, length, map, IfOk, OnOk, IfSome, IfNone, MatchOption, option_map, unsigned_abs, slice_index_or};
+ghost use Rattle.std.specs.Prelude.{◌≡◌, ◌⊎◌, ℕ, ◌+◌, ◌^◌, ◌<◌, ◌≤◌, ◌*ℤ◌, pos, ◌↔◌, List, [], ◌∷◌, length, map, IfOk, OnOk, Some, None, IfSome, IfNone, MatchOption, option_map, if◌then◌else◌, unsigned_abs, slice_index_or};
 ghost use Rattle.prop_values.specs.Data.{HasDistinctKeys};
 ghost use Rattle.prop_values.specs.View.{data_of};
-ghost use Rattle.tile_reader.specs.View.{GivesOrLacks, tagged_seen, texts_seen, value_seen};
+ghost use Rattle.tile_reader.specs.View.{GivesOrLacks, HasAllTags, tagged_seen, tagged_all, texts_seen, value_seen};
 ghost use Rattle.tile_reader.specs.Properties.{put_all, named, feature_of, features_of};
-ghost use Rattle.tile_reader.specs.Lookup.{AreFirsts, AreInside, ArePlaces, put_pair, pairs_seen, IndicesWithin, NotesFirst};
+ghost use Rattle.tile_reader.specs.Lookup.{AreFirsts, AreInside, ArePlaces, pair_place, put_pair, pairs_seen, IndicesWithin, NotesFirst};
 
 use crate::fault::{TileFault, TileKind};
 use crate::feature::TaggedFeature;
@@ -16,14 +16,25 @@ use prop_values::{Entries, Value, copy};
 use std::alloc::{AllocError, Global};
 use std::collections::BTreeMap;
 
-/// The features of a layer with these keys and values. Each text is copied once, and all features share it.
+/// The pairs of indices that a feature's properties are, and for each key of the layer the place of its pair. A place
+/// counts only where a pair of that key stands there, so nothing is cleared between features.
+#[derive(Drop)]
+struct Choice {
+    pairs: Vec<(usize, usize)>,
+    places: Vec<usize>,
+}
+
+/// The features of a layer with these keys and values, whose tags are these. Each text is copied once, and all features
+/// share it.
 pub(crate) fn features(
     alloc: Global,
     keys: &[&str],
     values: &[Held<'_>],
     tagged: &[TaggedFeature],
+    tags: &[u64],
 ) -> Result<Features, Halt>
-    ensures { GivesOrLacks (λ all. all) result (features_of (texts_seen keys.now) (map value_seen values.now) [] (map tagged_seen tagged.now)) }
+    requires { HasAllTags tagged.now tags.now }
+    ensures { GivesOrLacks (λ all. all) result (features_of (texts_seen keys.now) (map value_seen values.now) [] (tagged_all tagged.now tags.now)) }
 {
     let firsts = first_places(alloc, keys)?;
     let texts = texts_of(alloc, keys)?;
@@ -34,6 +45,7 @@ pub(crate) fn features(
         made.as_slice(),
         firsts.as_slice(),
         tagged,
+        tags,
     )
 }
 
@@ -59,20 +71,29 @@ fn values_of(alloc: Global, held: &[Held<'_>]) -> Result<Vec<Value>, AllocError>
     Ok(made)
 }
 
-// The features of a layer with these keys, whose first places are `firsts`, and these values.
+// The features of a layer with these keys, whose first places are `firsts`, these values and these tags.
 fn features_with(
     alloc: Global,
     keys: &[Text],
     values: &[Value],
     firsts: &[usize],
     tagged: &[TaggedFeature],
+    tags: &[u64],
 ) -> Result<Features, Halt>
-    requires { AreFirsts firsts.now keys.now }
-    ensures { GivesOrLacks (λ all. all) result (features_of keys.now (map data_of values.now) [] (map tagged_seen tagged.now)) }
+    requires firsts { AreFirsts firsts.now keys.now }
+    requires tags { HasAllTags tagged.now tags.now }
+    ensures { GivesOrLacks (λ all. all) result (features_of keys.now (map data_of values.now) [] (tagged_all tagged.now tags.now)) }
 {
-    let mut features = Features::new(alloc);
+    let mut features = Features::with_capacity(alloc, tagged.len())?;
+    let mut choice = Choice {
+        pairs: Vec::new(alloc),
+        places: vec![in alloc; 0; keys.len()]?,
+    };
+    let mut rest = tags;
     for feature in tagged {
-        features.push(with_properties(alloc, keys, values, firsts, feature)?)?;
+        let (own, others) = rest.split_at(feature.count as usize);
+        features.push(with_properties(alloc, keys, values, firsts, feature, own, &mut choice)?)?;
+        rest = others;
     }
     Ok(features)
 }
@@ -115,54 +136,59 @@ fn with_properties(
     values: &[Value],
     firsts: &[usize],
     tagged: &TaggedFeature,
+    tags: &[u64],
+    choice: &mut Choice,
 ) -> Result<Feature, Halt>
-    requires { AreFirsts firsts.now keys.now }
-    ensures { GivesOrLacks (λ feature. feature) result (feature_of keys.now (map data_of values.now) (tagged_seen tagged.now)) }
+    requires firsts { AreFirsts firsts.now keys.now }
+    requires places { length choice.old.places.items ≡ length keys.now }
+    ensures feature { GivesOrLacks (λ feature. feature) result (feature_of keys.now (map data_of values.now) (tagged_seen tagged.now tags.now)) }
+    ensures places { OnOk result (length choice.new.places.items ≡ length keys.now) }
 {
-    if tagged.tags.len() % 2 == 1 {
+    if tags.len() % 2 == 1 {
         return Err(Halt::Fault(TileFault {
             kind: TileKind::OddTags,
             at: tagged.at,
         }));
     }
-    let Some(chosen) = choose(alloc, keys, values, firsts, tagged.tags.as_slice())? else {
+    if !choose(keys, values, firsts, tags, choice)? {
         return Err(Halt::Fault(TileFault {
             kind: TileKind::TagIndex,
             at: tagged.at,
         }));
-    };
+    }
     Ok(Feature {
         id: tagged.id,
         shape: tagged.shape,
-        properties: entries(alloc, keys, values, chosen.as_slice())?,
+        properties: entries(alloc, keys, values, choice.pairs.as_slice())?,
     })
 }
 
-// The indices of the key and the value of each property, in order, or `None` where one has no key or value. A repeated
-// key keeps its first place and takes its last value, so that only what stays is taken later.
+// Chooses the indices of the key and the value of each property, in order. The answer is whether each tag has its key or
+// value. A repeated key keeps its first place and takes its last value, so that only what stays is taken later.
 fn choose(
-    alloc: Global,
     keys: &[Text],
     values: &[Value],
     firsts: &[usize],
     tags: &[u64],
-) -> Result<Option<Vec<(usize, usize)>>, AllocError>
-    requires { AreFirsts firsts.now keys.now }
-    ensures pairs { IfOk result (λ chosen. option_map (put_all []) (named keys.now (map data_of values.now) tags.now)
-        ≡ option_map (λ pairs. pairs_seen keys.now (map data_of values.now) pairs.items) chosen) }
-    ensures inside { IfOk result (λ chosen. IfSome chosen (λ pairs. AreInside firsts.now (length values.now) pairs.items)) }
+    choice: &mut Choice,
+) -> Result<bool, AllocError>
+    requires firsts { AreFirsts firsts.now keys.now }
+    requires places { length choice.old.places.items ≡ length keys.now }
+    ensures pairs { IfOk result (λ known. option_map (put_all []) (named keys.now (map data_of values.now) tags.now)
+        ≡ (if known then Some (pairs_seen keys.now (map data_of values.now) choice.new.pairs.items) else None)) }
+    ensures inside { OnOk result (AreInside firsts.now (length values.now) choice.new.pairs.items) }
+    ensures places { OnOk result (length choice.new.places.items ≡ length keys.now) }
 {
-    let mut places: BTreeMap<usize, usize> = BTreeMap::new(alloc);
-    let mut chosen = Vec::new(alloc);
+    choice.pairs.clear();
     let mut rest = tags;
     while let Some(((key, value), others)) = first_pair(rest) {
         match indices(keys.len(), values.len(), key, value) {
-            None => return Ok(None),
-            Some((key, value)) => put(&mut places, &mut chosen, (firsts[key], value))?,
+            None => return Ok(false),
+            Some((key, value)) => put(&mut choice.places, &mut choice.pairs, (firsts[key], value))?,
         }
         rest = others;
     }
-    Ok(Some(chosen))
+    Ok(true)
 }
 
 // The first two tags, and those after them.
@@ -195,22 +221,39 @@ fn indices(keys: usize, values: usize, key: u64, value: u64) -> Option<(usize, u
 
 // Puts a pair in the place of its key, or at the end.
 fn put(
-    places: &mut BTreeMap<usize, usize>,
+    places: &mut Vec<usize>,
     chosen: &mut Vec<(usize, usize)>,
     pair: (usize, usize),
 ) -> Result<(), AllocError>
-    requires { ArePlaces places.old chosen.old.items }
+    requires key { pair.0 < length places.old.items }
+    requires places { ArePlaces places.old.items chosen.old.items }
     ensures pairs { OnOk result (chosen.new.items ≡ put_pair pair chosen.old.items) }
-    ensures places { OnOk result (ArePlaces places.new chosen.new.items) }
+    ensures places { OnOk result (ArePlaces places.new.items chosen.new.items) }
+    ensures long { OnOk result (length places.new.items ≡ length places.old.items) }
 {
-    match places.get(&pair.0).copied() {
+    match place_of(places.as_slice(), chosen.as_slice(), pair.0) {
         Some(place) => chosen[place] = pair,
         None => {
-            places.insert(pair.0, chosen.len())?;
+            let place = chosen.len();
             chosen.push(pair)?;
+            places[pair.0] = place;
         }
     }
     Ok(())
+}
+
+// Where the pair of a key stands.
+fn place_of(places: &[usize], chosen: &[(usize, usize)], key: usize) -> Option<usize>
+    requires key { key < length places.now }
+    requires places { ArePlaces places.now chosen.now }
+    ensures { result ≡ pair_place key chosen.now }
+{
+    let place = places[key];
+    if place < chosen.len() && chosen[place].0 == key {
+        Some(place)
+    } else {
+        None
+    }
 }
 
 // The properties of these pairs of indices.
@@ -224,7 +267,7 @@ fn entries(
     requires distinct { HasDistinctKeys (pairs_seen keys.now (map data_of values.now) chosen.now) }
     ensures { IfOk result (λ all. all ≡ pairs_seen keys.now (map data_of values.now) chosen.now) }
 {
-    let mut entries = Entries::new(alloc);
+    let mut entries = Entries::with_capacity(alloc, chosen.len())?;
     for (key, value) in chosen {
         let text = keys[*key].share()?;
         let value = copy(alloc, &values[*value])?;

@@ -5,7 +5,7 @@ ghost use Rattle.tile_reader.specs.Read.{◌then◌, read_fields};
 ghost use Rattle.tile_reader.specs.Layer.{name_of, version_of, layer_end};
 ghost use Rattle.tile_reader.specs.Tile.{names as layer_names, tile_step, tile_of, is_compressed};
 ghost use Rattle.tile_reader.specs.Lookup.{HasTexts};
-ghost use Rattle.tile_reader.specs.View.{Gives, GivesOrLacks, Leaves, parts_seen};
+ghost use Rattle.tile_reader.specs.View.{Gives, GivesOrLacks, Leaves, HasAllTags, parts_seen};
 
 use crate::fault::{TileFault, TileKind};
 use crate::halt::Halt;
@@ -96,7 +96,8 @@ fn add_layer<'a>(
     parts: &LayerParts<'a>,
     at: usize,
 ) -> Result<(), Halt>
-    requires { HasTexts names.old (layer_names tile.old) }
+    requires names { HasTexts names.old (layer_names tile.old) }
+    requires tags { HasAllTags parts.now.features.items parts.now.tags.items }
     ensures layer { Leaves tile.new result (layer_end at (layer_names tile.old) (parts_seen parts.now) then λ layer. Ok (tile.old ++ layer ∷ [])) }
     ensures names { OnOk result (HasTexts names.new (layer_names tile.new)) }
 {
@@ -114,6 +115,7 @@ fn add_layer<'a>(
         keys,
         parts.values.as_slice(),
         parts.features.as_slice(),
+        parts.tags.as_slice(),
     )?;
     let text = Text::copy_of(alloc, name)?;
     names.insert(name, ())?;

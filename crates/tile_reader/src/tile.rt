@@ -1,4 +1,4 @@
-ghost use Rattle.std.specs.Prelude.{◌≡◌, [], ◌∷◌, ◌++◌, OnOk, OnErr};
+ghost use Rattle.std.specs.Prelude.{◌≡◌, [], ◌∷◌, ◌++◌, IfOk, OnOk, OnErr};
 
 use decimal_json::Text;
 use prop_values::Entries;
@@ -77,6 +77,15 @@ impl Features {
         Features {
             features: Vec::new(alloc),
         }
+    }
+
+    /// No features, with room for `count` of them.
+    pub fn with_capacity(alloc: Global, count: usize) -> Result<Features, AllocError>
+        ensures { IfOk result (λ made. made ≡ []) }
+    {
+        Ok(Features {
+            features: Vec::with_capacity(alloc, count)?,
+        })
     }
 
     /// Adds a feature at the end.

@@ -7,9 +7,10 @@ use Rattle.tile_reader.proofs.properties.choose.Given as goal
 
 abbrev pub invariant-loop-key : goal.invariant-loop-key
 invariant-loop-key l = record {
-  places : ArePlaces l.places l.chosen.items;
-  inside : AreInside l.firsts (length l.values) l.chosen.items;
-  left : after_pairs l.keys (map data_of l.values) (pairs_seen l.keys (map data_of l.values) l.chosen.items) l.rest ≡ after_pairs l.keys (map data_of l.values) [] l.fn.tags;
+  long : length l.choice.places.items ≡ length l.keys;
+  places : ArePlaces l.choice.places.items l.choice.pairs.items;
+  inside : AreInside l.firsts (length l.values) l.choice.pairs.items;
+  left : after_pairs l.keys (map data_of l.values) (pairs_seen l.keys (map data_of l.values) l.choice.pairs.items) l.rest ≡ after_pairs l.keys (map data_of l.values) [] l.fn.tags;
 }
 
 abbrev pub decreases-loop-key : goal.decreases-loop-key
