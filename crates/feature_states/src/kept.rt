@@ -3,18 +3,18 @@ ghost use Rattle.std.specs.Str.{bytes_eq};
 ghost use Rattle.prop_values.specs.Changes.{merged, without_key};
 ghost use Rattle.feature_states.specs.Members.{members_of_id, members_in_layer, members_in_source, same_feature, left_of};
 
+use indexmap::IndexMap;
 use prop_values::Entries;
 use std::alloc::{AllocError, Global};
-use std::collections::BTreeMap;
 
 /// The members of the features of one layer, by id.
-pub(crate) type Ids = BTreeMap<u64, Entries>;
+pub(crate) type Ids = IndexMap<u64, Entries>;
 
 /// The ids of one source, by layer.
-pub(crate) type Layers = BTreeMap<String, Ids>;
+pub(crate) type Layers = IndexMap<String, Ids>;
 
 /// The layers of all sources, by source.
-pub(crate) type Sources = BTreeMap<String, Layers>;
+pub(crate) type Sources = IndexMap<String, Layers>;
 
 /// Sets each of the members for an id.
 pub(crate) fn merge_id(
@@ -53,7 +53,7 @@ pub(crate) fn merge_layer(
     match layers.get_mut(layer) {
         Some(ids) => merge_id(alloc, ids, id, members),
         None => {
-            let mut ids = BTreeMap::new(alloc);
+            let mut ids = IndexMap::new(alloc);
             merge_id(alloc, &mut ids, id, members)?;
             let Ok(_) = layers.insert(String::from_str(alloc, layer)?, ids) else {
                 return Err(AllocError);
@@ -78,7 +78,7 @@ pub(crate) fn merge_source(
     match sources.get_mut(source) {
         Some(layers) => merge_layer(alloc, layers, layer, id, members),
         None => {
-            let mut layers = BTreeMap::new(alloc);
+            let mut layers = IndexMap::new(alloc);
             merge_layer(alloc, &mut layers, layer, id, members)?;
             let Ok(_) = sources.insert(String::from_str(alloc, source)?, layers) else {
                 return Err(AllocError);
@@ -96,9 +96,9 @@ pub(crate) fn remove_id(ids: &mut Ids, id: u64, key: Option<&str>)
         None => true,
         Some(key) => remove_key(ids, id, key),
     };
-    // Nothing is kept for an id without members.
+    // Nothing is kept for an id without members. No text shows the order of ids, so the last takes its place.
     if emptied {
-        let _ = ids.remove(&id);
+        let _ = ids.swap_remove(&id);
     }
 }
 

@@ -2,9 +2,9 @@ ghost use Rattle.std.specs.Prelude.{◌≡◌, ◌↔◌, ℕ, List, [], OnOk, O
 ghost use Rattle.prop_values.specs.Changes.{merged};
 
 use crate::kept::{Sources, merge_source, remove_in_source};
+use indexmap::IndexMap;
 use prop_values::Entries;
 use std::alloc::{AllocError, Global};
-use std::collections::BTreeMap;
 
 /// The members of features, by source, layer and id.
 #[derive(Drop)]
@@ -21,7 +21,7 @@ impl States {
         ensures { (s l : List ℕ) (i : ℕ) → members_at result s l i ≡ [] }
     {
         States {
-            sources: BTreeMap::new(alloc),
+            sources: IndexMap::new(alloc),
             alloc,
         }
     }

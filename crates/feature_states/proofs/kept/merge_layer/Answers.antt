@@ -1,9 +1,9 @@
 -- The layer has the ids that `merge_id` left, and a layer that was not there is new.
 use Rattle.std.proofs.Common.{[], ap, ◌∙◌, rules, nat_eq, Some}
 use Rattle.std.specs.Prelude.{string_bytes, if◌then◌else◌}
-use Rattle.std.specs.BTreeMap.{get_by_text}
+use Rattle.indexmap.specs.IndexMap.{get_by_text}
 use Rattle.std.specs.Str.{bytes_eq}
-use Rattle.std.proofs.lemmas.Map.Text.{btree_map_updates_text}
+use Rattle.std.proofs.lemmas.Map.Text.{hash_map_updates_text}
 use Rattle.std.proofs.lemmas.Result.{on_ok_weaker, on_err_weaker}
 use Rattle.prop_values.specs.Changes.{merged}
 use Rattle.feature_states.specs.Members.{members_of_id}
@@ -18,7 +18,7 @@ returns-in-Some-clause-ok c =
     (λ ok l i.
     changed (λ ids. members_of_id ids i) (nat_eq c.args.id i) (λ ms. merged ms c.args.members) [] (get_by_text c.args.layers.now) (get_by_text after) c.args.layer.now left
     (ok i ∙ ap (λ found. let ms = seen (λ ids. members_of_id ids i) [] found in if (nat_eq c.args.id i) then merged ms c.args.members else ms) c.in-Some.ensures.value)
-    (λ q. btree_map_updates_text c.args.layer.now c.args.layers.now after (Some left) ((c.get_mut.follows.holds left).3 (search rules)) q) l)
+    (λ q. hash_map_updates_text c.args.layer.now c.args.layers.now after (Some left) ((c.get_mut.follows.holds left).3 (search rules)) q) l)
     c.merge_id.ensures.ok
 
 pub returns-in-Some-clause-err : goal.returns-in-Some-clause-err
@@ -29,7 +29,7 @@ returns-in-Some-clause-err c =
     (λ err l i.
     unchanged (λ ids. members_of_id ids i) [] (get_by_text c.args.layers.now) (get_by_text after) c.args.layer.now left
     (err i ∙ ap (seen (λ ids. members_of_id ids i) []) c.in-Some.ensures.value)
-    (λ q. btree_map_updates_text c.args.layer.now c.args.layers.now after (Some left) ((c.get_mut.follows.holds left).3 (search rules)) q) l)
+    (λ q. hash_map_updates_text c.args.layer.now c.args.layers.now after (Some left) ((c.get_mut.follows.holds left).3 (search rules)) q) l)
     c.merge_id.ensures.err
 
 pub returns-in-Ok-clause-ok : goal.returns-in-Ok-clause-ok
@@ -39,6 +39,6 @@ returns-in-Ok-clause-ok c = λ l i.
     (c.in_ok-merge_id-in-None.ensures.ok i ∙
     (ap (λ ms. if (nat_eq c.args.id i) then merged ms c.args.members else ms) (none_of_id c.new-ids.result i c.new-ids.ensures.empty) ∙
     ap (λ found. let ms = seen (λ ids. members_of_id ids i) [] found in if (nat_eq c.args.id i) then merged ms c.args.members else ms) c.in-None.ensures.value))
-    (λ q. btree_map_updates_text (string_bytes c.in_ok-from_str-in-None.field-0) c.get_mut.follows.lender-at-none c.insert.new.self (Some new) c.in-Ok.ensures.updates q ∙
+    (λ q. hash_map_updates_text (string_bytes c.in_ok-from_str-in-None.field-0) c.get_mut.follows.lender-at-none c.insert.new.self (Some new) c.in-Ok.ensures.updates q ∙
     (ap (λ name. if bytes_eq name q then Some new else get_by_text c.get_mut.follows.lender-at-none q) c.in_ok-from_str-in-None.ensures.ok ∙ ap (λ kept. if bytes_eq c.args.layer.now q then Some new else get_by_text kept q) c.get_mut.follows.holds-at-none))
     l
