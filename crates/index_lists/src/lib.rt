@@ -21,7 +21,5 @@
 
 mod nodes;
 mod slot_lists;
-#[cfg(test)]
-mod tests;
 
 pub use slot_lists::Links;

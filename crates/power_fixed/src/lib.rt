@@ -19,5 +19,5 @@ mod powers;
 mod roots;
 
 pub use laws::{powers_of_one_and_zero, roots_are_greatest, whole_powers_square};
-pub use powers::power;
+pub use powers::{power, unit};
 pub use roots::root;

@@ -23,8 +23,8 @@ pub fn power(base: Fixed, exponent: Fixed) -> Result<Fixed, Arith>
     product(whole, part)
 }
 
-// The number 1.
-fn unit() -> Fixed
+/// The number 1.
+pub fn unit() -> Fixed
     ensures { result ≡ one }
 {
     Fixed::from_millionths(1_000_000).unwrap()

@@ -10,9 +10,6 @@
 //! texts, since a position is found by one walk from the front.
 #![tactic(auto)]
 
-#[cfg(test)]
-mod tests;
-
 ghost use Rattle.std.specs.Prelude.{◌≡◌, ◌-◌, ◌≤◌, length, take, drop, IfSome};
 ghost use Rattle.std.specs.Str.{chars};
 ghost use Rattle.text_units.specs.Position.{first_place, place_from, IsFirstPlace};

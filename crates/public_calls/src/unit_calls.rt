@@ -1,4 +1,6 @@
-use crate::{index_of, length, slice};
+//! Calls of `text_units`.
+
+use text_units::{index_of, length, slice};
 
 #[test]
 fn lengths(rt: HostRuntime) {

@@ -1,4 +1,6 @@
-use crate::Links;
+//! Calls of `index_lists`.
+
+use index_lists::Links;
 use std::test::Fail;
 
 #[test]
