@@ -8,7 +8,7 @@ use shared_text::{Document, Text};
 use std::alloc::AllocError;
 use std::marker::Model;
 
-/// A place in a byte string, which clauses see as the bytes that are left.
+/// A place in a document, which clauses see as the bytes that are left.
 #[derive(Drop)]
 pub struct Cursor<'a> {
     document: &'a Document,
