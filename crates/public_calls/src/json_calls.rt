@@ -110,7 +110,7 @@ fn tokens_are_taken(rt: HostRuntime) -> Result<(), Fail> {
         Ok(text) => assert_eq!(rt; text.as_str(), "caf\u{e9}"),
         Err(_) => return Err(Fail::new("no text")),
     }
-    assert_eq!(rt; cursor.rest(), b"]");
+    assert_eq!(rt; cursor.rest(), b"]".as_slice());
 
     let document = Document::copy_of(rt.alloc(), b"01")?;
     let mut cursor = Cursor::new(&document);
