@@ -28,7 +28,7 @@ fn feature_of(alloc: Global, properties: &str) -> Result<Feature, AllocError> {
     let mut found = Entries::new(alloc);
     if let Ok(json) = parse(alloc, properties.as_bytes())? {
         if let Ok(Value::Map(entries)) = from_json(alloc, &json)? {
-            found = entries;
+            found = entries.into_entries(alloc)?;
         }
     }
     Ok(Feature {

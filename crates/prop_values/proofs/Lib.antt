@@ -10,3 +10,4 @@ pub mod JsonSteps
 pub mod Ascii
 pub mod Quoted
 pub mod ColorSteps
+pub mod EqualityLaws

@@ -52,7 +52,7 @@ abbrev mutual
   nodes (text s) = 1
   nodes (color c) = 1
   nodes (list ds) = 1 + items_nodes ds
-  nodes (map ps) = 1 + pairs_nodes ps
+  nodes (map ps) = 2 + pairs_nodes ps
 
   pub items_nodes : Items → ℕ
   items_nodes no_items = 0

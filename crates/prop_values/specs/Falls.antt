@@ -1,13 +1,16 @@
 -- Each child is smaller than its parent: what the two models owe, and what a recursion over a value does.
-use Rattle.std.specs.Prelude.{◌≡◌, ℕ, ◌≤◌, ◌<◌, List, [], ◌∷◌, length}
+use Rattle.std.specs.Prelude.{◌≡◌, ℕ, ◌≤◌, ◌<◌, List, [], ◌∷◌, length, Option, Some, None, Vec}
+use Rattle.std.specs.declared.rc.Rc.{Rc}
+use Rattle.std.specs.declared.alloc.Global.{Global}
 use Rattle.std.proofs.Common.{arith, ap, get_or, zero, suc}
 use denote.Param.Weighed.{most, at_most}
 use Rattle.prop_values.specs.declared.value.Value.{Value}
-use Rattle.prop_values.specs.declared.value.Value.TheVariants.{Null, Bool as Flag, Num, Text, Color, List as ListOf, Map}
+use Rattle.prop_values.specs.declared.value.Value.TheVariants.{the_data, Null, Bool as Flag, Num, Text, Color, List as ListOf, Map}
 use Rattle.prop_values.specs.declared.value.Entry.{Entry}
 use Rattle.prop_values.specs.declared.value.Entries.TheDeep.{deep-Value, deep-Entry}
+use Rattle.prop_values.specs.declared.value.Entries.TheShapes.{weighed-Values-values}
 use Rattle.prop_values.specs.Data.{Data, nodes, items_nodes, pairs_nodes}
-use Rattle.prop_values.specs.View.{data_of, values_view, entries_view, values_size, entries_size, items, pairs}
+use Rattle.prop_values.specs.View.{data_of, values_view, entries_view, values_size, entries_size, items, pairs, kept}
 
 deep_le-nodes : (v : Value) → deep-Value v ≤ nodes (data_of v)
 deep_le-nodes Null = omega arith
@@ -21,6 +24,10 @@ deep_le-nodes (Map ps) = omega arith
 pub values_fall : (vs : List Value) → most deep-Value vs ≤ values_size (values_view vs)
 values_fall [] = omega arith
 values_fall (v ∷ vs) = omega (arith, deep_le-nodes v, values_fall vs)
+
+pub kept_fall : (held : Option (Rc (Vec Value Global) Global)) → (weighed-Values-values).weight the_data deep-Value held ≤ values_size (values_view (kept held))
+kept_fall None = omega arith
+kept_fall (Some values) = omega (arith, values_fall values.value.items)
 
 pub entries_fall : (es : List Entry) → most deep-Entry es ≤ entries_size (entries_view es)
 entries_fall [] = omega arith

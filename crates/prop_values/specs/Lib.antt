@@ -4,6 +4,7 @@ pub mod View
 pub mod Falls
 pub mod Faults
 pub mod Equality
+pub mod EqualityLaws
 pub mod Keys
 pub mod Places
 pub mod Changes

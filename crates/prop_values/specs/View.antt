@@ -1,7 +1,9 @@
 -- Which data a value of the program is.
-use Rattle.std.specs.Prelude.{◌≡◌, ℕ, List, [], ◌∷◌, map, refl, Result, Ok, Err}
+use Rattle.std.specs.Prelude.{◌≡◌, ℕ, ◌+◌, List, [], ◌∷◌, map, refl, Result, Ok, Err, Option, Some, None, Vec}
 use Rattle.std.proofs.Common.{ap}
 use Rattle.std.specs.Coded.{Coded, code_by}
+use Rattle.std.specs.declared.rc.Rc.{Rc}
+use Rattle.std.specs.declared.alloc.Global.{Global}
 use Rattle.prop_values.specs.Data.{Data, null, boolean, number, text, color, list, map as mapping, Items, Pairs, items_of, pairs_of, list_of, entries_of, items_nodes, pairs_nodes}
 use Rattle.prop_values.specs.DataCode.{data_code}
 use Rattle.prop_values.specs.declared.value.Value.{Value}
@@ -51,6 +53,11 @@ value_again (Map ps) = ap Map (entries_of-pairs_of ps)
 abbrev pub value_code : Coded Value
 value_code = code_by Data data_code data_of value_of value_again
 
+-- the items that a list has in common with others
+abbrev pub kept : Option (Rc (Vec Value Global) Global) → List Value
+kept None = []
+kept (Some values) = values.value.items
+
 abbrev pub values_view : List Value → List Data
 values_view = map data_of
 
@@ -72,6 +79,10 @@ values_size ds = items_nodes (items_of ds)
 
 abbrev pub entries_size : List (List ℕ × Data) → ℕ
 entries_size ps = pairs_nodes (pairs_of ps)
+
+-- shared entries count one more
+abbrev pub shared_size : List (List ℕ × Data) → ℕ
+shared_size ps = 1 + entries_size ps
 
 -- For callers: the data that an evaluation gave, or its fault.
 abbrev pub evaluated_of : Result Value EvalFault → Result Data EvalFault

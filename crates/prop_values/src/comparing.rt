@@ -26,7 +26,10 @@ pub fn equals(a: &Value, b: &Value) -> bool
             a.r == b.r && a.g == b.g && a.b == b.b && a.a == b.a
         }
         (Value::List(a), Value::List(b)) => are_equal(a.as_slice(), b.as_slice()),
-        (Value::Map(a), Value::Map(b)) => has_pairs(b, a.as_slice()) && has_keys(a, b.as_slice()),
+        (Value::Map(a), Value::Map(b)) => {
+            let (a, b) = (a.as_entries(), b.as_entries());
+            has_pairs(b, a.as_slice()) && has_keys(a, b.as_slice())
+        }
         _ => false,
     }
 }

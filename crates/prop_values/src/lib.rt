@@ -6,13 +6,19 @@
 //! entries.get("kind");                                    // Some(Value::Bool(true))
 //! entries.set(Text::copy_of(alloc, "width")?, Value::Null)?;
 //! entries.remove("width");
-//! to_text(alloc, &Value::Map(entries))?.as_str();         // {"kind":true}
+//! let map = Value::Map(SharedEntries::of(alloc, entries)?);
+//! to_text(alloc, &copy(alloc, &map)?)?.as_str();          // {"kind":true}
 //! ```
 //!
 //! Promised, for all values: equality (maps in any order), order, kind text, truth, text and listed text
-//! are those of the definitions in `specs/`; a copy is the same value; a JSON tree gives the value that it
-//! says, or the fault of its first number past the bound. A map's keys differ, and its `get` takes time by
-//! the logarithm of its entries, so `equals` takes n log n and no memory.
+//! are those of the definitions in `specs/`; a JSON tree gives the value that it says, or the fault of its first
+//! number past the bound. A map's keys differ, and its `get` takes time by the logarithm of its entries, so
+//! `equals` takes n log n and no memory. Two maps are equal exactly where at each key both have nothing or equal
+//! values, and equality is reflexive and symmetric: laws on `maps_are_equal_by_keys` and the two beside it.
+//!
+//! A copy is the same value, and takes constant time: texts, lists and maps are counted and not copied. A list
+//! that is shared is taken apart when an item is pushed, and a map when its entries are taken out to be changed.
+//! `Entries` by themselves are never shared, so that `remove` takes no memory.
 //!
 //! Maps change at their keys: `set` and `merge` replace a value in its place or add an entry at the end, and
 //! after want of memory the map is as before. `merge` takes n log n of the members; `remove` takes no memory,
@@ -28,10 +34,9 @@ mod comparing;
 mod copying;
 mod fault;
 mod kinds;
+mod laws;
 mod outcome;
 mod places;
-#[cfg(test)]
-mod tests;
 mod text;
 mod value;
 
@@ -40,6 +45,7 @@ pub use comparing::{equals, kind_text, order, truth};
 pub use copying::{copy, from_json};
 pub use fault::{EvalFault, FaultSet};
 pub use kinds::{Item, Kind, Want};
+pub use laws::{equality_is_reflexive, equality_is_symmetric, maps_are_equal_by_keys};
 pub use outcome::{Curve, Outcome};
 pub use text::{to_text, write_color, write_listed};
-pub use value::{Entries, Entry, Value, Values};
+pub use value::{Entries, Entry, SharedEntries, Value, Values};

@@ -69,7 +69,7 @@ fn append_json(alloc: Global, value: &Value, out: &mut String) -> Result<(), All
             append_quoted(alloc, shown.as_str(), out)
         }
         Value::List(values) => append_values(alloc, values, out),
-        Value::Map(entries) => append_entries(alloc, entries, out),
+        Value::Map(entries) => append_entries(alloc, entries.as_entries(), out),
     }
 }
 

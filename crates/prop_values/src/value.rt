@@ -8,11 +8,13 @@ ghost use Rattle.prop_values.specs.Places.{IsIndexed, place_from};
 ghost use Rattle.prop_values.specs.View.{data_of, values_view, entries_view};
 ghost use Rattle.prop_values.specs.declared.value.Entry.{Entry};
 
+use crate::copying::{copy_entries, copy_values};
 use crate::places::{FIRST, Places, forget_key, forget_place, note_place, noted_place};
 use decimal_json::Text;
 use fixed_num::{Color, Fixed};
 use std::alloc::{AllocError, Global};
 use std::marker::Model;
+use std::rc::Rc;
 
 /// A value of a property, an expression or a feature. `data_of` says which data it is to a clause.
 #[derive(Drop)]
@@ -24,7 +26,7 @@ pub enum Value {
     Text(Text),
     Color(Color),
     List(Values),
-    Map(Entries),
+    Map(SharedEntries),
 }
 
 /// An entry of a map.
@@ -35,11 +37,20 @@ pub struct Entry {
     pub value: Value,
 }
 
-/// The items of a list in order, which clauses see as a list of data.
+/// The items of a list in order, which clauses see as a list of data. Copies of a list have its items in common.
 #[derive(Drop)]
 #[cycle(value)]
 pub struct Values {
-    values: Vec<Value>,
+    values: Option<Rc<Vec<Value>>>,
+    alloc: Global,
+}
+
+/// The entries of a map that is a value, which clauses see as those entries. Copies of the value have them in
+/// common: `into_entries` gives them to change.
+#[derive(Drop)]
+#[cycle(value)]
+pub struct SharedEntries {
+    entries: Rc<Entries>,
 }
 
 /// The entries of a map in the order in which they came, which clauses see as a list of pairs of a key
@@ -60,16 +71,16 @@ impl Model for Values {
 
     ghost coded = { items_code };
 
-    ghost use Rattle.prop_values.specs.View.{values_view, values_size};
+    ghost use Rattle.prop_values.specs.View.{values_view, values_size, kept};
 
-    ghost view = { λ a. values_view a.values.items };
+    ghost view = { λ a. values_view (kept a.values) };
 
     ghost size = { values_size };
 
     ghost use Rattle.std.proofs.Common.{arith};
-    ghost use Rattle.prop_values.specs.Falls.{values_fall};
+    ghost use Rattle.prop_values.specs.Falls.{kept_fall};
 
-    ghost size_decreases = { λ a h. Prim.omega (arith, values_fall a.values.items) };
+    ghost size_decreases = { λ a h. Prim.omega (arith, kept_fall a.values) };
 }
 
 impl Model for Entries {
@@ -96,12 +107,33 @@ impl Model for Entries {
     ghost size_decreases = { λ a h. Prim.omega (arith, entries_fall a.entries.items) };
 }
 
+impl Model for SharedEntries {
+    ghost use Rattle.std.specs.Prelude.{List, ℕ};
+    ghost use Rattle.prop_values.specs.Data.{Data};
+    ghost use Rattle.prop_values.specs.DataCode.{pairs_code};
+
+    ghost Value = { List (List ℕ × Data) };
+
+    ghost coded = { pairs_code };
+
+    ghost use Rattle.prop_values.specs.View.{shared_size};
+
+    ghost view = { λ a. a.entries.value };
+
+    ghost size = { shared_size };
+
+    ghost use Rattle.std.proofs.Common.{arith};
+
+    ghost size_decreases = { λ a h. Prim.omega arith };
+}
+
 impl Values {
     pub fn new(alloc: Global) -> Values
         ensures { result ≡ [] }
     {
         Values {
-            values: Vec::new(alloc),
+            values: None,
+            alloc,
         }
     }
 
@@ -109,24 +141,89 @@ impl Values {
     pub fn with_capacity(alloc: Global, count: usize) -> Result<Values, AllocError>
         ensures { IfOk result (λ made. made ≡ []) }
     {
+        let values = Vec::with_capacity(alloc, count)?;
         Ok(Values {
-            values: Vec::with_capacity(alloc, count)?,
+            values: Some(Rc::new(alloc, values)?),
+            alloc,
         })
     }
 
-    /// Adds an item at the end.
+    /// Adds an item at the end. Where the items are shared they are first taken apart from the others', each
+    /// item in constant time.
     pub fn push(&mut self, item: Value) -> Result<(), AllocError>
         ensures ok { OnOk result (self.new ≡ self.old ++ data_of item ∷ []) }
         ensures err { OnErr result (self.new ≡ self.old) }
     {
-        self.values.push(item)?;
+        if let Some(values) = &mut self.values {
+            if let Some(own) = Rc::get_mut(values) {
+                own.push(item)?;
+                return Ok(());
+            }
+        }
+        let mut own = copy_values(self.alloc, self.as_slice())?;
+        own.push(item)?;
+        self.values = Some(Rc::new(self.alloc, own)?);
         Ok(())
+    }
+
+    /// The same items, in constant time: nothing is copied.
+    pub fn share(&self) -> Result<Values, AllocError>
+        ensures { IfOk result (λ same. same ≡ self.now) }
+    {
+        let values = match &self.values {
+            None => None,
+            Some(values) => Some(values.clone()?),
+        };
+        Ok(Values {
+            values,
+            alloc: self.alloc,
+        })
     }
 
     pub fn as_slice(&self) -> &[Value]
         ensures { values_view result.now ≡ self.now }
     {
-        self.values.as_slice()
+        match &self.values {
+            None => &[],
+            Some(values) => values.as_ref().as_slice(),
+        }
+    }
+}
+
+impl SharedEntries {
+    /// The entries, which may be shared from now on.
+    pub fn of(alloc: Global, entries: Entries) -> Result<SharedEntries, AllocError>
+        ensures { IfOk result (λ shared. shared ≡ entries) }
+    {
+        Ok(SharedEntries {
+            entries: Rc::new(alloc, entries)?,
+        })
+    }
+
+    /// The same entries, in constant time: nothing is copied.
+    pub fn share(&self) -> Result<SharedEntries, AllocError>
+        ensures { IfOk result (λ same. same ≡ self.now) }
+    {
+        Ok(SharedEntries {
+            entries: self.entries.clone()?,
+        })
+    }
+
+    pub fn as_entries(&self) -> &Entries
+        ensures { result.now ≡ self.now }
+    {
+        self.entries.as_ref()
+    }
+
+    /// The entries to change: where others share them, in a map of their own, each entry in constant time.
+    pub fn into_entries(self, alloc: Global) -> Result<Entries, AllocError>
+        ensures { IfOk result (λ entries. entries ≡ self) }
+    {
+        let SharedEntries { entries } = self;
+        match Rc::try_unwrap(entries) {
+            Ok(own) => Ok(own),
+            Err(shared) => copy_entries(alloc, shared.as_ref()),
+        }
     }
 }
 
