@@ -6,3 +6,11 @@
 
 #[cfg(test)]
 mod io_calls;
+#[cfg(test)]
+mod legacy_calls;
+#[cfg(test)]
+mod listing_calls;
+#[cfg(test)]
+mod plain_calls;
+#[cfg(test)]
+mod table_calls;
