@@ -57,7 +57,13 @@ fn entries_removed_from_many(rt: HostRuntime) -> Result<(), Fail> {
     for key in ["k3", "k18", "k16", "none"] {
         entries.remove(key);
     }
-    for (key, there) in [("k3", false), ("k15", true), ("k17", true), ("k18", false), ("k19", true)] {
+    for (key, there) in [
+        ("k3", false),
+        ("k15", true),
+        ("k17", true),
+        ("k18", false),
+        ("k19", true),
+    ] {
         assert_eq!(rt; entries.get(key).is_some(), there, "at {key}");
     }
     assert_eq!(rt; entries.as_slice().len(), 17);
@@ -86,7 +92,7 @@ fn lists_shared(rt: HostRuntime) -> Result<(), Fail> {
     values.push(said(alloc, "[1,\"a\"]")?)?;
     let first = Value::List(values.share()?);
     values.push(Value::Null)?;
-    let second = copy(&Value::List(values))?;
+    let second = copy(alloc, &Value::List(values))?;
     assert_eq!(rt; to_text(alloc, &first)?.as_str(), "[[1,\"a\"]]");
     assert_eq!(rt; to_text(alloc, &second)?.as_str(), "[[1,\"a\"],null]");
     assert!(rt; !equals(&first, &second));
@@ -193,7 +199,10 @@ fn texts_of_colors(rt: HostRuntime) -> Result<(), Fail> {
     let mut out = Vec::new(alloc);
     write_listed(&Value::Color(color), &mut out)?;
     write_color(&color, &mut out)?;
-    assert_eq!(rt; out.as_slice(), b"rgba(0,0,0,0.5)rgba(0,0,0,0.5)".as_slice());
+    assert_eq!(rt;
+        out.as_slice(),
+        b"rgba(0,0,0,0.5)rgba(0,0,0,0.5)".as_slice()
+    );
     assert_eq!(rt; kind_text(&Value::Color(color)), "color");
     Ok(())
 }
