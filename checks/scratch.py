@@ -29,13 +29,22 @@ def make_program(folder, name, source, below):
     lines = crates_below(below, (TOP / "crates.txt").read_text().splitlines())
     for line in lines:
         crate = line.split(":")[0]
-        shutil.copytree(TOP / "crates" / crate, folder / "crates" / crate)
+        copy_crate(TOP / "crates" / crate, folder / "crates" / crate)
     program = folder / "crates" / name
-    (program / "src").mkdir(parents=True)
+    (program / "src").mkdir(parents=True, exist_ok=True)
     shutil.copy(TOP / "checks" / source, program / "src" / "main.rt")
     lines.append(f"{name}: {' '.join(below)}")
     (folder / "crates.txt").write_text("\n".join(lines) + "\n")
     return program
+
+
+def copy_crate(source, target):
+    """Copies a crate; where an earlier copy stands, what was proved in it is kept."""
+    for part in target.iterdir() if target.exists() else []:
+        if part.name != "out":
+            shutil.rmtree(part) if part.is_dir() else part.unlink()
+    kept = (target / "out").exists()
+    shutil.copytree(source, target, dirs_exist_ok=True, ignore=shutil.ignore_patterns("out") if kept else None)
 
 
 def run(program, *words):
