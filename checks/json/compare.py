@@ -1,30 +1,33 @@
 #!/usr/bin/env python3
 """Compares what the crate decimal_json says of JSON texts with what others say.
 
-    python3 checks/json_reader.py [--short N] [--random N] [--keys N] [--changed N] [--seed N]   the comparisons
-    python3 checks/json_reader.py --times                                            time on large texts, beside Python's json
+    python3 checks/json/compare.py [--short N] [--random N] [--keys N] [--changed N] [--seed N]   the comparisons
+    python3 checks/json/compare.py --times                                            time on large texts, beside Python's json
 
-Each text is read three times: by the proved reader; by json_rules.py, which tells by the definition of a fault whether the text is
+Each text is read three times: by the proved reader; by by_rules.py, which tells by the definition of a fault whether the text is
 accepted, and else the longest front that begins an accepted text and the one rule that would let the next byte go on; and by
-Python's json with a wrapper for the rules that it lacks (json_python.py), which also gives the tree. That a front begins an
-accepted text is shown by a text: json_rules.py completes it, and Python's json has to accept what comes out.
+Python's json with a wrapper for the rules that it lacks (by_python.py), which also gives the tree. That a front begins an
+accepted text is shown by a text: by_rules.py completes it, and Python's json has to accept what comes out.
 
 The texts: all short ones of some tokens, random ones in which parts are wrong, objects of few keys, and texts with bytes changed.
 
 It needs `rt` on the path. The program that reads the texts is made in a temporary folder, from a copy of crates/ and
-json_program.txt; `rt run` proves it and LLVM builds it, which takes minutes where crates/*/out is empty.
+program.txt; `rt run` proves it and LLVM builds it, which takes minutes where crates/*/out is empty.
 """
 
 import collections
 import json
+import pathlib
 import random
 import sys
 import time
 
-import json_large
-import json_makes
-import json_python
-import json_rules
+sys.path.append(str(pathlib.Path(__file__).resolve().parent.parent / "shared"))
+
+import by_python
+import by_rules
+import large
+import makes
 import scratch
 
 PROGRAM = "json_lines"
@@ -42,30 +45,30 @@ def reader_lines(runner, folder, texts):
 
 def wanted_line(text):
     """What others say of the text, in the same form."""
-    fault = json_rules.fault_of(text)
+    fault = by_rules.fault_of(text)
     try:
-        tree = json_python.read(text, json_rules.ALL)
+        tree = by_python.read(text, by_rules.ALL)
     except ValueError:
         return b"%s %d" % (fault[0].encode(), fault[1]) if fault else b"Python's json accepts no such text"
-    return b"ok " + json_python.written(tree).encode() if fault is None else b"Python's json accepts this text"
+    return b"ok " + by_python.written(tree).encode() if fault is None else b"Python's json accepts this text"
 
 
 def unshown(text):
     """Fronts of a text with a fault that should begin an accepted text, and that no completion shows to do so."""
-    fault = json_rules.fault_of(text)
+    fault = by_rules.fault_of(text)
     if fault is None:
         return []
     kind, at = fault
-    fronts = [(text[:at], json_rules.ALL)]
+    fronts = [(text[:at], by_rules.ALL)]
     if kind != "Syntax":
-        fronts.append((text[: at + 1], json_rules.ALL - {kind}))
+        fronts.append((text[: at + 1], by_rules.ALL - {kind}))
     return [(front, rules) for front, rules in fronts if not is_shown(front, rules)]
 
 
 def is_shown(front, rules):
-    completed = front + json_rules.machine(front, rules).completion()
-    machine = json_rules.machine(completed, rules)
-    return machine is not None and machine.is_accepted() and json_python.is_accepted(completed, rules)
+    completed = front + by_rules.machine(front, rules).completion()
+    machine = by_rules.machine(completed, rules)
+    return machine is not None and machine.is_accepted() and by_python.is_accepted(completed, rules)
 
 
 def compare(what, texts, lines):
@@ -87,12 +90,12 @@ def compare(what, texts, lines):
 def compare_all(runner, folder, options):
     """All comparisons; gives how many texts differ."""
     rng = random.Random(options.seed)
-    whole = [json_makes.Maker(rng, 0).whole() for _ in range(1000)]
+    whole = [makes.Maker(rng, 0).whole() for _ in range(1000)]
     made = {
-        "short": json_makes.short(options.short),
-        "random": [json_makes.Maker(rng, rng.choice([0, 0.02, 0.1, 0.3])).whole() for _ in range(options.random)],
-        "keys": [json_makes.keyed(rng) for _ in range(options.keys)],
-        "changed": [json_makes.changed(rng, rng.choice(whole), whole) for _ in range(options.changed)],
+        "short": makes.short(options.short),
+        "random": [makes.Maker(rng, rng.choice([0, 0.02, 0.1, 0.3])).whole() for _ in range(options.random)],
+        "keys": [makes.keyed(rng) for _ in range(options.keys)],
+        "changed": [makes.changed(rng, rng.choice(whole), whole) for _ in range(options.changed)],
     }
     return sum(compare(what, texts, reader_lines(runner, folder, texts)) for what, texts in made.items())
 
@@ -113,20 +116,20 @@ def python_seconds(text):
 
 def measure(runner, folder):
     """Prints what reading each large text takes, the least of three times, and the most memory."""
-    large = folder / "large"
-    for name, make in json_large.KINDS.items():
-        size = large.write_bytes(make())
-        runs = [scratch.run(folder, runner, "time", large).split() for _ in range(3)]
+    path = folder / "large"
+    for name, make in large.KINDS.items():
+        size = path.write_bytes(make())
+        runs = [scratch.run(folder, runner, "time", path).split() for _ in range(3)]
         answer, memory = runs[0][0].decode(), int(runs[0][2]) / 1000
         seconds = min(int(run[1]) for run in runs) / 1e6
-        python = python_seconds(large.read_bytes())
+        python = python_seconds(path.read_bytes())
         speeds = f"{size / 1e6 / seconds:.1f} MB/s, Python's json {size / 1e6 / python:.1f} MB/s"
         print(f"{name}, {size / 1e6:.2f} MB, {answer}: {1000 * seconds:.1f} ms, {speeds}; {memory:.0f} MB of memory", flush=True)
 
 
 def built_runner(folder):
     """The program that reads texts, proved and built in this folder."""
-    program = scratch.make_program(folder, PROGRAM, "json_program.txt", ["decimal_json"])
+    program = scratch.make_program(folder, PROGRAM, "json/program.txt", ["decimal_json"])
     (folder / "texts").write_bytes(b"")
     return scratch.build(program, "lines", folder / "texts")
 

@@ -5,7 +5,7 @@ import pathlib
 import shutil
 import subprocess
 
-import tile_makes
+import makes
 
 WORDS = ["Oslo", "Ærø", "東京", "a\"b\\c", "x" * 200, ""]
 SHAPES = {"Point": "Point", "LineString": "LineString", "Polygon": "Polygon"}
@@ -69,14 +69,14 @@ def made_here(folder, rng):
     for number in range(20):
         path = folder / f"here{number}.pbf"
         names = rng.sample(["places", "vägar", "x"], rng.randrange(1, 4))
-        path.write_bytes(b"".join(tile_makes.bytes_field(3, layer(rng, name)) for name in names))
+        path.write_bytes(b"".join(makes.bytes_field(3, layer(rng, name)) for name in names))
         paths.append(path)
     return paths
 
 
 def layer(rng, name):
     """A layer of points with the keys word, flag, int, uint and sint, each with four values of its own."""
-    number, content = tile_makes.number_field, tile_makes.bytes_field
+    number, content = makes.number_field, makes.bytes_field
     values = [content(1, word.encode()) for word in WORDS[:4]] + [number(7, flag) for flag in [0, 1, 2, 1]]
     values += [number(4, n % (1 << 64)) for n in [5, -1, -(1 << 40), 1 << 40]]
     values += [number(5, n) for n in [0, 7, 1 << 31, 1 << 52]] + [number(6, n) for n in [0, 1, 2, 1 << 40]]

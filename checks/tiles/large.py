@@ -1,6 +1,6 @@
 """Large tiles, most of them hostile."""
 
-from tile_makes import bytes_field, number_field, varint
+from makes import bytes_field, number_field, varint
 
 SIZE = 16_000_000
 

@@ -1,22 +1,25 @@
 #!/usr/bin/env python3
-"""Compares what the crate color_values says of texts with color_rules.py, which reads them in exact fractions.
+"""Compares what the crate color_values says of texts with by_rules.py, which reads them in exact fractions.
 
-    python3 checks/colors.py [--random N] [--near N] [--changed N] [--seed N]   three comparisons
-    python3 checks/colors.py --times                                            time on short and on large texts
+    python3 checks/colors/compare.py [--random N] [--near N] [--changed N] [--seed N]   three comparisons
+    python3 checks/colors/compare.py --times                                            time on short and on large texts
 
 1. Random colors by their parts and by hexadecimal digits, with numbers of few and of many digits.
 2. Colors by hue, saturation and lightness of which a component lies a little before or behind half a millionth more than a whole number of them.
 3. The same with characters changed.
 
 It needs `rt` on the path. The program that reads the texts is made in a temporary folder, from a copy of crates/ and
-color_program.txt. For the comparisons `rt try` runs it unproved; for the times `rt run` proves it and LLVM builds it.
+program.txt. For the comparisons `rt try` runs it unproved; for the times `rt run` proves it and LLVM builds it.
 """
 
 import fractions
+import pathlib
 import random
 import sys
 
-import color_rules
+sys.path.append(str(pathlib.Path(__file__).resolve().parent.parent / "shared"))
+
+import by_rules
 import scratch
 
 PROGRAM = "color_lines"
@@ -85,7 +88,7 @@ def changed(rng, text):
 
 
 def line_by_rules(text):
-    color = color_rules.color_of(text)
+    color = by_rules.color_of(text)
     return "none" if color is None else " ".join(map(str, color))
 
 
@@ -102,7 +105,7 @@ def compare_with_rules(what, texts, lines):
 
 
 def made_program(folder):
-    return scratch.make_program(folder, PROGRAM, "color_program.txt", ["color_values", "fixed_num"])
+    return scratch.make_program(folder, PROGRAM, "colors/program.txt", ["color_values", "fixed_num"])
 
 
 def compare(folder, options):
