@@ -5,7 +5,7 @@
     python3 checks/colors/compare.py --times                                            time on short and on large texts
 
 1. Random colors by their parts and by hexadecimal digits, with numbers of few and of many digits.
-2. Colors by hue, saturation and lightness of which a component lies a little before or behind half a millionth more than a whole number of them.
+2. Colors by hue, saturation and lightness of which a component lies a little before or after half a millionth more than a whole number of them.
 3. The same with characters changed.
 
 It needs `rt` on the path. The program that reads the texts is made in a temporary folder, from a copy of crates/ and
@@ -28,7 +28,7 @@ LENGTHS = [0, 1, 2, 5, 8, 9, 10, 16, 17, 18, 20, 27, 28, 36, 60, 120]
 
 
 def decimal(value, places):
-    """The number with so many digits behind the point, rounded down."""
+    """The number with `places` digits after the point, rounded down."""
     units = value.numerator * 10**places // value.denominator
     digits = str(abs(units)).rjust(places + 1, "0")
     text = digits[: len(digits) - places] + ("." + digits[len(digits) - places :] if places else "")

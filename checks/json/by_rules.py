@@ -134,7 +134,7 @@ class Text:
             self.meant += chr(unit).encode("utf-8", "surrogatepass")
 
     def completion(self, letters):
-        """Bytes that end the text, with so many letters more in it."""
+        """Bytes that end the text, with `letters` letters more in it."""
         more = bytes(low for low, _ in self.after)
         if self.high is not None and "LoneSurrogate" in self.rules:
             begun = 0 if self.escape is None else 1 + len(self.escape)

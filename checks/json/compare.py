@@ -5,7 +5,7 @@
     python3 checks/json/compare.py --times                                            time on large texts, beside Python's json
 
 Each text is read three times: by the proved reader; by by_rules.py, which tells by the definition of a fault whether the text is
-accepted, and else the longest front that begins an accepted text and the one rule that would let the next byte go on; and by
+accepted, and else the longest front that begins an accepted text and the only rule that would let the next byte go on; and by
 Python's json with a wrapper for the rules that it lacks (by_python.py), which also gives the tree. That a front begins an
 accepted text is shown by a text: by_rules.py completes it, and Python's json has to accept what comes out.
 
@@ -135,7 +135,7 @@ def built_runner(folder):
 
 
 COUNTS = {
-    "short": (3, "all texts of so many tokens"),
+    "short": (3, "all texts of at most N tokens"),
     "random": (20000, "how many random texts"),
     "keys": (5000, "how many objects of few keys"),
     "changed": (20000, "how many texts with bytes changed"),

@@ -107,5 +107,5 @@ def changed(rng, text, others):
 
 
 def short(length):
-    """All texts of at most so many tokens."""
+    """All texts of at most `length` tokens."""
     return [b"".join(tokens) for count in range(length + 1) for tokens in itertools.product(TOKENS, repeat=count)]

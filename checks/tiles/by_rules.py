@@ -84,7 +84,7 @@ def text(data, bounds, at):
 
 
 def read_layer(data, start, end, tag, earlier):
-    """The layer whose tag stands at `tag`, after layers of these names."""
+    """The layer whose tag is at `tag`, after layers of these names."""
     name = version = None
     keys, values, features = [], [], []
     for number, at, wire, held in fields(data, start, end):

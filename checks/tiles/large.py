@@ -36,7 +36,7 @@ def keys_alike():
 
 
 def layers(size):
-    """100,000 layers, whose names have so many bytes and differ in the last six."""
+    """100,000 layers, whose names have `size` bytes and differ in the last six."""
     return b"".join(
         bytes_field(3, bytes_field(1, b"n" * (size - 6) + b"%06x" % number) + number_field(15, 2)) for number in range(100_000)
     )
