@@ -28,8 +28,6 @@ mod paint;
 mod radius;
 mod source;
 mod style;
-#[cfg(test)]
-mod tests;
 
 pub use circle_layout::{cell_count, features_named, layout};
 pub use style::{CircleStyle, read_style};

@@ -9,8 +9,6 @@
 #![tactic(auto)]
 
 mod mentioned;
-#[cfg(test)]
-mod tests;
 mod world_parts;
 
 pub use mentioned::mentions;

@@ -27,8 +27,6 @@ mod evaluation;
 mod features;
 mod operators;
 mod outcome;
-#[cfg(test)]
-mod tests;
 mod world;
 
 pub use evaluation::eval_plain;

@@ -10,7 +10,5 @@
 #![tactic(auto)]
 
 mod split;
-#[cfg(test)]
-mod tests;
 
 pub use split::is_legacy;

@@ -19,8 +19,6 @@
 #![tactic(auto)]
 
 mod layout;
-#[cfg(test)]
-mod tests;
 mod writing;
 
 pub use layout::{FeatureOut, FeatureOuts, LayerOut, LayerOuts, Layout, Show, ValueOut, ValueOuts};

@@ -18,8 +18,6 @@
 mod fitting;
 mod laws;
 mod layer_type;
-#[cfg(test)]
-mod tests;
 
 pub use fitting::fit;
 pub use laws::fitted_values_stay;

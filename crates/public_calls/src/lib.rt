@@ -13,4 +13,6 @@ mod listing_calls;
 #[cfg(test)]
 mod plain_calls;
 #[cfg(test)]
+mod program_calls;
+#[cfg(test)]
 mod table_calls;

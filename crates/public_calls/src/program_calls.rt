@@ -10,7 +10,8 @@ use std::sync::ledger::{Blank, Ledger};
 use std::test::Fail;
 use style_program::{Status, run_style};
 
-const STYLE: &[u8] = br#"{"version":8,"sources":{"t":{"type":"vector"}},"layers":[{"id":"c","type":"circle","source":"t","source-layer":"p"}]}"#;
+const STYLE: &[u8] =
+    br#"{"version":8,"sources":{"t":{"type":"vector"}},"layers":[{"id":"c","type":"circle","source":"t","source-layer":"p"}]}"#;
 
 fn run_counted<L: Ledger>(
     alloc: Global,
@@ -27,7 +28,9 @@ fn run_counted<L: Ledger>(
     let mut out = SinkInMemory::new(alloc, 1024, &[])?;
     let images = Box::new(alloc, ScriptTest::new())?;
     let scripts = Box::new(alloc, ScriptTest::new())?;
-    Ok(run_style(alloc, words, files, &mut out, err, images, scripts, &mut steps))
+    Ok(run_style(
+        alloc, words, files, &mut out, err, images, scripts, &mut steps,
+    ))
 }
 
 /// These bytes, and then so many of one value that the whole has this length.

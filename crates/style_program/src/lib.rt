@@ -18,8 +18,6 @@ mod laws;
 mod refusals;
 mod reply;
 mod status;
-#[cfg(test)]
-mod tests;
 mod top;
 mod value_command;
 mod words;

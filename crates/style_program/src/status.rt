@@ -6,7 +6,8 @@ ghost use Rattle.style_program.specs.Ending.{status_of, code_of};
 pub enum Status {
     /// Everything was written, and nothing was found to report.
     Fine,
-    /// Everything was written; an evaluation ended in a fault.
+    /// Everything was written, and something was found to report: `value` ended in an evaluation error, a document has findings, or a
+    /// line of a script was refused. A fault in a listing is none of these.
     Found,
     /// The words have no form that the program knows.
     Usage,
