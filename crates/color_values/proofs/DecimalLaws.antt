@@ -1,40 +1,24 @@
 -- Laws of the numbers that digits write.
-use Rattle.std.proofs.Common.{◌≡◌, ℕ, suc, ◌+◌, ◌-◌, ◌*◌, ◌/◌, ◌^◌, ◌<◌, ◌≤◌, List, ◌++◌, length, take, drop, get_or, refl, sym, ap, ◌∙◌, append_assoc, length-drop, arith, true, false, inl, inr, add-one}
-use Rattle.std.specs.Prelude.{min, nat_eq, nat_le}
+use Rattle.std.proofs.Common.{◌≡◌, ℕ, ◌+◌, ◌-◌, ◌*◌, ◌/◌, ◌^◌, ◌<◌, ◌≤◌, List, ◌++◌, length, take, drop, refl, sym, ap, ◌∙◌, append_assoc, length-drop, arith, true, false, inl, inr}
+use Rattle.std.specs.Prelude.{nat_eq, nat_le}
 use Rattle.std.specs.Char.{is_ascii_digit}
 use Rattle.std.specs.List.{list_all}
-use Rattle.std.proofs.lemmas.Bool.{and_parts, cases_lt, ne_eqb}
-use Rattle.std.proofs.lemmas.List.{take-append-drop, take_more}
+use Rattle.std.proofs.lemmas.Bool.{and_parts, cases_lt, cases_eq, ne_eqb}
+use Rattle.std.proofs.lemmas.List.{take-append-drop}
 use Rattle.std.proofs.lemmas.List.Folds.{list_all-append}
-use Rattle.std.proofs.Math.ListN.{drop_of_length-le}
-use Rattle.std.proofs.Math.Seq.{drop-cons}
 use Rattle.std.proofs.lemmas.Nat.{div-mul-add}
 use Rattle.std.proofs.Math.Nat.{mul-le-mul_left}
 use Rattle.fixed_num.specs.Decimal.{number_of}
-use Rattle.fixed_num.specs.Saturation.{past, saturated}
-use Rattle.fixed_num.proofs.Decimals.{ten_pow, number_of-append, number_of-lt, number_of-push}
+use Rattle.fixed_num.specs.Saturation.{saturated}
+use Rattle.fixed_num.proofs.Decimals.{ten_pow, number_of-append, number_of-lt}
 use Rattle.color_values.specs.ColorNumber.{most_units}
 
--- one digit more, saturated
-pub digit_more : (number : ℕ) (digits : List ℕ) (i : ℕ) → i < length digits → number ≡ saturated (number_of (take i digits))
-    → min (number * 10 + (get_or digits i 0 - 48)) past ≡ saturated (number_of (take (i + 1) digits))
-digit_more number digits i h e =
-    rw (take_more digits i 0 h, number_of-push (take i digits) (get_or digits i 0), e) (omega arith)
-
--- a digit above zero, and a zero, at a place; and no more digits
-pub some_digit : (ds : List ℕ) (i : ℕ) → i < length ds → 48 < get_or ds i 0 → nat_eq (number_of (drop i ds)) 0 ≡ false
-some_digit ds i h some =
-    let least : 10 ^ length (drop (suc i) ds) * 1 ≤ 10 ^ length (drop (suc i) ds) * (get_or ds i 0 - 48) = mul-le-mul_left (10 ^ length (drop (suc i) ds)) (omega arith) in
-    let power = ten_pow (length (drop (suc i) ds)) in
-    rw (drop-cons ds i 0 h) (ne_eqb _ 0 (λ e. absurd (omega arith)))
-
-pub zero_digit : (ds : List ℕ) (i : ℕ) → i < length ds → get_or ds i 0 ≤ 48 → number_of (drop i ds) ≡ number_of (drop (i + 1) ds)
-zero_digit ds i h none =
-    let zero_here : get_or ds i 0 - 48 ≡ 0 = omega arith in
-    rw (add-one, drop-cons ds i 0 h, zero_here) (omega arith)
-
-pub no_digits : (ds : List ℕ) (i : ℕ) → length ds ≤ i → number_of (drop i ds) ≡ 0
-no_digits ds i h = rw (drop_of_length-le ds h) refl
+-- what is cut off at 10^27 is zero where the whole is
+pub saturated_zero : (n : ℕ) → nat_eq (saturated n) 0 ≡ nat_eq n 0
+saturated_zero n = elim (cases_eq n 0) [
+  | inl none ↦ rw none refl
+  | inr some ↦ ne_eqb (saturated n) 0 (λ e. some (omega arith)) ∙ sym (ne_eqb n 0 some)
+]
 
 -- a number against the bound, by its units W and what is behind the point, F / t
 pub below_bound : (W F t : ℕ) → F < t → W < most_units → nat_le (W * t + F) (most_units * t) ≡ true

@@ -1,8 +1,8 @@
 -- The names of colors. Source: CSS Color Module Level 4, section 6.1, "Named Colors".
-use Rattle.std.specs.Prelude.{ℕ, List, [], ◌∷◌, ◌++◌, Option, Some, None, if◌then◌else◌, codes}
+use Rattle.std.specs.Prelude.{ℕ, List, [], ◌∷◌, Option, Some, None, if◌then◌else◌, codes}
 use Rattle.std.specs.Str.{str_eq_ignore_ascii_case}
 
--- each name with its red, green and blue, two hexadecimal digits each
+-- each of the 148 names with its red, green and blue, two hexadecimal digits each, in alphabetical order
 unfoldable pub names : List (List ℕ × ℕ)
 names =
     (codes "aliceblue", 0xf0f8ff) ∷
@@ -31,6 +31,7 @@ names =
     (codes "darkgoldenrod", 0xb8860b) ∷
     (codes "darkgray", 0xa9a9a9) ∷
     (codes "darkgreen", 0x006400) ∷
+    (codes "darkgrey", 0xa9a9a9) ∷
     (codes "darkkhaki", 0xbdb76b) ∷
     (codes "darkmagenta", 0x8b008b) ∷
     (codes "darkolivegreen", 0x556b2f) ∷
@@ -41,11 +42,13 @@ names =
     (codes "darkseagreen", 0x8fbc8f) ∷
     (codes "darkslateblue", 0x483d8b) ∷
     (codes "darkslategray", 0x2f4f4f) ∷
+    (codes "darkslategrey", 0x2f4f4f) ∷
     (codes "darkturquoise", 0x00ced1) ∷
     (codes "darkviolet", 0x9400d3) ∷
     (codes "deeppink", 0xff1493) ∷
     (codes "deepskyblue", 0x00bfff) ∷
     (codes "dimgray", 0x696969) ∷
+    (codes "dimgrey", 0x696969) ∷
     (codes "dodgerblue", 0x1e90ff) ∷
     (codes "firebrick", 0xb22222) ∷
     (codes "floralwhite", 0xfffaf0) ∷
@@ -58,6 +61,7 @@ names =
     (codes "gray", 0x808080) ∷
     (codes "green", 0x008000) ∷
     (codes "greenyellow", 0xadff2f) ∷
+    (codes "grey", 0x808080) ∷
     (codes "honeydew", 0xf0fff0) ∷
     (codes "hotpink", 0xff69b4) ∷
     (codes "indianred", 0xcd5c5c) ∷
@@ -74,11 +78,13 @@ names =
     (codes "lightgoldenrodyellow", 0xfafad2) ∷
     (codes "lightgray", 0xd3d3d3) ∷
     (codes "lightgreen", 0x90ee90) ∷
+    (codes "lightgrey", 0xd3d3d3) ∷
     (codes "lightpink", 0xffb6c1) ∷
     (codes "lightsalmon", 0xffa07a) ∷
     (codes "lightseagreen", 0x20b2aa) ∷
     (codes "lightskyblue", 0x87cefa) ∷
     (codes "lightslategray", 0x778899) ∷
+    (codes "lightslategrey", 0x778899) ∷
     (codes "lightsteelblue", 0xb0c4de) ∷
     (codes "lightyellow", 0xffffe0) ∷
     (codes "lime", 0x00ff00) ∷
@@ -132,6 +138,7 @@ names =
     (codes "skyblue", 0x87ceeb) ∷
     (codes "slateblue", 0x6a5acd) ∷
     (codes "slategray", 0x708090) ∷
+    (codes "slategrey", 0x708090) ∷
     (codes "snow", 0xfffafa) ∷
     (codes "springgreen", 0x00ff7f) ∷
     (codes "steelblue", 0x4682b4) ∷
@@ -148,23 +155,11 @@ names =
     (codes "yellowgreen", 0x9acd32) ∷
     []
 
--- the names with `gray` are spelt with `grey` too, with the same values
-unfoldable pub grey_names : List (List ℕ × ℕ)
-grey_names =
-    (codes "darkgrey", 0xa9a9a9) ∷
-    (codes "darkslategrey", 0x2f4f4f) ∷
-    (codes "dimgrey", 0x696969) ∷
-    (codes "grey", 0x808080) ∷
-    (codes "lightgrey", 0xd3d3d3) ∷
-    (codes "lightslategrey", 0x778899) ∷
-    (codes "slategrey", 0x708090) ∷
-    []
-
 -- the value at a name in a table; ASCII letters count without case
 unfoldable pub value_at : List ℕ → List (List ℕ × ℕ) → Option ℕ
 value_at name [] = None
 value_at name ((text, value) ∷ rest) = if str_eq_ignore_ascii_case name text then Some value else value_at name rest
 
--- red, green and blue of the color of a name, of which there are 148
+-- red, green and blue of the color of a name
 unfoldable pub value_of_name : List ℕ → Option ℕ
-value_of_name name = value_at name (names ++ grey_names)
+value_of_name name = value_at name names

@@ -4,6 +4,5 @@ pub mod ColorName
 pub mod HexColor
 pub mod RgbColor
 pub mod HslColor
-pub mod Range
 pub mod ColorOf
 pub mod Views

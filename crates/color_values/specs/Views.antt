@@ -1,9 +1,12 @@
 -- What contracts of private functions see of numbers, parts and names in a text.
-use Rattle.std.specs.Prelude.{ℕ, ◌-◌, ◌*◌, ◌^◌, ◌≤◌, IsTrue, List, ◌++◌, length, take, drop, map, not, nat_eq, if◌then◌else◌, Option, Some, None, option_map}
+use Rattle.std.specs.Prelude.{ℕ, List, [], ◌∷◌, Bool, true, ◌&&◌, ◌-◌, ◌*◌, ◌^◌, ◌≤◌, IsTrue, ◌++◌, length, take, drop, map, not, nat_eq, if◌then◌else◌, Option, Some, None, option_map}
 use Rattle.std.specs.Option.{is_some}
 use Rattle.std.specs.Char.{is_ascii_digit}
 use Rattle.std.specs.List.{list_all, prefix_len}
 use Rattle.std.specs.Borrow.{Bor}
+use Rattle.std.specs.Cmp.Lexicographic.{slice_cmp}
+use Rattle.std.specs.Ordering.{is_lt, nat_cmp}
+use Rattle.std.specs.Str.{bytes_eq}
 use Rattle.fixed_num.specs.Decimal.{number_of}
 use Rattle.color_values.specs.ColorNumber.{Number, most_units}
 use Rattle.decimal_limbs.specs.Limbs.{limbs_for}
@@ -31,6 +34,17 @@ limb_scale places = 10 ^ (9 * limbs_for places - places)
 -- names as the table has them
 abbrev pub pairs_of : List Name → List (List ℕ × ℕ)
 pairs_of ns = map (λ n. (n.text.now, n.value)) ns
+
+-- whether each name is below the next, byte by byte
+abbrev pub rises : List (List ℕ × ℕ) → Bool
+rises [] = true
+rises (first ∷ []) = true
+rises (first ∷ second ∷ rest) = is_lt (slice_cmp nat_cmp first.0 second.0) && rises (second ∷ rest)
+
+-- the value at the very bytes of a name
+abbrev pub value_among : List ℕ → List (List ℕ × ℕ) → Option ℕ
+value_among name [] = None
+value_among name ((text, value) ∷ rest) = if bytes_eq name text then Some value else value_among name rest
 
 -- the bytes of a part, where there is one
 abbrev pub bytes_of : Option (Bor (List ℕ)) → Option (List ℕ)

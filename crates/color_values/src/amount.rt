@@ -4,7 +4,8 @@ ghost use Rattle.fixed_num.specs.Saturation.{past};
 ghost use Rattle.color_values.specs.ColorNumber.{amount, opacity_at, opacity_of};
 ghost use Rattle.color_values.specs.Views.{number_view, bytes_of};
 
-use crate::number::{Number, is_percent, number_at, percent_at, saturated_number};
+use crate::number::{Number, is_percent, number_at, percent_at};
+use fixed_num::saturated_number;
 
 /// The magnitude of a number, held to at most `most`, times the factor, with the fraction of the exact
 /// product dropped. Numbers may have any length.

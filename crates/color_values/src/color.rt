@@ -1,6 +1,6 @@
 ghost use Rattle.std.specs.Prelude.{◌≡◌, ◌≤◌, pos};
 ghost use Rattle.color_values.specs.HexColor.{color_of_bytes};
-ghost use Rattle.color_values.specs.Range.{IsInRange};
+ghost use Rattle.fixed_num.specs.ColorRange.{IsInRange};
 
 use fixed_num::{Color, Fixed};
 

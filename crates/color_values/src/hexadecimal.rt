@@ -2,7 +2,7 @@ ghost use Rattle.std.specs.Prelude.{◌≡◌, ◌+◌, ◌<◌, ◌≤◌, leng
 ghost use Rattle.std.specs.Char.{is_ascii_hexdigit};
 ghost use Rattle.std.specs.List.{list_all};
 ghost use Rattle.color_values.specs.HexColor.{digit_value, doubled, two_digits, color_of_digits, hexadecimal_color};
-ghost use Rattle.color_values.specs.Range.{IsInRange};
+ghost use Rattle.fixed_num.specs.ColorRange.{IsInRange};
 
 use crate::color::color_of_bytes;
 use fixed_num::Color;

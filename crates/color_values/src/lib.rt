@@ -10,12 +10,12 @@
 //! Promised, for all texts: `read_color` is the definition `color_of`, `Some` and `None` alike, and
 //! its colors are in range. Each component is the exact value of its text, rounded once to the nearest
 //! millionth; numbers are read at any length, but of a hue and of a saturation the digits past the
-//! thousandth behind the point are not counted. Reading takes no memory, and time linear in the text.
+//! thousandth after the point are not counted. Reading takes no memory, and time linear in the text.
 //! `color_text` is the text that `prop_values` writes.
 //!
 //! Definitions, in reading order: `specs/Parts.antt` (spaces, commas, arguments), `specs/ColorNumber.antt`,
-//! `specs/ColorName.antt`, `specs/HexColor.antt`, `specs/RgbColor.antt`, `specs/HslColor.antt`, `specs/Range.antt`
-//! and `specs/ColorOf.antt`, which has the whole. Only `color_text` takes memory.
+//! `specs/ColorName.antt`, `specs/HexColor.antt`, `specs/RgbColor.antt`, `specs/HslColor.antt` and
+//! `specs/ColorOf.antt`, which has the whole. Only `color_text` takes memory.
 #![tactic(auto)]
 
 mod amount;
@@ -28,8 +28,6 @@ mod number;
 mod parts;
 mod reading;
 mod rgb;
-#[cfg(test)]
-mod tests;
 mod text;
 
 pub use reading::read_color;

@@ -1,7 +1,8 @@
-ghost use Rattle.std.specs.Prelude.{◌≡◌, slice_index};
-ghost use Rattle.std.specs.Char.{to_ascii_lowercase};
-ghost use Rattle.color_values.specs.ColorName.{value_at, value_of_name};
-ghost use Rattle.color_values.specs.Views.{pairs_of};
+ghost use Rattle.std.specs.Prelude.{◌≡◌, IsTrue};
+ghost use Rattle.color_values.specs.ColorName.{value_of_name};
+ghost use Rattle.color_values.specs.Views.{pairs_of, rises, value_among};
+
+use std::cmp::Ordering;
 
 // A name, and its red, green and blue as six hexadecimal digits.
 struct Name {
@@ -9,61 +10,43 @@ struct Name {
     value: u32,
 }
 
+// The bytes of the longest name.
+const LONGEST: usize = 20;
+
 /// Red, green and blue of the color of a name, a byte each from the highest on: `0xff_d7_00` for `gold`.
-/// Letters count without case. Only names of the same first letter are looked at.
+/// Letters count without case. Takes time by the logarithm of the number of names.
 pub(crate) fn value_of_name(name: &[u8]) -> Option<u32>
     ensures { result ≡ value_of_name name.now }
 {
-    match first_letter(name) {
-        b'a' => value_among(&A, name),
-        b'b' => value_among(&B, name),
-        b'c' => value_among(&C, name),
-        b'd' => value_among(&D, name),
-        b'f' => value_among(&F, name),
-        b'g' => value_among(&G, name),
-        b'h' => value_among(&H, name),
-        b'i' => value_among(&I, name),
-        b'k' => value_among(&K, name),
-        b'l' => value_among(&L, name),
-        b'm' => value_among(&M, name),
-        b'n' => value_among(&N, name),
-        b'o' => value_among(&O, name),
-        b'p' => value_among(&P, name),
-        b'r' => value_among(&R, name),
-        b's' => value_among(&S, name),
-        b't' => value_among(&T, name),
-        b'v' => value_among(&V, name),
-        b'w' => value_among(&W, name),
-        b'y' => value_among(&Y, name),
-        _ => None,
+    if name.len() > LONGEST {
+        return None;
     }
+    let mut room = [0; LONGEST];
+    let letters = &mut room[..name.len()];
+    letters.copy_from_slice(name);
+    letters.make_ascii_lowercase();
+    value_among(&NAMES, letters)
 }
 
-// The first byte in lower case, or 0.
-fn first_letter(name: &[u8]) -> u8
-    ensures { result ≡ to_ascii_lowercase (slice_index name.now 0) }
-{
-    match name {
-        [] => 0,
-        [first, ..] => first.to_ascii_lowercase(),
-    }
-}
-
-// The value at a name among these.
+// The value at the very bytes of a name, among names in order.
 fn value_among(names: &[Name], name: &[u8]) -> Option<u32>
-    ensures { result ≡ value_at name.now (pairs_of names.now) }
+    requires { IsTrue (rises (pairs_of names.now)) }
+    ensures { result ≡ value_among name.now (pairs_of names.now) }
 {
-    for entry in names {
-        if name.eq_ignore_ascii_case(entry.text.as_bytes()) {
-            return Some(entry.value);
+    let mut low = 0;
+    let mut high = names.len();
+    while low < high {
+        let middle = low + (high - low) / 2;
+        match name.cmp(&names[middle].text.as_bytes()) {
+            Ordering::Less => high = middle,
+            Ordering::Greater => low = middle + 1,
+            Ordering::Equal => return Some(names[middle].value),
         }
     }
     None
 }
 
-// The names by their first letters.
-
-static A: [Name; 5] = [
+static NAMES: [Name; 148] = [
     Name {
         text: "aliceblue",
         value: 0xf0_f8_ff,
@@ -84,9 +67,6 @@ static A: [Name; 5] = [
         text: "azure",
         value: 0xf0_ff_ff,
     },
-];
-
-static B: [Name; 8] = [
     Name {
         text: "beige",
         value: 0xf5_f5_dc,
@@ -119,9 +99,6 @@ static B: [Name; 8] = [
         text: "burlywood",
         value: 0xde_b8_87,
     },
-];
-
-static C: [Name; 8] = [
     Name {
         text: "cadetblue",
         value: 0x5f_9e_a0,
@@ -154,9 +131,6 @@ static C: [Name; 8] = [
         text: "cyan",
         value: 0x00_ff_ff,
     },
-];
-
-static D: [Name; 24] = [
     Name {
         text: "darkblue",
         value: 0x00_00_8b,
@@ -176,6 +150,10 @@ static D: [Name; 24] = [
     Name {
         text: "darkgreen",
         value: 0x00_64_00,
+    },
+    Name {
+        text: "darkgrey",
+        value: 0xa9_a9_a9,
     },
     Name {
         text: "darkkhaki",
@@ -218,6 +196,10 @@ static D: [Name; 24] = [
         value: 0x2f_4f_4f,
     },
     Name {
+        text: "darkslategrey",
+        value: 0x2f_4f_4f,
+    },
+    Name {
         text: "darkturquoise",
         value: 0x00_ce_d1,
     },
@@ -238,24 +220,13 @@ static D: [Name; 24] = [
         value: 0x69_69_69,
     },
     Name {
-        text: "dodgerblue",
-        value: 0x1e_90_ff,
-    },
-    Name {
-        text: "darkgrey",
-        value: 0xa9_a9_a9,
-    },
-    Name {
-        text: "darkslategrey",
-        value: 0x2f_4f_4f,
-    },
-    Name {
         text: "dimgrey",
         value: 0x69_69_69,
     },
-];
-
-static F: [Name; 4] = [
+    Name {
+        text: "dodgerblue",
+        value: 0x1e_90_ff,
+    },
     Name {
         text: "firebrick",
         value: 0xb2_22_22,
@@ -272,9 +243,6 @@ static F: [Name; 4] = [
         text: "fuchsia",
         value: 0xff_00_ff,
     },
-];
-
-static G: [Name; 8] = [
     Name {
         text: "gainsboro",
         value: 0xdc_dc_dc,
@@ -307,9 +275,6 @@ static G: [Name; 8] = [
         text: "grey",
         value: 0x80_80_80,
     },
-];
-
-static H: [Name; 2] = [
     Name {
         text: "honeydew",
         value: 0xf0_ff_f0,
@@ -318,9 +283,6 @@ static H: [Name; 2] = [
         text: "hotpink",
         value: 0xff_69_b4,
     },
-];
-
-static I: [Name; 3] = [
     Name {
         text: "indianred",
         value: 0xcd_5c_5c,
@@ -333,14 +295,10 @@ static I: [Name; 3] = [
         text: "ivory",
         value: 0xff_ff_f0,
     },
-];
-
-static K: [Name; 1] = [Name {
-    text: "khaki",
-    value: 0xf0_e6_8c,
-}];
-
-static L: [Name; 22] = [
+    Name {
+        text: "khaki",
+        value: 0xf0_e6_8c,
+    },
     Name {
         text: "lavender",
         value: 0xe6_e6_fa,
@@ -382,6 +340,10 @@ static L: [Name; 22] = [
         value: 0x90_ee_90,
     },
     Name {
+        text: "lightgrey",
+        value: 0xd3_d3_d3,
+    },
+    Name {
         text: "lightpink",
         value: 0xff_b6_c1,
     },
@@ -399,6 +361,10 @@ static L: [Name; 22] = [
     },
     Name {
         text: "lightslategray",
+        value: 0x77_88_99,
+    },
+    Name {
+        text: "lightslategrey",
         value: 0x77_88_99,
     },
     Name {
@@ -421,17 +387,6 @@ static L: [Name; 22] = [
         text: "linen",
         value: 0xfa_f0_e6,
     },
-    Name {
-        text: "lightgrey",
-        value: 0xd3_d3_d3,
-    },
-    Name {
-        text: "lightslategrey",
-        value: 0x77_88_99,
-    },
-];
-
-static M: [Name; 15] = [
     Name {
         text: "magenta",
         value: 0xff_00_ff,
@@ -492,9 +447,6 @@ static M: [Name; 15] = [
         text: "moccasin",
         value: 0xff_e4_b5,
     },
-];
-
-static N: [Name; 2] = [
     Name {
         text: "navajowhite",
         value: 0xff_de_ad,
@@ -503,9 +455,6 @@ static N: [Name; 2] = [
         text: "navy",
         value: 0x00_00_80,
     },
-];
-
-static O: [Name; 6] = [
     Name {
         text: "oldlace",
         value: 0xfd_f5_e6,
@@ -530,9 +479,6 @@ static O: [Name; 6] = [
         text: "orchid",
         value: 0xda_70_d6,
     },
-];
-
-static P: [Name; 11] = [
     Name {
         text: "palegoldenrod",
         value: 0xee_e8_aa,
@@ -577,9 +523,6 @@ static P: [Name; 11] = [
         text: "purple",
         value: 0x80_00_80,
     },
-];
-
-static R: [Name; 4] = [
     Name {
         text: "rebeccapurple",
         value: 0x66_33_99,
@@ -596,9 +539,6 @@ static R: [Name; 4] = [
         text: "royalblue",
         value: 0x41_69_e1,
     },
-];
-
-static S: [Name; 14] = [
     Name {
         text: "saddlebrown",
         value: 0x8b_45_13,
@@ -640,6 +580,10 @@ static S: [Name; 14] = [
         value: 0x70_80_90,
     },
     Name {
+        text: "slategrey",
+        value: 0x70_80_90,
+    },
+    Name {
         text: "snow",
         value: 0xff_fa_fa,
     },
@@ -651,13 +595,6 @@ static S: [Name; 14] = [
         text: "steelblue",
         value: 0x46_82_b4,
     },
-    Name {
-        text: "slategrey",
-        value: 0x70_80_90,
-    },
-];
-
-static T: [Name; 5] = [
     Name {
         text: "tan",
         value: 0xd2_b4_8c,
@@ -678,14 +615,10 @@ static T: [Name; 5] = [
         text: "turquoise",
         value: 0x40_e0_d0,
     },
-];
-
-static V: [Name; 1] = [Name {
-    text: "violet",
-    value: 0xee_82_ee,
-}];
-
-static W: [Name; 3] = [
+    Name {
+        text: "violet",
+        value: 0xee_82_ee,
+    },
     Name {
         text: "wheat",
         value: 0xf5_de_b3,
@@ -698,9 +631,6 @@ static W: [Name; 3] = [
         text: "whitesmoke",
         value: 0xf5_f5_f5,
     },
-];
-
-static Y: [Name; 2] = [
     Name {
         text: "yellow",
         value: 0xff_ff_00,

@@ -1,12 +1,13 @@
-ghost use Rattle.std.specs.Prelude.{◌≡◌, ◌≤◌, ◌<◌, ◌+◌, ◌-◌, ◌*◌, ◌/◌, ◌^◌, ◌++◌, ◌≢◌, length, take, drop, slice_index, nat_eq, nat_le, IsTrue, IfSome, option_map};
+ghost use Rattle.std.specs.Prelude.{◌≡◌, ◌<◌, ◌*◌, ◌^◌, ◌++◌, length, nat_le, IsTrue, IfSome, option_map};
 ghost use Rattle.std.specs.Char.{is_ascii_digit};
-ghost use Rattle.std.specs.List.{list_all, prefix_len};
-ghost use Rattle.fixed_num.specs.Decimal.{number_of, is_digits, leading_digits, after_digits};
-ghost use Rattle.fixed_num.specs.Saturation.{saturated};
+ghost use Rattle.std.specs.List.{list_all};
+ghost use Rattle.fixed_num.specs.Decimal.{number_of};
 ghost use Rattle.color_values.specs.ColorNumber.{most_units, number_with, unsigned_at, number_at, percent_at, is_percent};
 ghost use Rattle.color_values.specs.Views.{number_view, HasDigits, IsWithin};
 
-/// A number of a color text: its sign, and its digits before and behind the point, any number of them.
+use fixed_num::{are_digits, begins_with, saturated_number, split_digits};
+
+/// A number of a color text: its sign, and its digits before and after the point, any number of them.
 #[derive(Clone, Copy)]
 pub(crate) struct Number<'a> {
     pub(crate) negative: bool,
@@ -31,7 +32,7 @@ pub(crate) fn number_at(bytes: &[u8]) -> Option<Number<'_>>
     unsigned_at(false, bytes)
 }
 
-/// The number of a percentage, a number and `%` at once behind it. Else `None`.
+/// The number of a percentage, a number and `%` at once after it. Else `None`.
 #[tactic(auto, unfolding(crate::specs::ColorNumber::percent_at))]
 pub(crate) fn percent_at(bytes: &[u8]) -> Option<Number<'_>>
     ensures value { option_map number_view result ≡ percent_at bytes.now }
@@ -49,15 +50,6 @@ pub(crate) fn is_percent(bytes: &[u8]) -> bool
     ensures some { IsTrue result → 0 < length bytes.now }
 {
     bytes.last() == Some(&b'%')
-}
-
-/// Whether the first byte is this one, which is not zero.
-pub(crate) fn begins_with(bytes: &[u8], byte: u8) -> bool
-    requires { byte ≢ 0 }
-    ensures value { result ≡ nat_eq (slice_index bytes.now 0) byte }
-    ensures some { IsTrue result → 0 < length bytes.now }
-{
-    bytes.first() == Some(&byte)
 }
 
 // The number of this sign that the text is.
@@ -95,8 +87,8 @@ fn number_with<'a>(negative: bool, whole: &'a [u8], fraction: &'a [u8]) -> Optio
     None
 }
 
-/// The greatest magnitude.
-pub(crate) const MOST_UNITS: u128 = 100_000_000_000_000_000_000;
+// The greatest magnitude.
+const MOST_UNITS: u128 = 100_000_000_000_000_000_000;
 
 // Whether the exact number of these digits is at most 10^20.
 fn is_within(whole: &[u8], fraction: &[u8]) -> bool
@@ -104,56 +96,5 @@ fn is_within(whole: &[u8], fraction: &[u8]) -> bool
     ensures { result ≡ nat_le (number_of (whole.now ++ fraction.now)) (most_units * 10 ^ length fraction.now) }
 {
     let units = saturated_number(whole);
-    units < MOST_UNITS || (units == MOST_UNITS && are_zeros(fraction))
-}
-
-// Whether the digits write zero.
-fn are_zeros(digits: &[u8]) -> bool
-    ensures { result ≡ nat_eq (number_of digits.now) 0 }
-{
-    for digit in digits {
-        if *digit > b'0' {
-            return false;
-        }
-    }
-    true
-}
-
-// A number past every bound.
-const PAST: u128 = 1_000_000_000_000_000_000_000_000_000;
-
-/// The number that the digits write, or 10^27 where it is greater.
-pub(crate) fn saturated_number(digits: &[u8]) -> u128
-    ensures { result ≡ saturated (number_of digits.now) }
-{
-    let mut number = 0;
-    for digit in digits {
-        number = (number * 10 + u128::from(digit.saturating_sub(b'0'))).min(PAST);
-    }
-    number
-}
-
-// The digits that the bytes begin with, and what follows them.
-fn split_digits(bytes: &[u8]) -> (&[u8], &[u8])
-    ensures digits { result.0.now ≡ leading_digits bytes.now }
-    ensures rest { result.1.now ≡ after_digits bytes.now }
-{
-    bytes.split_at(count_digits(bytes))
-}
-
-// Whether there are bytes, and all are digits.
-fn are_digits(bytes: &[u8]) -> bool
-    ensures { result ≡ is_digits bytes.now }
-{
-    !bytes.is_empty() && count_digits(bytes) == bytes.len()
-}
-
-// How many digits the bytes begin with.
-fn count_digits(bytes: &[u8]) -> usize
-    ensures { result ≡ prefix_len is_ascii_digit bytes.now }
-{
-    bytes
-        .iter()
-        .take_while(|byte| byte.is_ascii_digit())
-        .count()
+    units < MOST_UNITS || (units == MOST_UNITS && saturated_number(fraction) == 0)
 }

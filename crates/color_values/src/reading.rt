@@ -1,23 +1,23 @@
 ghost use Rattle.std.specs.Prelude.{◌≡◌, ◌<◌, ◌≤◌, ◌+◌, ◌-◌, IsTrue, IfSome, length, take, drop, slice_index, nat_eq};
 ghost use Rattle.color_values.specs.ColorOf.{opaque_color, named_color, color_by, before_bracket, function_color, color_of_trimmed, color_of};
 ghost use Rattle.color_values.specs.Views.{parts_view};
-ghost use Rattle.color_values.specs.Range.{IsInRange};
+ghost use Rattle.fixed_num.specs.ColorRange.{IsInRange};
 
 use crate::color::color_of_bytes;
 use crate::hexadecimal::hexadecimal_color;
 use crate::hsl::hsl_color;
 use crate::names::value_of_name;
-use crate::number::begins_with;
 use crate::parts::{Parts, parts_of, trimmed};
 use crate::rgb::rgb_color;
-use fixed_num::Color;
+use fixed_num::{Color, begins_with};
 
 /// The color that a text is, or `None` where it is none. Spaces around it are dropped and letters count
 /// without case. A color is a name, `#` and 3, 4, 6 or 8 hexadecimal digits, or one of `rgb`, `rgba`, `hsl`
 /// and `hsla` with three or four arguments in brackets and commas between them.
 ///
-/// Red, green and blue are from 0 to 255 and the opacity from 0 to 1, each the exact value rounded once to
-/// the nearest millionth. Takes no memory, and time linear in the text.
+/// Red, green and blue are from 0 to 255 and the opacity from 0 to 1, each the exact value of the text,
+/// rounded once to the nearest millionth. Only the digits of a hue and of a saturation past the thousandth
+/// after the point do not count. Takes no memory, and time linear in the text.
 pub fn read_color(text: &str) -> Option<Color>
     ensures value { result ≡ color_of text.now }
     ensures range { IfSome result (λ c. IsInRange c) }

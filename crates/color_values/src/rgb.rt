@@ -2,7 +2,7 @@ ghost use Rattle.std.specs.Prelude.{◌≡◌, IfSome};
 ghost use Rattle.color_values.specs.ColorNumber.{number_at, percent_at, opacity_of};
 ghost use Rattle.color_values.specs.RgbColor.{rgb_color, rgb_color_of};
 ghost use Rattle.color_values.specs.Views.{bytes_of, parts_view};
-ghost use Rattle.color_values.specs.Range.{IsInRange};
+ghost use Rattle.fixed_num.specs.ColorRange.{IsInRange};
 
 use crate::amount::{amount, opacity_of};
 use crate::color::color_of_millionths;

@@ -2,7 +2,7 @@
 use Rattle.std.proofs.Common.{◌≡◌, ℕ, suc, ◌*◌, ◌≤◌, ℤ, pos, negsuc, neg_ℤ, ◌+ℤ◌, ◌-ℤ◌, ◌*ℤ◌, refl, ap, ◌∙◌, arith, true}
 use Rattle.std.specs.Prelude.{Result, Ok, Err, nat_le, unsigned_abs, ◌≤ℤ◌, ◌<ℤ◌}
 use Rattle.std.proofs.lemmas.Bool.{le-leb}
-use Rattle.std.proofs.lemmas.Int.{ints, unsigned_abs-mul}
+use Rattle.std.proofs.lemmas.Int.{ints, by_lt_z, unsigned_abs-mul}
 use Rattle.std.proofs.lemmas.Nat.{mul-le}
 use Rattle.fixed_num.specs.Number.{bound}
 use Rattle.std.proofs.Math.IntN.{pos-*ℤ-pos, negsuc-*ℤ-pos}
@@ -60,3 +60,10 @@ line_of_component x x0 a x1 b h k a_low a_high b_low b_high =
     let small : unsigned_abs ((b -ℤ a) *ℤ (x -ℤ x0)) ≤ farthest = rw (unsigned_abs-mul (b -ℤ a) (x -ℤ x0)) (omega arith) in
     let passes : nat_le (unsigned_abs ((b -ℤ a) *ℤ (x -ℤ x0))) farthest ≡ true = le-leb (unsigned_abs ((b -ℤ a) *ℤ (x -ℤ x0))) farthest small in
     rw passes refl
+
+-- what a line gives lies where its ends do
+pub line_between : (x x0 a x1 b r low high : ℤ) → x0 ≤ℤ x → x ≤ℤ x1 → x0 <ℤ x1 → low ≤ℤ a → a ≤ℤ high → low ≤ℤ b → b ≤ℤ high → linear_of x x0 a x1 b ≡ Ok r → (low ≤ℤ r) × (r ≤ℤ high)
+line_between x x0 a x1 b r low high from to apart a_low a_high b_low b_high e =
+    by_lt_z a b
+    (λ up. let (above, below) = line_up x x0 a x1 b r from to apart (omega (arith, ints)) e in (omega (arith, ints), omega (arith, ints)))
+    (λ not_up. let (above, below) = line_down x x0 a x1 b r from to apart (omega (arith, ints)) e in (omega (arith, ints), omega (arith, ints)))

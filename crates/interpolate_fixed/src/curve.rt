@@ -1,11 +1,10 @@
 ghost use Rattle.std.specs.Prelude.{◌≡◌, ◌<◌, pos, ◌≤ℤ◌, ◌<ℤ◌, length};
-ghost use Rattle.power_fixed.specs.Power.{one};
 ghost use Rattle.interpolate_fixed.specs.Places.{IsAscending, place_of};
 ghost use Rattle.interpolate_fixed.specs.Warp.{growth_of, moved_by, moved_between, held, moved_at, warp_of, HasPositiveBase};
 
 use crate::place::{StopPlace, stop_place};
 use fixed_num::{Arith, Fixed};
-use power_fixed::power;
+use power_fixed::{power, unit};
 use prop_values::Curve;
 
 /// The input at which a line through the stops has the value of the curve at `x`: `x` itself for a line, and for an
@@ -68,13 +67,6 @@ fn growth(base: Fixed, x0: Fixed, x: Fixed) -> Result<Fixed, Arith>
     ensures { result ≡ growth_of base x0 x }
 {
     power(base, x.sub(x0)?)?.sub(unit())
-}
-
-// The number 1.
-fn unit() -> Fixed
-    ensures { result ≡ one }
-{
-    Fixed::from_millionths(1_000_000).unwrap()
 }
 
 // That share of the way from `x0` to `x1`, held to its ends.

@@ -20,8 +20,6 @@ mod laws;
 mod line;
 mod list;
 mod place;
-#[cfg(test)]
-mod tests;
 
 pub use color::linear_color;
 pub use curve::warp;

@@ -1,10 +1,9 @@
 ghost use Rattle.std.specs.Prelude.{◌≡◌, ◌<◌, ◌≤◌, ◌≤ℤ◌, ◌<ℤ◌, ◌+ℤ◌, ◌-ℤ◌, unsigned_abs};
 ghost use Rattle.fixed_num.specs.Number.{bound};
-ghost use Rattle.fixed_num.specs.Rounding.{nearest};
 ghost use Rattle.interpolate_fixed.specs.Linear.{linear_of};
 ghost use Rattle.interpolate_fixed.specs.Share.{share_of};
 
-use fixed_num::{Arith, Fixed};
+use fixed_num::{Arith, Fixed, nearest};
 
 // The greatest magnitude of a product of two differences.
 const FARTHEST: u128 = 100_000_000_000_000_000_000_000_000_000_000_000_000;
@@ -62,19 +61,4 @@ fn share(way: i128, part: u128, whole: u128) -> Result<i128, Arith>
     }
     let step = nearest(product, whole) as i128;
     Ok(if way < 0 { -step } else { step })
-}
-
-// The whole number nearest to `n / d`, the greater of two.
-fn nearest(n: u128, d: u128) -> u128
-    requires { 0 < d }
-    ensures value { result ≡ nearest n d }
-    ensures not_more { result ≤ n }
-{
-    let quotient = n / d;
-    let left = n % d;
-    if left >= d - left {
-        quotient + 1
-    } else {
-        quotient
-    }
 }

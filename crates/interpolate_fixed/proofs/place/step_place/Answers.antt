@@ -1,6 +1,6 @@
 use Rattle.std.proofs.lemmas.List.{get_or_read}
 use Rattle.std.proofs.lemmas.Int.{ints}
-use Rattle.std.proofs.Common.{pos, ◌≡◌, ◌+◌, ◌-◌, ◌/◌, ◌<◌, length, arith}
+use Rattle.std.proofs.Common.{pos, ◌≡◌, ◌+◌, ◌-◌, ◌/◌, ◌<◌, arith}
 use Rattle.std.specs.Prelude.{◌≤ℤ◌, ◌<ℤ◌}
 use Rattle.interpolate_fixed.specs.Places.{input_at}
 use Rattle.interpolate_fixed.proofs.Counts.{none_above_before, all_above_after, count_split}
