@@ -1,1 +1,3 @@
 pub mod ItemCounts
+pub mod NameIndexes
+pub mod FoundRows

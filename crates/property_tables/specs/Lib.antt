@@ -1,3 +1,6 @@
 pub mod LayerTypes
+pub mod NameIndex
+pub mod Rows
+pub mod RowView
 pub mod Fitting
 pub mod Stays

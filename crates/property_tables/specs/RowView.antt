@@ -1,0 +1,57 @@
+-- What contracts see of rows and of the entries of the table.
+use Rattle.std.specs.Prelude.{ℕ, ℤ, List, Bool, Option, Some, None, option_map, map}
+use Rattle.fixed_num.specs.declared.fixed.Fixed.{Fixed}
+use Rattle.property_tables.specs.Rows.{RowData, Default, absent, flag, amount, word, zeros, fonts, takes_tokens}
+use Rattle.property_tables.specs.declared.entry.Entry.{Entry}
+use Rattle.property_tables.specs.declared.entry.Given.{Given}
+use Rattle.property_tables.specs.declared.entry.Given.TheVariants as given
+use Rattle.property_tables.specs.declared.property_row.Fallback.{Fallback}
+use Rattle.property_tables.specs.declared.property_row.Fallback.TheVariants as fallbacks
+use Rattle.property_tables.specs.declared.property_row.Row.{Row}
+
+abbrev pub names_of : List Entry → List (List ℕ)
+names_of es = map (λ e. e.name.now) es
+
+abbrev pub given_seen : Given → Default
+given_seen given.Absent = absent
+given_seen (given.Flag b) = flag b
+given_seen (given.Amount n) = amount n
+given_seen (given.Word s) = word s.now
+given_seen (given.Zeros n) = zeros n
+given_seen given.Fonts = fonts
+
+abbrev pub entry_seen : Entry → RowData
+entry_seen e = record {
+  name = e.name.now;
+  place = e.place;
+  want = e.want;
+  fallback = given_seen e.given;
+  limits = record { least = e.limits.least; most = e.limits.most };
+  reads = record { zoom = e.reads.zoom; feature = e.reads.feature; state = e.reads.state; ramps = e.reads.ramps };
+}
+
+abbrev pub rows_seen : List Entry → List RowData
+rows_seen es = map entry_seen es
+
+abbrev pub fallback_seen : Fallback → Default
+fallback_seen fallbacks.Absent = absent
+fallback_seen (fallbacks.Flag b) = flag b
+fallback_seen (fallbacks.Number n) = amount n
+fallback_seen (fallbacks.Word s) = word s.now
+fallback_seen (fallbacks.Zeros n) = zeros n
+fallback_seen fallbacks.Fonts = fonts
+
+-- what the table has of a row
+abbrev pub row_seen : Row → RowData
+row_seen r = record {
+  name = r.name.now;
+  place = r.place;
+  want = r.want;
+  fallback = fallback_seen r.fallback;
+  limits = record { least = r.least; most = r.most };
+  reads = record { zoom = r.zoom; feature = r.feature; state = r.state; ramps = r.ramps };
+}
+
+-- a row with its number
+abbrev pub numbered_seen : Row → ℕ × RowData
+numbered_seen r = (r.number, row_seen r)

@@ -1,0 +1,45 @@
+use fixed_num::Fixed;
+use prop_values::Want;
+
+/// The member of a layer that a property stands in.
+#[derive(Clone, Copy, Debug, PartialEq, Eq)]
+pub enum Place {
+    Layout,
+    Paint,
+}
+
+/// What stands for a property without a value of its own. `default_value` gives it as a value.
+#[derive(Clone, Copy, Debug, PartialEq, Eq)]
+pub enum Fallback {
+    Absent,
+    Flag(bool),
+    Number(Fixed),
+    /// A color's text, a text, or one of a set of texts.
+    Word(&'static str),
+    /// A list of so many zeros.
+    Zeros(u32),
+    /// The list of the fonts `Open Sans Regular` and `Arial Unicode MS Regular`.
+    Fonts,
+}
+
+/// A row of the table of properties.
+#[derive(Clone, Copy, Debug, PartialEq, Eq)]
+pub struct Row {
+    pub name: &'static str,
+    /// The place of the row among those of its layer type, counted from 0.
+    pub number: u16,
+    pub place: Place,
+    pub want: Want,
+    pub fallback: Fallback,
+    /// The least and the most number that a literal or a function's output may be, or each of its items.
+    pub least: Option<Fixed>,
+    pub most: Option<Fixed>,
+    /// Whether a value may read the zoom, feature data and feature state.
+    pub zoom: bool,
+    pub feature: bool,
+    pub state: bool,
+    /// Whether a function goes linearly between its stops where its type is not given, and may be exponential.
+    pub ramps: bool,
+    /// Whether a text with tokens is a token text.
+    pub tokens: bool,
+}
