@@ -1,7 +1,7 @@
 -- What contracts see of rows and of the entries of the table.
 use Rattle.std.specs.Prelude.{ℕ, ℤ, List, Bool, Option, Some, None, option_map, map}
 use Rattle.fixed_num.specs.declared.fixed.Fixed.{Fixed}
-use Rattle.property_tables.specs.Rows.{RowData, Default, absent, flag, amount, word, zeros, fonts, takes_tokens}
+use Rattle.property_tables.specs.Rows.{RowData, Limits, Default, absent, flag, amount, word, zeros, fonts, takes_tokens}
 use Rattle.property_tables.specs.declared.entry.Entry.{Entry}
 use Rattle.property_tables.specs.declared.entry.Given.{Given}
 use Rattle.property_tables.specs.declared.entry.Given.TheVariants as given
@@ -41,6 +41,9 @@ fallback_seen (fallbacks.Word s) = word s.now
 fallback_seen (fallbacks.Zeros n) = zeros n
 fallback_seen fallbacks.Fonts = fonts
 
+abbrev pub limits_seen : Row → Limits
+limits_seen r = record { least = r.least; most = r.most }
+
 -- what the table has of a row
 abbrev pub row_seen : Row → RowData
 row_seen r = record {
@@ -48,7 +51,7 @@ row_seen r = record {
   place = r.place;
   want = r.want;
   fallback = fallback_seen r.fallback;
-  limits = record { least = r.least; most = r.most };
+  limits = limits_seen r;
   reads = record { zoom = r.zoom; feature = r.feature; state = r.state; ramps = r.ramps };
 }
 

@@ -15,17 +15,21 @@
 //! time is linear in the items of a list and in a text.
 #![tactic(auto)]
 
+mod defaults;
 mod entry;
 mod fitting;
 mod laws;
 mod layer_type;
+mod literals;
 mod lookup;
 mod property_row;
 mod rows;
 mod search;
 
+pub use defaults::default_value;
 pub use fitting::fit;
 pub use laws::fitted_values_stay;
 pub use layer_type::LayerType;
+pub use literals::literal;
 pub use lookup::{row, unread};
 pub use property_row::{Fallback, Place, Row};
