@@ -1,3 +1,4 @@
 pub mod ItemCounts
 pub mod NameIndexes
 pub mod FoundRows
+pub mod Tables

@@ -18,11 +18,11 @@ use Rattle.property_tables.specs.RowView.{names_of}
 use Rattle.property_tables.specs.declared.entry.Entry.{Entry}
 use Rattle.property_tables.specs.NameIndex.{name_at, is_before, ascends, is_index, IsPlaceOf, IsNowhere}
 
-both : (a b : Bool) → (a && b) ≡ true → (a ≡ true) × (b ≡ true)
+pub both : (a b : Bool) → (a && b) ≡ true → (a ≡ true) × (b ≡ true)
 both true b e = (refl, e)
 both false b e = absurd (false≢true e)
 
-all_at : {X : Type 0} (p : X → Bool) (xs : List X) (i : ℕ) (d : X) → i < length xs → list_all p xs ≡ true → p (get_or xs i d) ≡ true
+pub all_at : {X : Type 0} (p : X → Bool) (xs : List X) (i : ℕ) (d : X) → i < length xs → list_all p xs ≡ true → p (get_or xs i d) ≡ true
 all_at p xs i d h e = elim (cases_Bool (p (get_or xs i d))) [
   | inl holds ↦ holds
   | inr fails ↦ absurd (false≢true (sym (list_all_at p xs i d h fails) ∙ e))

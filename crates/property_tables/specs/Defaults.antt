@@ -2,6 +2,7 @@
 use Rattle.std.specs.Prelude.{pos, replicate, [], ◌∷◌, Option, Some, None, codes, Result, Ok, Err}
 use Rattle.prop_values.specs.Data.{Data, boolean, number, text, list, items_of}
 use Rattle.prop_values.specs.declared.fault.EvalFault.{EvalFault}
+use Rattle.prop_values.specs.declared.kinds.Want.{Want}
 use Rattle.property_tables.specs.Fitting.{fit}
 use Rattle.property_tables.specs.Rows.{RowData, Default, absent, flag, amount, word, zeros, fonts}
 
@@ -19,6 +20,11 @@ abbrev pub fitted : Result Data EvalFault → Option Data
 fitted (Ok d) = Some d
 fitted (Err fault) = None
 
+-- a default as it is written, fitted to what is wanted
+abbrev pub fitted_default : Want → Option Data → Option Data
+fitted_default w None = None
+fitted_default w (Some d) = fitted (fit w d)
+
 -- the default of a row, fitted to what the row wants
 abbrev pub default_of : RowData → Option Data
-default_of r = elim (written_default r.fallback) [ None ↦ None | Some d ↦ fitted (fit r.want d) ]
+default_of r = fitted_default r.want (written_default r.fallback)

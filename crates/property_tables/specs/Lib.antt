@@ -4,5 +4,6 @@ pub mod Rows
 pub mod RowView
 pub mod Defaults
 pub mod Literals
+pub mod TableLaws
 pub mod Fitting
 pub mod Stays

@@ -28,7 +28,7 @@ mod search;
 
 pub use defaults::default_value;
 pub use fitting::fit;
-pub use laws::fitted_values_stay;
+pub use laws::{fitted_values_stay, tables_keep_their_rules};
 pub use layer_type::LayerType;
 pub use literals::literal;
 pub use lookup::{row, unread};
