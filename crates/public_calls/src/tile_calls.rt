@@ -132,6 +132,9 @@ fn tiles_made(rt: HostRuntime) -> Result<(), Fail> {
         kind: TileKind::Compressed,
         at: 0,
     };
-    assert_eq!(rt; format!(in alloc; "{fault}")?.as_str(), "Compressed at byte 0");
+    assert_eq!(rt;
+        format!(in alloc; "{fault}")?.as_str(),
+        "Compressed at byte 0"
+    );
     Ok(())
 }

@@ -11,3 +11,12 @@ pub mod FeatureMade
 pub mod Names
 pub mod Chosen
 pub mod TileLaws
+pub mod Parts
+pub mod ValueFormat
+pub mod FeatureFormat
+pub mod PropertyFormat
+pub mod LayerFormat
+pub mod TileFormat
+pub mod FaultParts
+pub mod FaultFormat
+pub mod LayerFaults

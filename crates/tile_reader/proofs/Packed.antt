@@ -31,12 +31,12 @@ enough zero m (c ∷ b) p q = absurd (omega arith)
 enough (suc n) zero (c ∷ b) p q = absurd (omega arith)
 enough (suc n) (suc m) (c ∷ b) p q = same_numbers (c ∷ b) (numbers_within n) (numbers_within m) (varint_at (c ∷ b)) refl (λ rest fewer. enough n m rest (omega arith) (omega arith))
 
-packed_end : (b : List ℕ) → b ≡ [] → packed b ≡ Ok []
+pub packed_end : (b : List ℕ) → b ≡ [] → packed b ≡ Ok []
 unfolding packed
 packed_end [] e = refl
 packed_end (c ∷ b) e = absurd (cc)
 
-packed_front : (b : List ℕ) → 0 < length b → packed b ≡ number_before (varint_at b) packed
+pub packed_front : (b : List ℕ) → 0 < length b → packed b ≡ number_before (varint_at b) packed
 unfolding packed
 packed_front [] some = absurd (omega arith)
 packed_front (c ∷ b) some = same_numbers (c ∷ b) (numbers_within (length b)) (λ rest. numbers_within (length rest) rest) (varint_at (c ∷ b)) refl (λ rest fewer. enough (length b) (length rest) rest (omega arith) (omega arith))

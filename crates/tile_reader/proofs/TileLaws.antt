@@ -1,28 +1,12 @@
 -- Proofs of the laws.
 use Rattle.std.proofs.Common.{◌≡◌, ℕ, zero, suc, ◌<◌, ◌≤◌, inl, inr, List, [], ◌∷◌, refl, arith, length}
-use Rattle.std.specs.Prelude.{◌⊎◌, Result, Ok, Err}
+use Rattle.std.specs.Prelude.{Result, Ok, Err}
 use Rattle.proto_wire.specs.declared.wire.WireKind.{WireKind}
 use Rattle.proto_wire.specs.Message.{WireField, field_at, AreFields}
 use Rattle.proto_wire.proofs.MessageLaws.{field_takes}
-use Rattle.tile_reader.specs.declared.fault.TileFault.{TileFault}
-use Rattle.tile_reader.specs.declared.tile.TileLayer.{TileLayer}
 use Rattle.tile_reader.specs.Message.{Message, from_front, fields_within, message}
-use Rattle.tile_reader.specs.Tile.{tile_of}
-use Rattle.tile_reader.specs.Laws.{TileOrFault, NeverBoth, OneTile, MessagesAreCut, KeysDiffer}
+use Rattle.tile_reader.specs.Laws.{MessagesAreCut, KeysDiffer}
 use Rattle.tile_reader.proofs.Pairs.{distinct_all}
-
-either : (read : Result (List TileLayer) TileFault) → ((layers : List TileLayer) × (read ≡ Ok layers)) ⊎ ((fault : TileFault) × (read ≡ Err fault))
-either (Ok layers) = inl (layers, refl)
-either (Err fault) = inr (fault, refl)
-
-pub tile_or_fault : TileOrFault
-tile_or_fault b = either (tile_of b)
-
-pub never_both : NeverBoth
-never_both b layers fault is has = cc
-
-pub one_tile : OneTile
-one_tile b layers others is are = cc
 
 cut_front : (at : ℕ) (b : List ℕ) (others : WireField → List ℕ → Message) (read : Result (WireField × List ℕ) WireKind) → 0 < length b → field_at at b ≡ read → ((field : WireField) (rest : List ℕ) → length rest < length b → AreFields field.end rest (others field rest).fields (others field rest).fault) → AreFields at b (from_front at read others).fields (from_front at read others).fault
 cut_front at b others (Err kind) some e cut = inr (kind, some, e, refl)

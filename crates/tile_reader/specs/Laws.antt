@@ -1,5 +1,5 @@
 -- The laws that say what the definitions of this crate mean.
-use Rattle.std.specs.Prelude.{◌≡◌, ℕ, ◌⊎◌, List, [], Ok, Err}
+use Rattle.std.specs.Prelude.{◌≡◌, ℕ, ◌⊎◌, ◌↔◌, List, [], Ok, Err}
 use Rattle.proto_wire.specs.Message.{AreFields}
 use Rattle.prop_values.specs.Data.{Data, HasDistinctKeys}
 use Rattle.tile_reader.specs.declared.fault.TileFault.{TileFault}
@@ -7,26 +7,28 @@ use Rattle.tile_reader.specs.declared.tile.TileLayer.{TileLayer}
 use Rattle.tile_reader.specs.Message.{message}
 use Rattle.tile_reader.specs.Properties.{put_all}
 use Rattle.tile_reader.specs.Tile.{tile_of}
+use Rattle.tile_reader.specs.Format.{IsTile}
+use Rattle.tile_reader.specs.FirstFault.{IsFirstFault}
 
--- these bytes are this tile
-abbrev pub IsTile : List ℕ → List TileLayer → Type 0
-IsTile b layers = tile_of b ≡ Ok layers
+-- A tile is read exactly where the bytes are that tile.
+abbrev pub TilesAreRead : Type 0
+TilesAreRead = (b : List ℕ) (layers : List TileLayer) → (tile_of b ≡ Ok layers) ↔ IsTile b layers
 
--- this is the first fault of these bytes
-abbrev pub IsFirstFault : List ℕ → TileFault → Type 0
-IsFirstFault b fault = tile_of b ≡ Err fault
-
--- all bytes are a tile or have a fault
+-- All bytes are a tile or have a first fault,
 abbrev pub TileOrFault : Type 0
-TileOrFault = (b : List ℕ) → ((layers : List TileLayer) × IsTile b layers) ⊎ ((fault : TileFault) × IsFirstFault b fault)
+TileOrFault = (b : List ℕ) → ((layers : List TileLayer) × IsTile b layers) ⊎ ((fault : TileFault) × (tile_of b ≡ Err fault))
 
--- and not both
+-- not both,
 abbrev pub NeverBoth : Type 0
-NeverBoth = (b : List ℕ) (layers : List TileLayer) (fault : TileFault) → IsTile b layers → IsFirstFault b fault → ⊥
+NeverBoth = (b : List ℕ) (layers : List TileLayer) (fault : TileFault) → IsTile b layers → tile_of b ≡ Err fault → ⊥
 
--- and are no two tiles
+-- and are no two tiles.
 abbrev pub OneTile : Type 0
 OneTile = (b : List ℕ) (layers others : List TileLayer) → IsTile b layers → IsTile b others → others ≡ layers
+
+-- The fault that is read is the first one in the reading order: no fault stands before it.
+abbrev pub FaultsComeFirst : Type 0
+FaultsComeFirst = (b : List ℕ) (fault : TileFault) → tile_of b ≡ Err fault → IsFirstFault b fault
 
 -- a message is the fields that stand one after the other in its bytes, up to the end or up to a fault
 abbrev pub MessagesAreCut : Type 0

@@ -1,3 +1,8 @@
+-- To be believed: a tile in the words of its format, and the first fault of other bytes.
+pub mod Format
+pub mod FirstFault
+pub mod Laws
+-- The function that they determine, read field after field.
 pub mod Message
 pub mod Read
 pub mod Value
@@ -5,6 +10,6 @@ pub mod Feature
 pub mod Properties
 pub mod Layer
 pub mod Tile
+-- What only the reader's own contracts and proofs use.
 pub mod Lookup
 pub mod View
-pub mod Laws

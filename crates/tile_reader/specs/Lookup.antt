@@ -1,4 +1,4 @@
--- How the keys of a layer are numbered so that the properties of a feature compare numbers and no texts.
+-- How the keys of a layer are fields_of_number so that the properties of a feature compare numbers and no texts.
 use Rattle.std.specs.Prelude.{◌≡◌, ℕ, ◌<◌, ◌⊎◌, suc, List, [], ◌∷◌, length, map, Option, Some, None, option_map, if◌then◌else◌, cond, nat_eq, is_some, slice_index, slice_index_or}
 use Rattle.std.specs.List.{list_any}
 use Rattle.std.specs.Str.{bytes_eq}

@@ -1,8 +1,11 @@
 //! What the definitions mean, each law on a function that does nothing.
-ghost use Rattle.tile_reader.specs.Laws.{TileOrFault, NeverBoth, OneTile, MessagesAreCut, KeysDiffer};
+ghost use Rattle.tile_reader.specs.Laws.{TilesAreRead, FaultsComeFirst, TileOrFault, NeverBoth, OneTile, MessagesAreCut, KeysDiffer};
 
-/// All bytes are a tile or have a first fault, never both, and are no two tiles.
+/// A tile is read exactly where the bytes are that tile in the words of its format, and the fault that is read is the
+/// first one: what stands before it has none. All bytes are a tile or have a fault, never both, and are no two tiles.
 pub fn bytes_are_one_tile()
+    ensures read { TilesAreRead }
+    ensures first { FaultsComeFirst }
     ensures some { TileOrFault }
     ensures apart { NeverBoth }
     ensures only { OneTile }

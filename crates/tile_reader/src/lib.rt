@@ -7,9 +7,10 @@
 //! }
 //! ```
 //!
-//! Promised: for all bytes the answer is the tile that they are by the definition `tile_of` of `specs/Tile.antt`, or
-//! the first fault in the reading order with its place, unless memory lacks. Time is that of n log n in the bytes: each
-//! text is copied once, and all features that have it share it.
+//! What is promised: for all bytes the answer is the tile that they are, or the first fault in the reading order with its
+//! place, unless memory lacks. `IsTile` of `specs/Format.antt` says what a tile is in the words of its format, and
+//! `IsFirstFault` of `specs/FirstFault.antt` which fault comes first; `tile_of` of `specs/Tile.antt` is the function that
+//! they determine. Time is that of n log n in the bytes: each text is copied once, and all features that have it share it.
 //!
 //! The reading order: compressed bytes come first. Then the fields follow from left to right, and what stands inside a
 //! layer, feature or value is read where its field stands. At a field come its wire type, a float, a second field of a
