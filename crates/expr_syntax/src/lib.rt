@@ -20,8 +20,6 @@
 mod expression;
 mod fault;
 mod reading;
-#[cfg(test)]
-mod tests;
 
 pub use expression::{Arguments, Expr, Operator};
 pub use fault::{SynCode, SynFault};

@@ -87,21 +87,21 @@ module _ (names : List (List ℕ)) (order : List ℕ) (index : is_index names or
 
   pub names_ascend : (j k : ℕ) → j < k → k < length order → slice_cmp nat_cmp (name_at names (placed order j)) (name_at names (placed order k)) ≡ Less
   names_ascend j k h w =
-    let at_j = get_or-map (name_at names) order j 0 [] (omega (arith, h, w)) in
-    let at_k = get_or-map (name_at names) order k 0 [] w in
-    let there = ascending_at (map (name_at names) order) others.0 j k h (omega (arith, w, length-map order (name_at names))) in
-    subst (λ a. slice_cmp nat_cmp a (name_at names (placed order k)) ≡ Less) at_j (subst (λ b. slice_cmp nat_cmp (get_or (map (name_at names) order) j []) b ≡ Less) at_k there)
+      let at_j = get_or-map (name_at names) order j 0 [] (omega (arith, h, w)) in
+      let at_k = get_or-map (name_at names) order k 0 [] w in
+      let there = ascending_at (map (name_at names) order) others.0 j k h (omega (arith, w, length-map order (name_at names))) in
+      subst (λ a. slice_cmp nat_cmp a (name_at names (placed order k)) ≡ Less) at_j (subst (λ b. slice_cmp nat_cmp (get_or (map (name_at names) order) j []) b ≡ Less) at_k there)
 
   among_at : (i : ℕ) → i < length names → list_any (eqb i) order ≡ true
   among_at i h =
-    let there = all_at (λ j. list_any (eqb j) order) (range_with_len 0 (length names)) i 0 (omega (arith, h, length-range_with_len 0 (length names))) others.1 in
-    subst (λ j. list_any (eqb j) order ≡ true) (let from_0 : 0 + i ≡ i = omega arith in get_or-range_with_len 0 (length names) i 0 h ∙ from_0) there
+      let there = all_at (λ j. list_any (eqb j) order) (range_with_len 0 (length names)) i 0 (omega (arith, h, length-range_with_len 0 (length names))) others.1 in
+      subst (λ j. list_any (eqb j) order ≡ true) (let from_0 : 0 + i ≡ i = omega arith in get_or-range_with_len 0 (length names) i 0 h ∙ from_0) there
 
   -- each place is among them
   pub place_among : (i : ℕ) → i < length names → (k : ℕ) × (k < length order) × (placed order k ≡ i)
   place_among i h =
-    let (k, x, w, there, same) = Any-from_list_any (eqb i) order (among_at i h) in
-    (k, w, get_or_default order k 0 x w ∙ there ∙ sym (eqb-true i x same))
+      let (k, x, w, there, same) = Any-from_list_any (eqb i) order (among_at i h) in
+      (k, w, get_or_default order k 0 x w ∙ there ∙ sym (eqb-true i x same))
 
   not_below_itself : (q : List ℕ) → slice_cmp nat_cmp q q ≡ Less → ⊥
   not_below_itself q less = both_less q q less less
@@ -116,16 +116,16 @@ module _ (names : List (List ℕ)) (order : List ℕ) (index : is_index names or
   -- and what stands at or behind it, where it is above
   pub not_above : (q : List ℕ) (m k : ℕ) → k < length order → slice_cmp nat_cmp (name_at names (placed order m)) q ≡ Greater → m ≤ k → name_at names (placed order k) ≡ q → ⊥
   not_above q m k w greater h same =
-    let less : slice_cmp nat_cmp q (name_at names (placed order m)) ≡ Less = turned q (name_at names (placed order m)) greater in
-    elim (split_first m k h) [
-    | inl later ↦ both_less q (name_at names (placed order m)) less (subst (λ a. slice_cmp nat_cmp (name_at names (placed order m)) a ≡ Less) same (names_ascend m k later w))
-    | inr here ↦ not_below_itself q (subst (λ a. slice_cmp nat_cmp q a ≡ Less) (ap (λ i. name_at names (placed order i)) here ∙ same) less)
-  ]
+      let less : slice_cmp nat_cmp q (name_at names (placed order m)) ≡ Less = turned q (name_at names (placed order m)) greater in
+      elim (split_first m k h) [
+        | inl later ↦ both_less q (name_at names (placed order m)) less (subst (λ a. slice_cmp nat_cmp (name_at names (placed order m)) a ≡ Less) same (names_ascend m k later w))
+        | inr here ↦ not_below_itself q (subst (λ a. slice_cmp nat_cmp q a ≡ Less) (ap (λ i. name_at names (placed order i)) here ∙ same) less)
+      ]
 
   pub nowhere_from_order : (q : List ℕ) → ((k : ℕ) → k < length order → name_at names (placed order k) ≡ q → ⊥) → IsNowhere names q
   nowhere_from_order q none i h same =
-    let (k, w, there) = place_among i h in
-    none k w (ap (name_at names) there ∙ same)
+      let (k, w, there) = place_among i h in
+      none k w (ap (name_at names) there ∙ same)
 
   -- the name at a place in the order stands nowhere else
   same_place : (q : List ℕ) (m k : ℕ) → m < length order → k < length order → name_at names (placed order m) ≡ q → name_at names (placed order k) ≡ q → k ≡ m

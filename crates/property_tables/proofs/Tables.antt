@@ -86,8 +86,8 @@ module _ (R : RowData → RowData → Type 0) (follows : (a b : RowData) → may
   pairs_from : (rs : List RowData) → all_follow rs ≡ true → AllPairs R rs
   pairs_from [] e = λ i j d h k. absurd (omega (arith, k))
   pairs_from (r ∷ rs) e =
-    let (first, others) = both (list_all (may_follow r) rs) (all_follow rs) e in
-    AllPairs-cons R r rs (All-from_get_or (R r) rs r (λ i h. follows r (get_or rs i r) (all_at (may_follow r) rs i r h first))) (pairs_from rs others)
+      let (first, others) = both (list_all (may_follow r) rs) (all_follow rs) e in
+      AllPairs-cons R r rs (All-from_get_or (R r) rs r (λ i h. follows r (get_or rs i r) (all_at (may_follow r) rs i r h first))) (pairs_from rs others)
 
 meets_from : (r : RowData) (d : Data) (form : Bool) (o : Option Data) → o ≡ default_of r → (form && is_some o) ≡ true → (default_of r ≢ None) × ((if form then o else None) ≡ default_of r)
 meets_from r d true None same e = absurd (false≢true e)

@@ -112,9 +112,7 @@ pub(crate) static BACKGROUND: [Entry; 4] = rows! {
     Paint "background-opacity": NUMBER, Given::Amount(1_000_000), FROM_0_TO_1, Z_I;
 };
 
-pub(crate) static BACKGROUND_BY_NAME: [u8; 4] = [
-    1, 3, 2, 0,
-];
+pub(crate) static BACKGROUND_BY_NAME: [u8; 4] = [1, 3, 2, 0];
 
 pub(crate) static FILL: [Entry; 9] = rows! {
     Layout "visibility": Want::Enum(Choice::Visibility), Given::Word("visible"), FREE, FIXED;
@@ -128,9 +126,7 @@ pub(crate) static FILL: [Entry; 9] = rows! {
     Paint "fill-pattern": IMAGE, ABSENT, FREE, ZF;
 };
 
-pub(crate) static FILL_BY_NAME: [u8; 9] = [
-    2, 4, 3, 5, 8, 1, 6, 7, 0,
-];
+pub(crate) static FILL_BY_NAME: [u8; 9] = [2, 4, 3, 5, 8, 1, 6, 7, 0];
 
 pub(crate) static LINE: [Entry; 16] = rows! {
     Layout "visibility": Want::Enum(Choice::Visibility), Given::Word("visible"), FREE, FIXED;
@@ -151,9 +147,7 @@ pub(crate) static LINE: [Entry; 16] = rows! {
     Paint "line-pattern": IMAGE, ABSENT, FREE, ZF;
 };
 
-pub(crate) static LINE_BY_NAME: [u8; 16] = [
-    13, 1, 7, 14, 11, 2, 3, 12, 6, 15, 4, 5, 8, 9, 10, 0,
-];
+pub(crate) static LINE_BY_NAME: [u8; 16] = [13, 1, 7, 14, 11, 2, 3, 12, 6, 15, 4, 5, 8, 9, 10, 0];
 
 pub(crate) static SYMBOL: [Entry; 57] = rows! {
     Layout "visibility": Want::Enum(Choice::Visibility), Given::Word("visible"), FREE, FIXED;
@@ -216,9 +210,9 @@ pub(crate) static SYMBOL: [Entry; 57] = rows! {
 };
 
 pub(crate) static SYMBOL_BY_NAME: [u8; 57] = [
-    6, 18, 44, 47, 45, 46, 8, 14, 16, 17, 43, 9, 7, 19, 15, 10, 11, 12, 13, 48,
-    49, 3, 1, 4, 2, 5, 39, 31, 51, 22, 23, 54, 52, 53, 41, 28, 36, 27, 26, 32,
-    25, 38, 50, 42, 40, 35, 20, 29, 34, 21, 24, 37, 55, 56, 30, 33, 0,
+    6, 18, 44, 47, 45, 46, 8, 14, 16, 17, 43, 9, 7, 19, 15, 10, 11, 12, 13, 48, 49, 3, 1, 4, 2, 5,
+    39, 31, 51, 22, 23, 54, 52, 53, 41, 28, 36, 27, 26, 32, 25, 38, 50, 42, 40, 35, 20, 29, 34, 21,
+    24, 37, 55, 56, 30, 33, 0,
 ];
 
 pub(crate) static CIRCLE: [Entry; 13] = rows! {
@@ -237,9 +231,7 @@ pub(crate) static CIRCLE: [Entry; 13] = rows! {
     Paint "circle-stroke-opacity": NUMBER, Given::Amount(1_000_000), FROM_0_TO_1, ZFS_I;
 };
 
-pub(crate) static CIRCLE_BY_NAME: [u8; 13] = [
-    4, 3, 5, 9, 8, 2, 1, 11, 12, 10, 6, 7, 0,
-];
+pub(crate) static CIRCLE_BY_NAME: [u8; 13] = [4, 3, 5, 9, 8, 2, 1, 11, 12, 10, 6, 7, 0];
 
 pub(crate) static HEATMAP: [Entry; 5] = rows! {
     Layout "visibility": Want::Enum(Choice::Visibility), Given::Word("visible"), FREE, FIXED;
@@ -249,9 +241,7 @@ pub(crate) static HEATMAP: [Entry; 5] = rows! {
     Paint "heatmap-opacity": NUMBER, Given::Amount(1_000_000), FROM_0_TO_1, Z_I;
 };
 
-pub(crate) static HEATMAP_BY_NAME: [u8; 5] = [
-    3, 4, 1, 2, 0,
-];
+pub(crate) static HEATMAP_BY_NAME: [u8; 5] = [3, 4, 1, 2, 0];
 
 pub(crate) static FILL_EXTRUSION: [Entry; 9] = rows! {
     Layout "visibility": Want::Enum(Choice::Visibility), Given::Word("visible"), FREE, FIXED;
@@ -265,9 +255,7 @@ pub(crate) static FILL_EXTRUSION: [Entry; 9] = rows! {
     Paint "fill-extrusion-vertical-gradient": BOOLEAN, Given::Flag(true), FREE, Z;
 };
 
-pub(crate) static FILL_EXTRUSION_BY_NAME: [u8; 9] = [
-    7, 2, 6, 1, 5, 3, 4, 8, 0,
-];
+pub(crate) static FILL_EXTRUSION_BY_NAME: [u8; 9] = [7, 2, 6, 1, 5, 3, 4, 8, 0];
 
 pub(crate) static RASTER: [Entry; 9] = rows! {
     Layout "visibility": Want::Enum(Choice::Visibility), Given::Word("visible"), FREE, FIXED;
@@ -281,22 +269,16 @@ pub(crate) static RASTER: [Entry; 9] = rows! {
     Paint "raster-fade-duration": NUMBER, Given::Amount(300_000_000), FROM_0, Z_I;
 };
 
-pub(crate) static RASTER_BY_NAME: [u8; 9] = [
-    4, 3, 6, 8, 2, 1, 7, 5, 0,
-];
+pub(crate) static RASTER_BY_NAME: [u8; 9] = [4, 3, 6, 8, 2, 1, 7, 5, 0];
 
 pub(crate) static HILLSHADE: [Entry; 1] = rows! {
     Layout "visibility": Want::Enum(Choice::Visibility), Given::Word("visible"), FREE, FIXED;
 };
 
-pub(crate) static HILLSHADE_BY_NAME: [u8; 1] = [
-    0,
-];
+pub(crate) static HILLSHADE_BY_NAME: [u8; 1] = [0];
 
 pub(crate) static COLOR_RELIEF: [Entry; 1] = rows! {
     Layout "visibility": Want::Enum(Choice::Visibility), Given::Word("visible"), FREE, FIXED;
 };
 
-pub(crate) static COLOR_RELIEF_BY_NAME: [u8; 1] = [
-    0,
-];
+pub(crate) static COLOR_RELIEF_BY_NAME: [u8; 1] = [0];

@@ -1,7 +1,8 @@
 //! Calls of `json_tokens`, `json_numbers`, `json_texts` and `decimal_json`.
 
 use decimal_json::{
-    Bytes, Here, Items, Json, JsonFault, Member, Members, NumText, Path, PathPart, Text, copy, parse, path_to, write, write_path, write_text,
+    Bytes, Here, Items, Json, JsonFault, Member, Members, NumText, Path, PathPart, Text, copy,
+    parse, path_to, write, write_path, write_text,
 };
 use json_tokens::{Cursor, JsonKind};
 use shared_text::Document;
@@ -21,7 +22,10 @@ fn trees_are_read_and_written(rt: HostRuntime) -> Result<(), Fail> {
             b"{\"z\":{\"a\":0},\"a\":[{\"a\":true}]}",
             "{\"z\":{\"a\":0},\"a\":[{\"a\":true}]}",
         ),
-        (b"{\"\":false,\"\\u0000\":null}", "{\"\":false,\"\\u0000\":null}"),
+        (
+            b"{\"\":false,\"\\u0000\":null}",
+            "{\"\":false,\"\\u0000\":null}",
+        ),
     ];
     for (bytes, text) in rows {
         let Ok(json) = parse(rt.alloc(), bytes)? else {

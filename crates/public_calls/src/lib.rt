@@ -5,14 +5,40 @@
 #![tactic(auto)]
 
 #[cfg(test)]
+mod color_calls;
+#[cfg(test)]
 mod io_calls;
+#[cfg(test)]
+mod json_calls;
 #[cfg(test)]
 mod legacy_calls;
 #[cfg(test)]
+mod limb_calls;
+#[cfg(test)]
+mod line_calls;
+#[cfg(test)]
+mod list_calls;
+#[cfg(test)]
 mod listing_calls;
+#[cfg(test)]
+mod number_calls;
 #[cfg(test)]
 mod plain_calls;
 #[cfg(test)]
+mod power_calls;
+#[cfg(test)]
 mod program_calls;
 #[cfg(test)]
+mod row_calls;
+#[cfg(test)]
+mod syntax_calls;
+#[cfg(test)]
 mod table_calls;
+#[cfg(test)]
+mod text_calls;
+#[cfg(test)]
+mod tile_calls;
+#[cfg(test)]
+mod unit_calls;
+#[cfg(test)]
+mod value_calls;

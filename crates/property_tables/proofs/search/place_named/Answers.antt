@@ -68,7 +68,7 @@ loop-low-preserved c =
 pub returns : goal.returns
 returns c =
     nowhere_from_order (names_of c.args.entries.now) c.args.order.now c.requires c.args.name.now
-      (λ k w. elim (cases_Bool (ltb k c.loop-low.low)) [
-        | inl below ↦ c.loop-low.invariant.before k (ltb-true k c.loop-low.low below)
-        | inr not ↦ c.loop-low.invariant.behind k w (omega (arith, ltb-false k c.loop-low.low not, c.loop-low-test.false))
-      ])
+    (λ k w. elim (cases_Bool (ltb k c.loop-low.low)) [
+      | inl below ↦ c.loop-low.invariant.before k (ltb-true k c.loop-low.low below)
+      | inr not ↦ c.loop-low.invariant.behind k w (omega (arith, ltb-false k c.loop-low.low not, c.loop-low-test.false))
+    ])

@@ -1,5 +1,7 @@
-use crate::{Expr, read_expr};
+//! `expr_syntax`: trees of operators that JSON texts are.
+
 use decimal_json::parse;
+use expr_syntax::{Expr, read_expr};
 use prop_values::write_listed;
 use std::alloc::{AllocError, Global};
 use std::process::Abort;
