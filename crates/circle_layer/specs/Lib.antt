@@ -1,3 +1,6 @@
+-- To be believed.
 pub mod CircleStyle
-pub mod StyleView
 pub mod CircleLayout
+
+-- What only contracts of private functions, models and proofs use.
+pub mod StyleView

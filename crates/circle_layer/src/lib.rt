@@ -14,10 +14,12 @@
 //! a paint with `circle-radius` alone, a number from 0 or an expression. It may not have `minzoom`, `maxzoom`, `layout` and `ref`;
 //! every other name of the root and of the layer passes unread.
 //!
-//! Promised: `read_style` gives exactly the style that a tree is by `circle_style` of `specs/CircleStyle.antt`, or `None` where it is
+//! What is promised: `read_style` gives exactly the style that a tree is by `circle_style` of `specs/CircleStyle.antt`, or `None` where it is
 //! none. `features_named`, `cell_count` and `layout` give exactly what the definitions of these names say in
 //! `specs/CircleLayout.antt` (that of `layout` is `circle_layout`). A layout evaluates the filter once for each feature, and the radius
 //! once for the layer or once for each feature that passes; a layer's members are looked up about ten times in all.
+//!
+//! The text to believe is in `specs/`: `CircleStyle`, `CircleLayout`.
 #![tactic(auto)]
 
 mod circle_layout;

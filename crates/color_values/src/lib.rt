@@ -7,7 +7,7 @@
 //! color_text(alloc, &color)?            // rgba(147.594,192.576,224.706,1)
 //! ```
 //!
-//! Promised, for all texts: `read_color` is the definition `color_of`, `Some` and `None` alike, and
+//! What is promised, for all texts: `read_color` is the definition `color_of`, `Some` and `None` alike, and
 //! its colors are in range. Each component is the exact value of its text, rounded once to the nearest
 //! millionth; numbers are read at any length, but of a hue and of a saturation the digits past the
 //! thousandth after the point are not counted. Reading takes no memory, and time linear in the text.
@@ -16,6 +16,9 @@
 //! Definitions, in reading order: `specs/Parts.antt` (spaces, commas, arguments), `specs/ColorNumber.antt`,
 //! `specs/ColorName.antt`, `specs/HexColor.antt`, `specs/RgbColor.antt`, `specs/HslColor.antt` and
 //! `specs/ColorOf.antt`, which has the whole. Only `color_text` takes memory.
+//!
+//! The text to believe is in `specs/`: `Parts`, `ColorNumber`, `ColorName`, `HexColor`, `RgbColor`,
+//! `HslColor`, `ColorOf`.
 #![tactic(auto)]
 
 mod amount;

@@ -17,6 +17,9 @@
 //! one; `specs/Parses.antt` says so. `write`, `write_text` and `write_path` append exactly the text that is
 //! defined in `specs/JsonText.antt` and `specs/Place.antt`; after want of memory a prefix of it may have
 //! been appended. The text of a tree that is sound, as `specs/Sound.antt` says it, spells that tree.
+//!
+//! The text to believe is in `specs/`: `Tree`, `View`, `Grammar`, `Parses`, `JsonText`, `Place`. Laws of
+//! it: `OneTree`, `OneFault`, `Sound`, `RoundTrip`.
 #![tactic(auto)]
 
 mod copying;

@@ -4,8 +4,10 @@
 //! mentions(&expression).feature    // true of ["<",["number",["get","r"]],10]
 //! ```
 //!
-//! Promised: `mentions` gives exactly what `specs/Mentioned.antt` defines: what one of the expression's nodes reads, whether it
+//! What is promised: `mentions` gives exactly what `specs/Mentioned.antt` defines: what one of the expression's nodes reads, whether it
 //! is ever evaluated or not. It takes no memory, and its recursion is as deep as the expression.
+//!
+//! The text to believe is in `specs/`: `Mentioned`.
 #![tactic(auto)]
 
 mod mentioned;

@@ -1,4 +1,7 @@
+-- To be believed.
 pub mod World
 pub mod Operators
 pub mod Meaning
+
+-- Laws of these.
 pub mod Fitted

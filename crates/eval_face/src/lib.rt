@@ -1,10 +1,12 @@
 //! What expressions mean, and where they are evaluated.
 //!
-//! The meaning is a definition: `mean` of `specs/Meaning.antt` gives the value or the fault of a term under a want, in the names
+//! What is promised: the meaning is a definition, `mean` of `specs/Meaning.antt` gives the value or the fault of a term under a want, in the names
 //! of the bindings around it and in a world. A world (`specs/World.antt`) is what expressions read: the zoom, a feature, its state, and
 //! the tests on images and scripts. A [`Context`] is the world of a program, without the two tests.
 //!
 //! Every value that an expression gives under a want is fitted to it (`values_are_fitted`).
+//!
+//! The text to believe is in `specs/`: `World`, `Operators`, `Meaning`. Laws of it: `Fitted`.
 #![tactic(auto)]
 
 mod context;

@@ -8,7 +8,7 @@
 //! resolved(evaluated, Some(default))       // Outcome::Given(..), and after a fault Outcome::Faulted(Some(..), fault)
 //! ```
 //!
-//! Promised, for all expressions, wants, contexts and tests: `eval_plain` gives exactly the value or the fault that is the
+//! What is promised, for all expressions, wants, contexts and tests: `eval_plain` gives exactly the value or the fault that is the
 //! expression's meaning, `mean` of `eval_face`, with no names bound around it, unless memory lacks. `resolved` and `passes`
 //! are the definitions of `specs/Resolved.antt`.
 //!
@@ -19,6 +19,8 @@
 //!
 //! A new operator stands in the tables of `operators.rt`, one line each, and has a function of its own there or in the module of
 //! its group. One that chooses among its arguments has a `Manner` of its own and a function in `evaluation.rt`.
+//!
+//! The text to believe is in `specs/`: `Resolved`.
 #![tactic(auto)]
 
 mod arithmetic;

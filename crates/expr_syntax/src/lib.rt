@@ -8,13 +8,15 @@
 //! }
 //! ```
 //!
-//! Promised: `read_expr` gives exactly the term that a tree is by `reading` of `specs/Reading.antt`, or its fault.
+//! What is promised: `read_expr` gives exactly the term that a tree is by `reading` of `specs/Reading.antt`, or its fault.
 //!
 //! So far a tree is an expression where it is null, a truth value, a number within the bound, a text, or an array of an
 //! operator's name and as many expressions as the operator may have: `get` and `number` one, `==` and `<` two, `case` an odd
 //! number from three, `-` one or two, `+` and `*` any number. Every other tree has the fault `Unbuilt`.
 //!
 //! Each text of the tree is shared and not copied. Time is linear in the tree, and the recursion is as deep as the tree.
+//!
+//! The text to believe is in `specs/`: `Term`, `Reading`, `TermView`, `ReadView`.
 #![tactic(auto)]
 
 mod expression;

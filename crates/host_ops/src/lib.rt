@@ -14,6 +14,8 @@
 //!   where the test cannot change, and no call changes whether it can.
 //! - [`ImageSet`] lets no name pass when it is made, and then those that it was told last that they are there.
 //! - [`ScriptTest`] answers false exactly where a text has a scalar value from U+0590 to U+08FF.
+//!
+//! The text to believe is in `specs/`: `Change`, `Script`, `Images`.
 #![tactic(auto)]
 
 mod host_op;

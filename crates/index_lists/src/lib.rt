@@ -17,6 +17,8 @@
 //! - The lists are disjoint: no slot stands twice in them (`are_disjoint`).
 //! - `first` and `next` answer `None` exactly where the list is empty, and where the slot is the last of its list or in none.
 //! - Only `new` and `grow` take memory. Each other call takes constant time: it reads and writes at most four links.
+//!
+//! The text to believe is in `specs/`: `SlotLists`.
 #![tactic(auto)]
 
 mod nodes;

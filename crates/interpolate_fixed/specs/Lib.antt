@@ -1,5 +1,8 @@
+-- To be believed.
 pub mod Places
 pub mod Linear
-pub mod Share
-pub mod Items
 pub mod Warp
+pub mod Items
+
+-- What only contracts of private functions, models and proofs use.
+pub mod Share

@@ -14,6 +14,8 @@
 //! What is promised: an index that stands for a list of keys (`IsIndexed`) finds each of them at its place, and no
 //! other key. `note_next` and `forget` give the index that stands for the changed list. When allocation fails, the
 //! index stands for what it stood for.
+//!
+//! The text to believe is in `specs/`: `Keys`, `Index`.
 #![tactic(auto)]
 
 mod hash;

@@ -1,4 +1,7 @@
+-- To be believed.
 pub mod Listed
-pub mod View
 pub mod Listing
+
+-- What only contracts of private functions, models and proofs use.
+pub mod View
 pub mod Parts

@@ -11,11 +11,13 @@
 //! // end
 //! ```
 //!
-//! Promised, for all layouts: what is appended is exactly the listing that `specs/Listing.antt` defines, line by line,
+//! What is promised, for all layouts: what is appended is exactly the listing that `specs/Listing.antt` defines, line by line,
 //! and after want of memory a prefix of it. A property has its value; where its evaluation faulted, its default or
 //! `null`, then `!` and the name of the fault; and `?` where it is outside of what is evaluated.
 //!
 //! Time is linear in the listing. No memory is taken except that of `out`, and for each list or map a copy of its text.
+//!
+//! The text to believe is in `specs/`: `Listed`, `Listing`.
 #![tactic(auto)]
 
 mod layout;

@@ -1,8 +1,11 @@
+-- To be believed.
 pub mod Counts
 pub mod Reading
 pub mod Writing
-pub mod WritingLaws
 pub mod Contents
 pub mod FilesState
 pub mod SinkState
 pub mod HostState
+
+-- What only contracts of private functions, models and proofs use.
+pub mod WritingLaws

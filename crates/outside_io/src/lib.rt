@@ -21,6 +21,9 @@
 //! - [`FilesInMemory`], [`SureFiles`] and [`SinkInMemory`] tell what they hold; what each call does to them is given exactly.
 //! - [`HostFiles`] and [`HostSink`] reach real files and streams. They tell no bytes: they are the edge that is trusted.
 //! - [`Steps`] counts in the contracts alone. It takes no bytes and no time.
+//!
+//! The text to believe is in `specs/`: `Counts`, `Reading`, `Writing`, `Contents`, `FilesState`,
+//! `SinkState`, `HostState`.
 #![tactic(auto)]
 
 mod counter;

@@ -1,17 +1,22 @@
+-- To be believed.
 pub mod Data
-pub mod DataCode
 pub mod View
-pub mod Falls
 pub mod Faults
 pub mod Equality
-pub mod EqualityLaws
-pub mod Keys
-pub mod Places
-pub mod Changes
-pub mod ChangeLaws
-pub mod MergeSteps
 pub mod Choices
 pub mod Forms
 pub mod ColorText
 pub mod ValueText
 pub mod JsonData
+pub mod Changes
+
+-- Laws of these.
+pub mod EqualityLaws
+pub mod ChangeLaws
+
+-- What only contracts of private functions, models and proofs use.
+pub mod DataCode
+pub mod Falls
+pub mod Keys
+pub mod Places
+pub mod MergeSteps

@@ -10,7 +10,7 @@
 //! to_text(alloc, &copy(alloc, &map)?)?.as_str();          // {"kind":true}
 //! ```
 //!
-//! Promised, for all values: equality (maps in any order), order, kind text, truth, text and listed text
+//! What is promised, for all values: equality (maps in any order), order, kind text, truth, text and listed text
 //! are those of the definitions in `specs/`; a JSON tree gives the value that it says, or the fault of its first
 //! number past the bound. A map's keys differ, and its `get` takes time by the logarithm of its entries, so
 //! `equals` takes n log n and no memory. Two maps are equal exactly where at each key both have nothing or equal
@@ -27,6 +27,9 @@
 //! Contracts see a value through `data_of`, a list as a list of data, and a map as a list of pairs of a key
 //! and data (`specs/Data.antt`, `specs/View.antt`). `specs/Falls.antt` has the lemmas by which a recursion
 //! over values ends, and `specs/Keys.antt` those on what stands at a key.
+//!
+//! The text to believe is in `specs/`: `Data`, `View`, `Faults`, `Equality`, `Choices`, `Forms`,
+//! `ColorText`, `ValueText`, `JsonData`, `Changes`. Laws of it: `EqualityLaws`, `ChangeLaws`.
 #![tactic(auto)]
 
 mod choice;

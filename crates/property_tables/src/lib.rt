@@ -7,12 +7,15 @@
 //! fit(alloc, Value::Num(one), &Want::Text)?               // Err(EvalFault::WrongType)
 //! ```
 //!
-//! Promised, for all values and wants: `fit` gives exactly the value or the fault of the definition `fit` of
+//! What is promised, for all values and wants: `fit` gives exactly the value or the fault of the definition `fit` of
 //! `specs/Fitting.antt`, and a fitted value is left as it is by the same want (`specs/Stays.antt`). The names of layer
 //! types are those of `specs/LayerTypes.antt`, in both directions.
 //!
 //! A value that passes is handed on and not copied. Only the text of a value that is no text takes memory, and
 //! time is linear in the items of a list and in a text.
+//!
+//! The text to believe is in `specs/`: `LayerTypes`, `Rows`, `RowView`, `Defaults`, `Literals`, `Fitting`.
+//! Laws of it: `TableLaws`, `Stays`.
 #![tactic(auto)]
 
 mod defaults;

@@ -1,5 +1,10 @@
+-- To be believed.
 pub mod Varint
 pub mod Message
 pub mod View
-pub mod Reading
+
+-- Laws of these.
 pub mod Laws
+
+-- What only contracts of private functions, models and proofs use.
+pub mod Reading

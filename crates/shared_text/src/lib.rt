@@ -10,6 +10,8 @@
 //! of. `of_range` and `of_rest` give exactly the bytes of that range, `share` and `copy_of` the same bytes; texts
 //! are ordered as std orders `str`, by their bytes. A document has at most `LONGEST` bytes, so that a text is of
 //! 16 bytes; a longer one is answered as want of memory. A text keeps its whole document: `copy_of` lets go of it.
+//!
+//! The text to believe is in `specs/`: `Ranges`.
 #![tactic(auto)]
 
 mod document;

@@ -5,10 +5,13 @@
 //! // words `value` and `["+",0.1,0.2]`: out holds `0.3` and an LF more, and the status is `Fine`
 //! ```
 //!
-//! What is promised stands on `run_style`, over one relation: `IsOutcome` of `specs/Replies.antt` relates words, by what is told of
+//! What is promised: `run_style` is proved over one relation: `IsOutcome` of `specs/Replies.antt` relates words, by what is told of
 //! files, to an out text, an err text and an ending, and no words have two (`words_have_one_outcome`). Where nothing outside fails and
 //! memory suffices, the run is its outcome; in every run what is written is a prefix of it, or of the line that tells which file could
 //! not be read; and each status has its cause.
+//!
+//! The text to believe is in `specs/`: `Words`, `Outcome`, `Ending`, `Refusals`, `Parsed`, `ValueOutcome`,
+//! `EvalOutcome`, `Replies`, `Run`. Laws of it: `OneOutcome`.
 #![tactic(auto)]
 
 mod answer;

@@ -16,6 +16,8 @@
 //! layer, feature or value is read where its field stands. At a field come its wire type, a float, a second field of a
 //! value, UTF-8, and the feature type, also where a later field replaces it. At the end of a layer come its name, its
 //! version and a repeated name, and then for each feature an odd number of tags and a tag without a key or value.
+//!
+//! The text to believe is in `specs/`: `Format`, `FirstFault`; `Laws` joins it to what is read.
 #![tactic(auto)]
 
 mod fault;
