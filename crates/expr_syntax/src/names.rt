@@ -1,0 +1,447 @@
+//! The names of operators, and the table of what each is.
+
+ghost use Rattle.std.specs.Prelude.{◌≡◌, ◌<◌};
+ghost use Rattle.expr_syntax.specs.Names.{row, name_of};
+ghost use Rattle.expr_syntax.specs.Rows.{row_view, plain, outside};
+ghost use Rattle.expr_syntax.specs.Slots.{slot_of, name_in};
+
+use crate::rows::Arity::{AtLeast, Between, EvenFrom, Exactly, OddFrom};
+use crate::rows::Wants::{Bindings, Conditions, Each, Input, Then, Third};
+use crate::rows::{Arity, Layout, Manner, Reads, Row, Wants};
+use prop_values::{Item, Want};
+
+/// The name of an operator (MapLibre style specification, version 8, expressions), in the order of the table. Those behind
+/// `format` are outside of what is evaluated.
+#[derive(Clone, Copy, Debug, PartialEq, Eq)]
+pub enum Name {
+    /// `literal`.
+    Literal,
+    /// `array`.
+    Array,
+    /// `boolean`.
+    Boolean,
+    /// `number`.
+    Number,
+    /// `string`.
+    String,
+    /// `object`.
+    Object,
+    /// `to-boolean`.
+    ToBoolean,
+    /// `to-color`.
+    ToColor,
+    /// `to-number`.
+    ToNumber,
+    /// `to-string`.
+    ToString,
+    /// `typeof`.
+    TypeOf,
+    /// `get`.
+    Get,
+    /// `has`.
+    Has,
+    /// `properties`.
+    Properties,
+    /// `id`.
+    Id,
+    /// `geometry-type`.
+    GeometryType,
+    /// `feature-state`.
+    FeatureState,
+    /// `at`.
+    At,
+    /// `in`.
+    In,
+    /// `index-of`.
+    IndexOf,
+    /// `length`.
+    Length,
+    /// `slice`.
+    Slice,
+    /// `!`.
+    Not,
+    /// `==`.
+    Equal,
+    /// `!=`.
+    NotEqual,
+    /// `<`.
+    Less,
+    /// `<=`.
+    LessOrEqual,
+    /// `>`.
+    Greater,
+    /// `>=`.
+    GreaterOrEqual,
+    /// `all`.
+    All,
+    /// `any`.
+    Any,
+    /// `case`.
+    Case,
+    /// `match`.
+    Match,
+    /// `coalesce`.
+    Coalesce,
+    /// `step`.
+    Step,
+    /// `interpolate`.
+    Interpolate,
+    /// `let`.
+    Let,
+    /// `var`.
+    Var,
+    /// `zoom`.
+    Zoom,
+    /// `concat`.
+    Concat,
+    /// `rgb`.
+    Rgb,
+    /// `rgba`.
+    Rgba,
+    /// `to-rgba`.
+    ToRgba,
+    /// `+`.
+    Add,
+    /// `*`.
+    Multiply,
+    /// `-`.
+    Subtract,
+    /// `/`.
+    Divide,
+    /// `%`.
+    Remainder,
+    /// `abs`.
+    Abs,
+    /// `ceil`.
+    Ceil,
+    /// `floor`.
+    Floor,
+    /// `round`.
+    Round,
+    /// `min`.
+    Min,
+    /// `max`.
+    Max,
+    /// `image`.
+    Image,
+    /// `is-supported-script`.
+    IsSupportedScript,
+    /// `global-state`.
+    GlobalState,
+    /// `format`.
+    Format,
+    /// `upcase`.
+    Upcase,
+    /// `downcase`.
+    Downcase,
+    /// `collator`.
+    Collator,
+    /// `resolved-locale`.
+    ResolvedLocale,
+    /// `number-format`.
+    NumberFormat,
+    /// `within`.
+    Within,
+    /// `distance`.
+    Distance,
+    /// `interpolate-hcl`.
+    InterpolateHcl,
+    /// `interpolate-lab`.
+    InterpolateLab,
+    /// `^`.
+    Power,
+    /// `sqrt`.
+    Sqrt,
+    /// `ln`.
+    Ln,
+    /// `log10`.
+    Log10,
+    /// `log2`.
+    Log2,
+    /// `sin`.
+    Sin,
+    /// `cos`.
+    Cos,
+    /// `tan`.
+    Tan,
+    /// `asin`.
+    Asin,
+    /// `acos`.
+    Acos,
+    /// `atan`.
+    Atan,
+    /// `e`.
+    E,
+    /// `pi`.
+    Pi,
+    /// `ln2`.
+    Ln2,
+    /// `heatmap-density`.
+    HeatmapDensity,
+    /// `line-progress`.
+    LineProgress,
+    /// `accumulated`.
+    Accumulated,
+}
+
+impl Name {
+    /// What the table says of the operator.
+    pub fn row(self) -> Row
+        ensures { row_view result ≡ row self }
+    {
+        match self {
+            Name::Literal => Row { layout: Layout::Value, ..plain("literal", Exactly(1), Each(Want::Any)) },
+            Name::Array => Row { layout: Layout::Items, ..plain("array", Between(1, 3), Each(Want::Any)) },
+            Name::Boolean => Row { manner: Manner::Deciding, ..plain("boolean", AtLeast(1), Each(Want::Any)) },
+            Name::Number => Row { manner: Manner::Deciding, ..plain("number", AtLeast(1), Each(Want::Any)) },
+            Name::String => Row { manner: Manner::Deciding, ..plain("string", AtLeast(1), Each(Want::Any)) },
+            Name::Object => Row { manner: Manner::Deciding, ..plain("object", AtLeast(1), Each(Want::Any)) },
+            Name::ToBoolean => plain("to-boolean", Exactly(1), Each(Want::Any)),
+            Name::ToColor => Row { manner: Manner::Deciding, ..plain("to-color", AtLeast(1), Each(Want::Any)) },
+            Name::ToNumber => Row { manner: Manner::Deciding, ..plain("to-number", AtLeast(1), Each(Want::Any)) },
+            Name::ToString => plain("to-string", Exactly(1), Each(Want::Any)),
+            Name::TypeOf => plain("typeof", Exactly(1), Each(Want::Any)),
+            Name::Get => Row { reads: Reads::FeatureAlone, ..plain("get", Between(1, 2), Then(Want::Text, Want::Object)) },
+            Name::Has => Row { reads: Reads::FeatureAlone, ..plain("has", Between(1, 2), Then(Want::Text, Want::Object)) },
+            Name::Properties => Row { reads: Reads::Feature, ..plain("properties", Exactly(0), Each(Want::Any)) },
+            Name::Id => Row { reads: Reads::Feature, ..plain("id", Exactly(0), Each(Want::Any)) },
+            Name::GeometryType => Row { reads: Reads::Feature, ..plain("geometry-type", Exactly(0), Each(Want::Any)) },
+            Name::FeatureState => Row { reads: Reads::State, ..plain("feature-state", Exactly(1), Each(Want::Text)) },
+            Name::At => plain("at", Exactly(2), Then(Want::Number, Want::List(Item::Any, None))),
+            Name::In => Row { sequence: Some(1), ..plain("in", Exactly(2), Each(Want::Any)) },
+            Name::IndexOf => Row { sequence: Some(1), ..plain("index-of", Between(2, 3), Third(Want::Any, Want::Any, Want::Number)) },
+            Name::Length => Row { sequence: Some(0), ..plain("length", Exactly(1), Each(Want::Any)) },
+            Name::Slice => Row { sequence: Some(0), ..plain("slice", Between(2, 3), Then(Want::Any, Want::Number)) },
+            Name::Not => plain("!", Exactly(1), Each(Want::Boolean)),
+            Name::Equal => plain("==", Exactly(2), Each(Want::Any)),
+            Name::NotEqual => plain("!=", Exactly(2), Each(Want::Any)),
+            Name::Less => plain("<", Exactly(2), Each(Want::Any)),
+            Name::LessOrEqual => plain("<=", Exactly(2), Each(Want::Any)),
+            Name::Greater => plain(">", Exactly(2), Each(Want::Any)),
+            Name::GreaterOrEqual => plain(">=", Exactly(2), Each(Want::Any)),
+            Name::All => Row { manner: Manner::Deciding, ..plain("all", AtLeast(0), Each(Want::Boolean)) },
+            Name::Any => Row { manner: Manner::Deciding, ..plain("any", AtLeast(0), Each(Want::Boolean)) },
+            Name::Case => Row { layout: Layout::Cases, manner: Manner::Branches, ..plain("case", OddFrom(3), Conditions) },
+            Name::Match => Row { layout: Layout::Labels, manner: Manner::Branches, ..plain("match", EvenFrom(4), Input(Want::Any)) },
+            Name::Coalesce => Row { layout: Layout::Choices, manner: Manner::Deciding, ..plain("coalesce", AtLeast(1), Each(Want::Any)) },
+            Name::Step => Row { layout: Layout::Stops, manner: Manner::Branches, ..plain("step", EvenFrom(4), Input(Want::Number)) },
+            Name::Interpolate => Row { layout: Layout::Ramp, manner: Manner::Branches, ..plain("interpolate", EvenFrom(4), Input(Want::Number)) },
+            Name::Let => Row { layout: Layout::Bindings, manner: Manner::Names, ..plain("let", OddFrom(3), Bindings) },
+            Name::Var => Row { layout: Layout::Variable, manner: Manner::Names, ..plain("var", Exactly(1), Each(Want::Any)) },
+            Name::Zoom => Row { reads: Reads::Zoom, ..plain("zoom", Exactly(0), Each(Want::Any)) },
+            Name::Concat => plain("concat", AtLeast(0), Each(Want::Text)),
+            Name::Rgb => plain("rgb", Between(3, 4), Each(Want::Number)),
+            Name::Rgba => plain("rgba", Between(3, 4), Each(Want::Number)),
+            Name::ToRgba => plain("to-rgba", Exactly(1), Each(Want::Color)),
+            Name::Add => plain("+", AtLeast(0), Each(Want::Number)),
+            Name::Multiply => plain("*", AtLeast(0), Each(Want::Number)),
+            Name::Subtract => plain("-", Between(1, 2), Each(Want::Number)),
+            Name::Divide => plain("/", Exactly(2), Each(Want::Number)),
+            Name::Remainder => plain("%", Exactly(2), Each(Want::Number)),
+            Name::Abs => plain("abs", Exactly(1), Each(Want::Number)),
+            Name::Ceil => plain("ceil", Exactly(1), Each(Want::Number)),
+            Name::Floor => plain("floor", Exactly(1), Each(Want::Number)),
+            Name::Round => plain("round", Exactly(1), Each(Want::Number)),
+            Name::Min => plain("min", AtLeast(1), Each(Want::Number)),
+            Name::Max => plain("max", AtLeast(1), Each(Want::Number)),
+            Name::Image => Row { reads: Reads::Images, ..plain("image", Exactly(1), Each(Want::Text)) },
+            Name::IsSupportedScript => plain("is-supported-script", Exactly(1), Each(Want::Text)),
+            Name::GlobalState => Row { layout: Layout::Global, ..plain("global-state", Exactly(1), Each(Want::Any)) },
+            Name::Format => Row { layout: Layout::Sections, ..plain("format", AtLeast(1), Each(Want::Shown)) },
+            Name::Upcase => outside("upcase"),
+            Name::Downcase => outside("downcase"),
+            Name::Collator => outside("collator"),
+            Name::ResolvedLocale => outside("resolved-locale"),
+            Name::NumberFormat => outside("number-format"),
+            Name::Within => outside("within"),
+            Name::Distance => outside("distance"),
+            Name::InterpolateHcl => outside("interpolate-hcl"),
+            Name::InterpolateLab => outside("interpolate-lab"),
+            Name::Power => outside("^"),
+            Name::Sqrt => outside("sqrt"),
+            Name::Ln => outside("ln"),
+            Name::Log10 => outside("log10"),
+            Name::Log2 => outside("log2"),
+            Name::Sin => outside("sin"),
+            Name::Cos => outside("cos"),
+            Name::Tan => outside("tan"),
+            Name::Asin => outside("asin"),
+            Name::Acos => outside("acos"),
+            Name::Atan => outside("atan"),
+            Name::E => outside("e"),
+            Name::Pi => outside("pi"),
+            Name::Ln2 => outside("ln2"),
+            Name::HeatmapDensity => outside("heatmap-density"),
+            Name::LineProgress => outside("line-progress"),
+            Name::Accumulated => outside("accumulated"),
+        }
+    }
+}
+
+fn plain(text: &'static str, arity: Arity, wants: Wants) -> Row
+    ensures { row_view result ≡ plain text.now arity wants }
+{
+    Row {
+        text,
+        is_outside: false,
+        arity,
+        layout: Layout::Arguments,
+        wants,
+        sequence: None,
+        manner: Manner::Each,
+        reads: Reads::Nothing,
+    }
+}
+
+fn outside(text: &'static str) -> Row
+    ensures { row_view result ≡ outside text.now }
+{
+    Row {
+        is_outside: true,
+        ..plain(text, AtLeast(0), Each(Want::Any))
+    }
+}
+
+/// The name that a text is, or `None` exactly where it is the name of no operator. Compares the text with one name alone.
+#[tactic(auto, using(crate::proofs::NameLaws::name_found, crate::proofs::NameLaws::name_lost))]
+pub fn operator_named(text: &str) -> Option<Name>
+    ensures { result ≡ name_of text.now }
+{
+    let name = name_in(slot(text.as_bytes()));
+    if name.row().text == text {
+        Some(name)
+    } else {
+        None
+    }
+}
+
+// The name of a slot.
+#[tactic(auto, using(crate::proofs::NameLaws::slot_place), unfolding(crate::specs::Slots::slots))]
+fn name_in(slot: usize) -> Name
+    requires { slot < 256 }
+    ensures { result ≡ name_in slot }
+{
+    NAMES[usize::from(SLOTS[slot])]
+}
+
+// Where in `SLOTS` a text is looked for. The numbers are such that no two names have one slot.
+fn slot(text: &[u8]) -> usize
+    ensures slot { result ≡ slot_of text.now }
+    ensures within { result < 256 }
+{
+    let [first, ..] = text else {
+        return 0;
+    };
+    let last = text[text.len() - 1];
+    let middle = text[text.len() / 2];
+    let length = text.len() % 256;
+    (3 * usize::from(*first) + 82 * usize::from(last) + 48 * usize::from(middle) + 38 * length) % 256
+}
+
+// The names in the order of the table.
+static NAMES: [Name; 84] = [
+    Name::Literal,
+    Name::Array,
+    Name::Boolean,
+    Name::Number,
+    Name::String,
+    Name::Object,
+    Name::ToBoolean,
+    Name::ToColor,
+    Name::ToNumber,
+    Name::ToString,
+    Name::TypeOf,
+    Name::Get,
+    Name::Has,
+    Name::Properties,
+    Name::Id,
+    Name::GeometryType,
+    Name::FeatureState,
+    Name::At,
+    Name::In,
+    Name::IndexOf,
+    Name::Length,
+    Name::Slice,
+    Name::Not,
+    Name::Equal,
+    Name::NotEqual,
+    Name::Less,
+    Name::LessOrEqual,
+    Name::Greater,
+    Name::GreaterOrEqual,
+    Name::All,
+    Name::Any,
+    Name::Case,
+    Name::Match,
+    Name::Coalesce,
+    Name::Step,
+    Name::Interpolate,
+    Name::Let,
+    Name::Var,
+    Name::Zoom,
+    Name::Concat,
+    Name::Rgb,
+    Name::Rgba,
+    Name::ToRgba,
+    Name::Add,
+    Name::Multiply,
+    Name::Subtract,
+    Name::Divide,
+    Name::Remainder,
+    Name::Abs,
+    Name::Ceil,
+    Name::Floor,
+    Name::Round,
+    Name::Min,
+    Name::Max,
+    Name::Image,
+    Name::IsSupportedScript,
+    Name::GlobalState,
+    Name::Format,
+    Name::Upcase,
+    Name::Downcase,
+    Name::Collator,
+    Name::ResolvedLocale,
+    Name::NumberFormat,
+    Name::Within,
+    Name::Distance,
+    Name::InterpolateHcl,
+    Name::InterpolateLab,
+    Name::Power,
+    Name::Sqrt,
+    Name::Ln,
+    Name::Log10,
+    Name::Log2,
+    Name::Sin,
+    Name::Cos,
+    Name::Tan,
+    Name::Asin,
+    Name::Acos,
+    Name::Atan,
+    Name::E,
+    Name::Pi,
+    Name::Ln2,
+    Name::HeatmapDensity,
+    Name::LineProgress,
+    Name::Accumulated,
+];
+
+// The place in `NAMES` of the name that has a slot; where none has it, any place.
+static SLOTS: [u8; 256] = [
+    28, 0, 13, 1, 0, 63, 0, 0, 0, 49, 0, 0, 51, 60, 0, 0,
+    0, 0, 3, 0, 0, 32, 0, 0, 0, 66, 0, 0, 0, 0, 0, 0,
+    0, 21, 0, 0, 0, 0, 8, 77, 0, 0, 0, 0, 0, 0, 0, 0,
+    71, 0, 0, 0, 0, 0, 0, 35, 0, 0, 74, 0, 0, 0, 0, 0,
+    0, 73, 0, 0, 50, 0, 59, 0, 0, 5, 0, 22, 0, 65, 0, 14,
+    0, 0, 25, 0, 0, 0, 0, 17, 0, 53, 80, 0, 27, 0, 0, 47,
+    41, 76, 0, 18, 0, 0, 0, 0, 82, 0, 16, 0, 69, 29, 0, 0,
+    9, 0, 0, 0, 0, 0, 0, 0, 0, 68, 0, 0, 40, 43, 0, 0,
+    0, 0, 0, 54, 0, 0, 0, 45, 37, 0, 0, 0, 0, 0, 0, 0,
+    0, 46, 0, 0, 0, 0, 0, 19, 0, 0, 0, 0, 0, 0, 0, 78,
+    0, 0, 0, 33, 81, 52, 0, 75, 0, 24, 61, 31, 2, 0, 57, 0,
+    12, 0, 70, 0, 0, 0, 0, 72, 0, 0, 0, 0, 0, 83, 0, 11,
+    38, 34, 0, 0, 0, 39, 0, 56, 20, 0, 0, 48, 0, 58, 36, 0,
+    62, 0, 0, 0, 0, 0, 0, 0, 42, 0, 0, 0, 10, 15, 0, 0,
+    7, 0, 0, 0, 6, 0, 64, 0, 0, 0, 0, 4, 0, 0, 79, 0,
+    0, 0, 0, 0, 0, 55, 0, 30, 44, 0, 26, 0, 67, 23, 0, 0,
+];

@@ -1,0 +1,219 @@
+//! What a row of the table of operators says.
+
+ghost use Rattle.std.specs.Prelude.{◌≡◌, ◌<◌, ◌^◌};
+ghost use Rattle.expr_syntax.specs.Rows.{allows, element_place, wanted, is_input, is_label, is_binder};
+
+use prop_values::Want;
+
+/// A row of the table of operators (MapLibre style specification, version 8, expressions).
+#[derive(Clone, Copy, Debug, PartialEq, Eq)]
+pub struct Row {
+    /// The name as it is written.
+    pub text: &'static str,
+    /// Whether the operator is outside of what is evaluated. Then nothing but its text counts.
+    pub is_outside: bool,
+    /// How many elements may follow the name.
+    pub arity: Arity,
+    /// Which elements are arguments.
+    pub layout: Layout,
+    /// What each argument is wanted as.
+    pub wants: Wants,
+    /// The argument, counted from 0, that has to be a text or a list.
+    pub sequence: Option<usize>,
+    /// How the arguments are evaluated.
+    pub manner: Manner,
+    /// What the operator itself reads of the world.
+    pub reads: Reads,
+}
+
+/// Numbers of elements behind a name.
+#[derive(Clone, Copy, Debug, PartialEq, Eq)]
+pub enum Arity {
+    Exactly(usize),
+    Between(usize, usize),
+    AtLeast(usize),
+    /// An odd number, at least this one.
+    OddFrom(usize),
+    /// An even number, at least this one.
+    EvenFrom(usize),
+}
+
+/// What the elements behind a name are.
+#[derive(Clone, Copy, Debug, PartialEq, Eq)]
+pub enum Layout {
+    /// Arguments.
+    Arguments,
+    /// Arguments, one of which is the value of the node.
+    Choices,
+    /// A JSON value.
+    Value,
+    /// The name of the items and the length, as far as they are there, and an argument.
+    Items,
+    /// Pairs of a condition and an output, and an output.
+    Cases,
+    /// An argument, pairs of labels and an output, and an output.
+    Labels,
+    /// An argument, an output, and pairs of an input and an output.
+    Stops,
+    /// An interpolation, an argument, and pairs of an input and an argument.
+    Ramp,
+    /// Pairs of a name and an argument, and an output, the body.
+    Bindings,
+    /// A name that a `let` binds.
+    Variable,
+    /// A name of the global state.
+    Global,
+    /// Contents, each with an object of options or without.
+    Sections,
+}
+
+/// What an element of a node is: a part of the operator, an argument, or an argument whose value may be that of the node.
+#[derive(Clone, Copy, Debug, PartialEq, Eq)]
+pub enum Place {
+    Part,
+    Argument,
+    Output,
+}
+
+/// What the arguments of an operator are wanted as, counted from 0.
+#[derive(Clone, Copy, Debug, PartialEq, Eq)]
+pub enum Wants {
+    Each(Want),
+    /// The first, and each later one.
+    Then(Want, Want),
+    /// The first, the second, and each later one.
+    Third(Want, Want, Want),
+    /// Conditions and outputs in turn; the last is an output.
+    Conditions,
+    /// The first; each later one is an output.
+    Input(Want),
+    /// Bindings; the last is the body.
+    Bindings,
+}
+
+/// What one argument is wanted as: a want of its own, or the want of the node.
+#[derive(Clone, Copy, Debug, PartialEq, Eq)]
+pub enum Wanted {
+    Own(Want),
+    OfNode,
+}
+
+/// How an operator evaluates its arguments.
+#[derive(Clone, Copy, Debug, PartialEq, Eq)]
+pub enum Manner {
+    /// Each of them, from left to right.
+    Each,
+    /// One after the other, to the first that decides.
+    Deciding,
+    /// What decides, and the outputs that it chooses.
+    Branches,
+    /// A binding where its name is asked for.
+    Names,
+}
+
+/// What an operator itself reads of the world.
+#[derive(Clone, Copy, Debug, PartialEq, Eq)]
+pub enum Reads {
+    Nothing,
+    Zoom,
+    Feature,
+    /// The feature, where there is no second argument.
+    FeatureAlone,
+    State,
+    Images,
+}
+
+impl Arity {
+    /// Whether so many elements may follow the name.
+    pub fn allows(self, elements: usize) -> bool
+        ensures { result ≡ allows self elements }
+    {
+        match self {
+            Arity::Exactly(number) => elements == number,
+            Arity::Between(least, most) => least <= elements && elements <= most,
+            Arity::AtLeast(least) => least <= elements,
+            Arity::OddFrom(least) => least <= elements && elements % 2 == 1,
+            Arity::EvenFrom(least) => least <= elements && elements % 2 == 0,
+        }
+    }
+}
+
+impl Layout {
+    /// What the element at a place is. Places are counted from the name, which has place 0 and counts as one of the elements.
+    pub fn place(self, elements: usize, at: usize) -> Place
+        requires { at < 2 ^ 63 }
+        ensures { result ≡ element_place self elements at }
+    {
+        if at == 0 {
+            return Place::Part;
+        }
+        let is_last = at + 1 == elements;
+        let is_even = at % 2 == 0;
+        match self {
+            Layout::Arguments | Layout::Sections => Place::Argument,
+            Layout::Choices => Place::Output,
+            Layout::Value | Layout::Variable | Layout::Global => Place::Part,
+            Layout::Items if is_last => Place::Argument,
+            Layout::Items => Place::Part,
+            Layout::Cases if is_last || is_even => Place::Output,
+            Layout::Cases => Place::Argument,
+            Layout::Labels | Layout::Stops if at == 1 => Place::Argument,
+            Layout::Labels if is_label(elements, at) => Place::Part,
+            Layout::Labels => Place::Output,
+            Layout::Stops if is_input(at) => Place::Part,
+            Layout::Stops => Place::Output,
+            Layout::Ramp if is_even => Place::Argument,
+            Layout::Ramp => Place::Part,
+            Layout::Bindings if is_last => Place::Output,
+            Layout::Bindings if is_even => Place::Argument,
+            Layout::Bindings => Place::Part,
+        }
+    }
+}
+
+impl Wants {
+    /// What an argument is wanted as, counted from 0, of so many arguments.
+    pub fn wanted(self, arguments: usize, argument: usize) -> Wanted
+        requires { argument < 2 ^ 63 }
+        ensures { result ≡ wanted self arguments argument }
+    {
+        let is_last = argument + 1 == arguments;
+        match self {
+            Wants::Each(want) => Wanted::Own(want),
+            Wants::Then(first, _) if argument == 0 => Wanted::Own(first),
+            Wants::Then(_, later) => Wanted::Own(later),
+            Wants::Third(first, _, _) if argument == 0 => Wanted::Own(first),
+            Wants::Third(_, second, _) if argument == 1 => Wanted::Own(second),
+            Wants::Third(_, _, later) => Wanted::Own(later),
+            Wants::Conditions if is_last || argument % 2 == 1 => Wanted::OfNode,
+            Wants::Conditions => Wanted::Own(Want::Boolean),
+            Wants::Input(want) if argument == 0 => Wanted::Own(want),
+            Wants::Input(_) => Wanted::OfNode,
+            Wants::Bindings if is_last => Wanted::OfNode,
+            Wants::Bindings => Wanted::Own(Want::Any),
+        }
+    }
+}
+
+/// Whether an input of a stop has this place.
+pub(crate) fn is_input(at: usize) -> bool
+    ensures { result ≡ is_input at }
+{
+    at >= 3 && at % 2 != 0
+}
+
+/// Whether the labels of an output have this place.
+pub(crate) fn is_label(elements: usize, at: usize) -> bool
+    requires { at < 2 ^ 63 }
+    ensures { result ≡ is_label elements at }
+{
+    at >= 2 && at % 2 == 0 && at + 1 != elements
+}
+
+/// Whether the name of a binding has this place.
+pub(crate) fn is_binder(elements: usize, at: usize) -> bool
+    requires { at < 2 ^ 63 }
+    ensures { result ≡ is_binder elements at }
+{
+    at % 2 != 0 && at + 1 != elements
+}
