@@ -190,28 +190,90 @@ impl Name {
         ensures { row_view result ≡ row self }
     {
         match self {
-            Name::Literal => Row { layout: Layout::Value, ..plain("literal", Exactly(1), Each(Want::Any)) },
-            Name::Array => Row { layout: Layout::Items, ..plain("array", Between(1, 3), Each(Want::Any)) },
-            Name::Boolean => Row { manner: Manner::Deciding, ..plain("boolean", AtLeast(1), Each(Want::Any)) },
-            Name::Number => Row { manner: Manner::Deciding, ..plain("number", AtLeast(1), Each(Want::Any)) },
-            Name::String => Row { manner: Manner::Deciding, ..plain("string", AtLeast(1), Each(Want::Any)) },
-            Name::Object => Row { manner: Manner::Deciding, ..plain("object", AtLeast(1), Each(Want::Any)) },
+            Name::Literal => Row {
+                layout: Layout::Value,
+                ..plain("literal", Exactly(1), Each(Want::Any))
+            },
+            Name::Array => Row {
+                layout: Layout::Items,
+                ..plain("array", Between(1, 3), Each(Want::Any))
+            },
+            Name::Boolean => Row {
+                manner: Manner::Deciding,
+                ..plain("boolean", AtLeast(1), Each(Want::Any))
+            },
+            Name::Number => Row {
+                manner: Manner::Deciding,
+                ..plain("number", AtLeast(1), Each(Want::Any))
+            },
+            Name::String => Row {
+                manner: Manner::Deciding,
+                ..plain("string", AtLeast(1), Each(Want::Any))
+            },
+            Name::Object => Row {
+                manner: Manner::Deciding,
+                ..plain("object", AtLeast(1), Each(Want::Any))
+            },
             Name::ToBoolean => plain("to-boolean", Exactly(1), Each(Want::Any)),
-            Name::ToColor => Row { manner: Manner::Deciding, ..plain("to-color", AtLeast(1), Each(Want::Any)) },
-            Name::ToNumber => Row { manner: Manner::Deciding, ..plain("to-number", AtLeast(1), Each(Want::Any)) },
+            Name::ToColor => Row {
+                manner: Manner::Deciding,
+                ..plain("to-color", AtLeast(1), Each(Want::Any))
+            },
+            Name::ToNumber => Row {
+                manner: Manner::Deciding,
+                ..plain("to-number", AtLeast(1), Each(Want::Any))
+            },
             Name::ToString => plain("to-string", Exactly(1), Each(Want::Any)),
             Name::TypeOf => plain("typeof", Exactly(1), Each(Want::Any)),
-            Name::Get => Row { reads: Reads::FeatureAlone, ..plain("get", Between(1, 2), Then(Want::Text, Want::Object)) },
-            Name::Has => Row { reads: Reads::FeatureAlone, ..plain("has", Between(1, 2), Then(Want::Text, Want::Object)) },
-            Name::Properties => Row { reads: Reads::Feature, ..plain("properties", Exactly(0), Each(Want::Any)) },
-            Name::Id => Row { reads: Reads::Feature, ..plain("id", Exactly(0), Each(Want::Any)) },
-            Name::GeometryType => Row { reads: Reads::Feature, ..plain("geometry-type", Exactly(0), Each(Want::Any)) },
-            Name::FeatureState => Row { reads: Reads::State, ..plain("feature-state", Exactly(1), Each(Want::Text)) },
-            Name::At => plain("at", Exactly(2), Then(Want::Number, Want::List(Item::Any, None))),
-            Name::In => Row { sequence: Some(1), ..plain("in", Exactly(2), Each(Want::Any)) },
-            Name::IndexOf => Row { sequence: Some(1), ..plain("index-of", Between(2, 3), Third(Want::Any, Want::Any, Want::Number)) },
-            Name::Length => Row { sequence: Some(0), ..plain("length", Exactly(1), Each(Want::Any)) },
-            Name::Slice => Row { sequence: Some(0), ..plain("slice", Between(2, 3), Then(Want::Any, Want::Number)) },
+            Name::Get => Row {
+                reads: Reads::FeatureAlone,
+                ..plain("get", Between(1, 2), Then(Want::Text, Want::Object))
+            },
+            Name::Has => Row {
+                reads: Reads::FeatureAlone,
+                ..plain("has", Between(1, 2), Then(Want::Text, Want::Object))
+            },
+            Name::Properties => Row {
+                reads: Reads::Feature,
+                ..plain("properties", Exactly(0), Each(Want::Any))
+            },
+            Name::Id => Row {
+                reads: Reads::Feature,
+                ..plain("id", Exactly(0), Each(Want::Any))
+            },
+            Name::GeometryType => Row {
+                reads: Reads::Feature,
+                ..plain("geometry-type", Exactly(0), Each(Want::Any))
+            },
+            Name::FeatureState => Row {
+                reads: Reads::State,
+                ..plain("feature-state", Exactly(1), Each(Want::Text))
+            },
+            Name::At => plain(
+                "at",
+                Exactly(2),
+                Then(Want::Number, Want::List(Item::Any, None)),
+            ),
+            Name::In => Row {
+                sequence: Some(1),
+                ..plain("in", Exactly(2), Each(Want::Any))
+            },
+            Name::IndexOf => Row {
+                sequence: Some(1),
+                ..plain(
+                    "index-of",
+                    Between(2, 3),
+                    Third(Want::Any, Want::Any, Want::Number),
+                )
+            },
+            Name::Length => Row {
+                sequence: Some(0),
+                ..plain("length", Exactly(1), Each(Want::Any))
+            },
+            Name::Slice => Row {
+                sequence: Some(0),
+                ..plain("slice", Between(2, 3), Then(Want::Any, Want::Number))
+            },
             Name::Not => plain("!", Exactly(1), Each(Want::Boolean)),
             Name::Equal => plain("==", Exactly(2), Each(Want::Any)),
             Name::NotEqual => plain("!=", Exactly(2), Each(Want::Any)),
@@ -219,16 +281,53 @@ impl Name {
             Name::LessOrEqual => plain("<=", Exactly(2), Each(Want::Any)),
             Name::Greater => plain(">", Exactly(2), Each(Want::Any)),
             Name::GreaterOrEqual => plain(">=", Exactly(2), Each(Want::Any)),
-            Name::All => Row { manner: Manner::Deciding, ..plain("all", AtLeast(0), Each(Want::Boolean)) },
-            Name::Any => Row { manner: Manner::Deciding, ..plain("any", AtLeast(0), Each(Want::Boolean)) },
-            Name::Case => Row { layout: Layout::Cases, manner: Manner::Branches, ..plain("case", OddFrom(3), Conditions) },
-            Name::Match => Row { layout: Layout::Labels, manner: Manner::Branches, ..plain("match", EvenFrom(4), Input(Want::Any)) },
-            Name::Coalesce => Row { layout: Layout::Choices, manner: Manner::Deciding, ..plain("coalesce", AtLeast(1), Each(Want::Any)) },
-            Name::Step => Row { layout: Layout::Stops, manner: Manner::Branches, ..plain("step", EvenFrom(4), Input(Want::Number)) },
-            Name::Interpolate => Row { layout: Layout::Ramp, manner: Manner::Branches, ..plain("interpolate", EvenFrom(4), Input(Want::Number)) },
-            Name::Let => Row { layout: Layout::Bindings, manner: Manner::Names, ..plain("let", OddFrom(3), Bindings) },
-            Name::Var => Row { layout: Layout::Variable, manner: Manner::Names, ..plain("var", Exactly(1), Each(Want::Any)) },
-            Name::Zoom => Row { reads: Reads::Zoom, ..plain("zoom", Exactly(0), Each(Want::Any)) },
+            Name::All => Row {
+                manner: Manner::Deciding,
+                ..plain("all", AtLeast(0), Each(Want::Boolean))
+            },
+            Name::Any => Row {
+                manner: Manner::Deciding,
+                ..plain("any", AtLeast(0), Each(Want::Boolean))
+            },
+            Name::Case => Row {
+                layout: Layout::Cases,
+                manner: Manner::Branches,
+                ..plain("case", OddFrom(3), Conditions)
+            },
+            Name::Match => Row {
+                layout: Layout::Labels,
+                manner: Manner::Branches,
+                ..plain("match", EvenFrom(4), Input(Want::Any))
+            },
+            Name::Coalesce => Row {
+                layout: Layout::Choices,
+                manner: Manner::Deciding,
+                ..plain("coalesce", AtLeast(1), Each(Want::Any))
+            },
+            Name::Step => Row {
+                layout: Layout::Stops,
+                manner: Manner::Branches,
+                ..plain("step", EvenFrom(4), Input(Want::Number))
+            },
+            Name::Interpolate => Row {
+                layout: Layout::Ramp,
+                manner: Manner::Branches,
+                ..plain("interpolate", EvenFrom(4), Input(Want::Number))
+            },
+            Name::Let => Row {
+                layout: Layout::Bindings,
+                manner: Manner::Names,
+                ..plain("let", OddFrom(3), Bindings)
+            },
+            Name::Var => Row {
+                layout: Layout::Variable,
+                manner: Manner::Names,
+                ..plain("var", Exactly(1), Each(Want::Any))
+            },
+            Name::Zoom => Row {
+                reads: Reads::Zoom,
+                ..plain("zoom", Exactly(0), Each(Want::Any))
+            },
             Name::Concat => plain("concat", AtLeast(0), Each(Want::Text)),
             Name::Rgb => plain("rgb", Between(3, 4), Each(Want::Number)),
             Name::Rgba => plain("rgba", Between(3, 4), Each(Want::Number)),
@@ -244,10 +343,19 @@ impl Name {
             Name::Round => plain("round", Exactly(1), Each(Want::Number)),
             Name::Min => plain("min", AtLeast(1), Each(Want::Number)),
             Name::Max => plain("max", AtLeast(1), Each(Want::Number)),
-            Name::Image => Row { reads: Reads::Images, ..plain("image", Exactly(1), Each(Want::Text)) },
+            Name::Image => Row {
+                reads: Reads::Images,
+                ..plain("image", Exactly(1), Each(Want::Text))
+            },
             Name::IsSupportedScript => plain("is-supported-script", Exactly(1), Each(Want::Text)),
-            Name::GlobalState => Row { layout: Layout::Global, ..plain("global-state", Exactly(1), Each(Want::Any)) },
-            Name::Format => Row { layout: Layout::Sections, ..plain("format", AtLeast(1), Each(Want::Shown)) },
+            Name::GlobalState => Row {
+                layout: Layout::Global,
+                ..plain("global-state", Exactly(1), Each(Want::Any))
+            },
+            Name::Format => Row {
+                layout: Layout::Sections,
+                ..plain("format", AtLeast(1), Each(Want::Shown))
+            },
             Name::Upcase => outside("upcase"),
             Name::Downcase => outside("downcase"),
             Name::Collator => outside("collator"),
@@ -335,7 +443,8 @@ fn slot(text: &[u8]) -> usize
     let last = text[text.len() - 1];
     let middle = text[text.len() / 2];
     let length = text.len() % 256;
-    (3 * usize::from(*first) + 82 * usize::from(last) + 48 * usize::from(middle) + 38 * length) % 256
+    (3 * usize::from(*first) + 82 * usize::from(last) + 48 * usize::from(middle) + 38 * length)
+        % 256
 }
 
 // The names in the order of the table.
@@ -428,20 +537,13 @@ static NAMES: [Name; 84] = [
 
 // The place in `NAMES` of the name that has a slot; where none has it, any place.
 static SLOTS: [u8; 256] = [
-    28, 0, 13, 1, 0, 63, 0, 0, 0, 49, 0, 0, 51, 60, 0, 0,
-    0, 0, 3, 0, 0, 32, 0, 0, 0, 66, 0, 0, 0, 0, 0, 0,
-    0, 21, 0, 0, 0, 0, 8, 77, 0, 0, 0, 0, 0, 0, 0, 0,
-    71, 0, 0, 0, 0, 0, 0, 35, 0, 0, 74, 0, 0, 0, 0, 0,
-    0, 73, 0, 0, 50, 0, 59, 0, 0, 5, 0, 22, 0, 65, 0, 14,
-    0, 0, 25, 0, 0, 0, 0, 17, 0, 53, 80, 0, 27, 0, 0, 47,
-    41, 76, 0, 18, 0, 0, 0, 0, 82, 0, 16, 0, 69, 29, 0, 0,
-    9, 0, 0, 0, 0, 0, 0, 0, 0, 68, 0, 0, 40, 43, 0, 0,
-    0, 0, 0, 54, 0, 0, 0, 45, 37, 0, 0, 0, 0, 0, 0, 0,
-    0, 46, 0, 0, 0, 0, 0, 19, 0, 0, 0, 0, 0, 0, 0, 78,
-    0, 0, 0, 33, 81, 52, 0, 75, 0, 24, 61, 31, 2, 0, 57, 0,
-    12, 0, 70, 0, 0, 0, 0, 72, 0, 0, 0, 0, 0, 83, 0, 11,
-    38, 34, 0, 0, 0, 39, 0, 56, 20, 0, 0, 48, 0, 58, 36, 0,
-    62, 0, 0, 0, 0, 0, 0, 0, 42, 0, 0, 0, 10, 15, 0, 0,
-    7, 0, 0, 0, 6, 0, 64, 0, 0, 0, 0, 4, 0, 0, 79, 0,
-    0, 0, 0, 0, 0, 55, 0, 30, 44, 0, 26, 0, 67, 23, 0, 0,
+    28, 0, 13, 1, 0, 63, 0, 0, 0, 49, 0, 0, 51, 60, 0, 0, 0, 0, 3, 0, 0, 32, 0, 0, 0, 66, 0, 0, 0,
+    0, 0, 0, 0, 21, 0, 0, 0, 0, 8, 77, 0, 0, 0, 0, 0, 0, 0, 0, 71, 0, 0, 0, 0, 0, 0, 35, 0, 0, 74,
+    0, 0, 0, 0, 0, 0, 73, 0, 0, 50, 0, 59, 0, 0, 5, 0, 22, 0, 65, 0, 14, 0, 0, 25, 0, 0, 0, 0, 17,
+    0, 53, 80, 0, 27, 0, 0, 47, 41, 76, 0, 18, 0, 0, 0, 0, 82, 0, 16, 0, 69, 29, 0, 0, 9, 0, 0, 0,
+    0, 0, 0, 0, 0, 68, 0, 0, 40, 43, 0, 0, 0, 0, 0, 54, 0, 0, 0, 45, 37, 0, 0, 0, 0, 0, 0, 0, 0,
+    46, 0, 0, 0, 0, 0, 19, 0, 0, 0, 0, 0, 0, 0, 78, 0, 0, 0, 33, 81, 52, 0, 75, 0, 24, 61, 31, 2,
+    0, 57, 0, 12, 0, 70, 0, 0, 0, 0, 72, 0, 0, 0, 0, 0, 83, 0, 11, 38, 34, 0, 0, 0, 39, 0, 56, 20,
+    0, 0, 48, 0, 58, 36, 0, 62, 0, 0, 0, 0, 0, 0, 0, 42, 0, 0, 0, 10, 15, 0, 0, 7, 0, 0, 0, 6, 0,
+    64, 0, 0, 0, 0, 4, 0, 0, 79, 0, 0, 0, 0, 0, 0, 55, 0, 30, 44, 0, 26, 0, 67, 23, 0, 0,
 ];
