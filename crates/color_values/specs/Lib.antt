@@ -6,6 +6,5 @@ pub mod HexColor
 pub mod RgbColor
 pub mod HslColor
 pub mod ColorOf
-
 -- What only contracts of private functions, models and proofs use.
 pub mod Views

@@ -2,6 +2,5 @@
 pub mod World
 pub mod Operators
 pub mod Meaning
-
 -- Laws of these.
 pub mod Fitted

@@ -5,7 +5,6 @@ pub mod Term
 pub mod Reading
 pub mod TermView
 pub mod ReadView
-
 -- What only contracts of private functions, models and proofs use.
 pub mod Slots
 pub mod TermCode

@@ -20,7 +20,5 @@
 
 mod kept;
 mod states;
-#[cfg(test)]
-mod tests;
 
 pub use states::States;

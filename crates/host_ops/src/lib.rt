@@ -21,8 +21,6 @@
 mod host_op;
 mod image_set;
 mod script_test;
-#[cfg(test)]
-mod tests;
 mod text_test;
 
 pub use host_op::{HostOp, TellFault};

@@ -1,6 +1,5 @@
 -- To be believed.
 pub mod SlotLists
-
 -- What only contracts of private functions, models and proofs use.
 pub mod Nodes
 pub mod Rounds

@@ -1,7 +1,6 @@
 -- To be believed.
 pub mod Keys
 pub mod Index
-
 -- What only contracts of private functions, models and proofs use.
 pub mod Hash
 pub mod Table

@@ -6,6 +6,5 @@ pub mod Contents
 pub mod FilesState
 pub mod SinkState
 pub mod HostState
-
 -- What only contracts of private functions, models and proofs use.
 pub mod WritingLaws

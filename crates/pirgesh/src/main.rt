@@ -3,7 +3,7 @@
 
 ghost use Rattle.std.specs.Prelude.{◌≡◌, ◌<◌};
 
-use host_ops::ScriptTest;
+use host_ops::{ImageSet, ScriptTest};
 use outside_io::{HostFiles, HostSink, Steps};
 use std::env;
 use std::io::{self, ErrorKind};
@@ -50,7 +50,7 @@ fn run_counted<L: Ledger>(rt: &HostRuntime, words: &[String], blank: Blank) -> S
     let mut out = HostSink::new(rt.stdout());
     let mut err = HostSink::new(rt.stderr());
     let mut steps: Steps<L> = Steps::new(blank);
-    let Ok(images) = Box::new(alloc, ScriptTest::new()) else {
+    let Ok(images) = Box::new(alloc, ImageSet::new(alloc)) else {
         return Status::NoMemory;
     };
     let Ok(scripts) = Box::new(alloc, ScriptTest::new()) else {

@@ -9,11 +9,9 @@ pub mod ColorText
 pub mod ValueText
 pub mod JsonData
 pub mod Changes
-
 -- Laws of these.
 pub mod EqualityLaws
 pub mod ChangeLaws
-
 -- What only contracts of private functions, models and proofs use.
 pub mod DataCode
 pub mod Falls

@@ -8,10 +8,8 @@ pub mod ValueOutcome
 pub mod EvalOutcome
 pub mod Replies
 pub mod Run
-
 -- Laws of these.
 pub mod OneOutcome
-
 -- What only contracts of private functions, models and proofs use.
 pub mod WordsView
 pub mod AnswerView
