@@ -1,7 +1,8 @@
 //! JSON whose numbers stay text: the trees that a style is read from and written as.
 //!
 //! `parse` reads a whole byte string, `write` appends the text of a tree, and a `Path` names a place in
-//! a tree. Nothing here turns a number into an amount: a `NumText` is the text as it stands.
+//! a tree. Nothing here turns a number into an amount: a `NumText` is the text as it stands. `parse` copies the
+//! bytes once; texts without escapes and numbers are ranges of that copy, which a tree keeps whole.
 //!
 //! ```text
 //! match parse(alloc, b"[\"+\", 0.1, 1.50]")? {

@@ -8,12 +8,11 @@
 //! let mut index = KeyIndex::new();
 //! index.note_next(alloc, entries.as_slice(), key)?;       // the key that is added to the entries next
 //! index.find(entries.as_slice(), key);                    // Some(the place of the entry that has the key)
-//! index.forget(entries.as_slice(), place);                // the entry at a place is taken out next
 //! ```
 //!
 //! What is promised: an index that stands for a list of keys (`IsIndexed`) finds each of them at its place, and no
-//! other key. `note_next` and `forget` give the index that stands for the changed list. When allocation fails, the
-//! index stands for what it stood for.
+//! other key. `note_next` gives the index that stands for the longer list. When allocation fails, the index stands
+//! for what it stood for.
 //!
 //! The text to believe is in `specs/`: `Keys`, `Index`.
 #![tactic(auto)]
