@@ -7,6 +7,8 @@
 #[cfg(test)]
 mod color_calls;
 #[cfg(test)]
+mod host_calls;
+#[cfg(test)]
 mod io_calls;
 #[cfg(test)]
 mod json_calls;
@@ -31,6 +33,8 @@ mod program_calls;
 #[cfg(test)]
 mod row_calls;
 #[cfg(test)]
+mod state_calls;
+#[cfg(test)]
 mod syntax_calls;
 #[cfg(test)]
 mod table_calls;
@@ -38,6 +42,8 @@ mod table_calls;
 mod text_calls;
 #[cfg(test)]
 mod tile_calls;
+#[cfg(test)]
+mod tree_calls;
 #[cfg(test)]
 mod unit_calls;
 #[cfg(test)]
