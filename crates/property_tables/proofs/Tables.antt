@@ -19,7 +19,7 @@ use Rattle.property_tables.specs.Fitting.{fit}
 use Rattle.property_tables.specs.Literals.{literal_data, has_form, keeps_limits}
 use Rattle.prop_values.specs.declared.kinds.Want.TheVariants as wants
 use Rattle.property_tables.specs.Rows.{RowData, absent, rows_of, row_of, row_named, at_place, is_at, background_rows, fill_rows, line_rows, symbol_rows, circle_rows, heatmap_rows, fill_extrusion_rows, raster_rows, hillshade_rows, color_relief_rows}
-use Rattle.property_tables.specs.TableLaws.{KeepsRules, MeetsAs, MeetsItself, TableKeepsRules, NumbersArePlaces}
+use Rattle.property_tables.specs.TableLaws.{KeepsRules, MeetsAs, MeetsItself, TableKeepsRules}
 use Rattle.property_tables.specs.declared.layer_type.LayerType.{LayerType}
 use Rattle.property_tables.specs.declared.layer_type.LayerType.TheVariants as types
 use Rattle.property_tables.specs.declared.property_row.Place.{Place}

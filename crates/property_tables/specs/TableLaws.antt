@@ -1,12 +1,11 @@
--- What holds of the table of properties: names of one type differ, layout stands before paint, a default is a literal of its own
--- row, and the number of a row is its place.
-use Rattle.std.specs.Prelude.{◌≡◌, ◌≢◌, ℕ, ◌<◌, List, length, get_or, All, AllPairs, Option, Some, None, ⊤}
+-- What holds of the table of properties: names of one type differ, layout stands before paint, and a default is a literal of its
+-- own row.
+use Rattle.std.specs.Prelude.{◌≡◌, ◌≢◌, List, All, AllPairs, Option, Some, None, ⊤}
 use Rattle.prop_values.specs.Data.{Data}
 use Rattle.property_tables.specs.Defaults.{written_default, default_of}
 use Rattle.property_tables.specs.Literals.{literal_data}
-use Rattle.property_tables.specs.Rows.{RowData, rows_of, row_of}
+use Rattle.property_tables.specs.Rows.{RowData, rows_of}
 use Rattle.property_tables.specs.declared.layer_type.LayerType.{LayerType}
-use Rattle.property_tables.specs.declared.property_row.Place.{Place}
 use Rattle.property_tables.specs.declared.property_row.Place.TheVariants.{Paint}
 
 -- a default is a literal of its row, and its value is what stands for the property
@@ -24,6 +23,3 @@ pub record KeepsRules (rows : List RowData) : Type 0 where
 
 abbrev pub TableKeepsRules : Type 0
 TableKeepsRules = (t : LayerType) → KeepsRules (rows_of t)
-
-abbrev pub NumbersArePlaces : Type 0
-NumbersArePlaces = (t : LayerType) (p : Place) (name : List ℕ) (n : ℕ) (r : RowData) → row_of t p name ≡ Some (n, r) → (n < length (rows_of t)) × (get_or (rows_of t) n r ≡ r) × (r.place ≡ p) × (r.name ≡ name)
