@@ -20,6 +20,6 @@ fn ranges_of_a_document(rt: HostRuntime) -> Result<(), Fail> {
     let alloc = rt.alloc();
     let document = Document::copy_of(alloc, b"kind")?;
     assert_eq!(rt; Text::of_range(&document, 0, 0)?.as_str(), "");
-    assert_eq!(rt; document.as_slice(), b"kind");
+    assert_eq!(rt; document.as_slice(), b"kind".as_slice());
     Ok(())
 }
