@@ -51,7 +51,12 @@ fn append_hex(members: &Members, into: &mut Vec<u8>) -> Result<()> {
         let &[high, low] = pair else {
             bail!("half a byte");
         };
-        into.push(digit_of(high)? * 16 + digit_of(low)?)?;
+        // Both digits are below 16, so nothing wraps.
+        into.push(
+            digit_of(high)?
+                .wrapping_mul(16)
+                .wrapping_add(digit_of(low)?),
+        )?;
     }
     Ok(())
 }
