@@ -107,9 +107,9 @@ after_err : (n : ℕ) (others : Result (List ℕ) WireKind) (wire : WireKind) �
 after_err n (Ok ns) wire e = absurd (cc)
 after_err n (Err other) wire e = let same : other ≡ wire = cc in ap (λ (k : WireKind). Err k) same
 
-packed_step : (most : ℕ) (b : List ℕ) (read : Result (ℕ × List ℕ) WireKind) (wire : WireKind) → varint_at b ≡ read → length b ≤ suc most → number_before read packed ≡ Err wire → ((rest : List ℕ) → length rest ≤ most → packed rest ≡ Err wire → (ns : List ℕ) × BreaksPacked rest ns wire) → (ns : List ℕ) × BreaksPacked b ns wire
-packed_step most b (Err other) wire is short e later = let same : other ≡ wire = cc in ([], is ∙ ap (λ (k : WireKind). Err k) same)
-packed_step most b (Ok (n, rest)) wire is short e later =
+packed_step : (most : ℕ) (b : List ℕ) (read : Result (ℕ × List ℕ) WireKind) (wire : WireKind) → b ≢ [] → varint_at b ≡ read → length b ≤ suc most → number_before read packed ≡ Err wire → ((rest : List ℕ) → length rest ≤ most → packed rest ≡ Err wire → (ns : List ℕ) × BreaksPacked rest ns wire) → (ns : List ℕ) × BreaksPacked b ns wire
+packed_step most b (Err other) wire more is short e later = let same : other ≡ wire = cc in ([], (more, is ∙ ap (λ (k : WireKind). Err k) same))
+packed_step most b (Ok (n, rest)) wire more is short e later =
     let (spelling, cut_here, some) = varint_front b n rest is in
     let long = length-append spelling rest in
     let (ns, breaks) = later rest (omega (arith, ap length cut_here)) (after_err n (packed rest) wire e) in
@@ -119,7 +119,7 @@ packed_within : (most : ℕ) (b : List ℕ) (wire : WireKind) → length b ≤ m
 packed_within most [] wire short e = let none = packed_end [] refl in absurd (cc)
 packed_within zero (c ∷ b) wire short e = absurd (omega arith)
 packed_within (suc most) (c ∷ b) wire short e =
-    packed_step most (c ∷ b) (varint_at (c ∷ b)) wire refl short (sym (packed_front (c ∷ b) (omega arith)) ∙ e) (λ rest fewer. packed_within most rest wire fewer)
+    packed_step most (c ∷ b) (varint_at (c ∷ b)) wire (λ q. cc) refl short (sym (packed_front (c ∷ b) (omega arith)) ∙ e) (λ rest fewer. packed_within most rest wire fewer)
 
 -- a field of a feature
 placed_err : (at : ℕ) (read : Result (List ℕ) WireKind) (fault : TileFault) → placed at read ≡ Err fault → (wire : WireKind) × (read ≡ Err wire) × IsAt (kind.Wire wire) at fault

@@ -77,9 +77,9 @@ BreaksValue field fault =
     ⊎ ((content : List ℕ) × IsBytes field content × FirstIn HaveSaid (λ said inner. BreaksSaying (value_member inner.number) said inner) (content_start field) content fault)
     ⊎ ((fields : List WireField) × HoldsMessage field fields × (known_fields fields ≡ []) × IsAt kind.ValueKind field.at fault)
 
--- the bytes begin with these varints, and what comes next is broken
+-- the bytes begin with these varints, and what comes next is broken: there is more, and it begins with no varint
 abbrev pub BreaksPacked : List ℕ → List ℕ → WireKind → Type 0
-BreaksPacked b [] kind = varint_at b ≡ Err kind
+BreaksPacked b [] kind = (b ≢ []) × (varint_at b ≡ Err kind)
 BreaksPacked b (n ∷ ns) kind = (rest : List ℕ) × (varint_at b ≡ Ok (n, rest)) × BreaksPacked rest ns kind
 
 -- the fault of a field of a feature
