@@ -12,7 +12,7 @@ use Rattle.std.proofs.lemmas.List.{take-append-drop, length-map}
 use Rattle.std.proofs.lemmas.Slice.Eq.{bytes_eq-Decides}
 use Rattle.color_values.specs.ColorName.{names, value_at, value_of_name}
 use Rattle.color_values.specs.Views.{pairs_of, rises, value_among}
-use Rattle.color_values.specs.declared.names.Name.{Name}
+use Rattle.std.specs.Borrow.{Bor}
 
 abbrev order : List ℕ → List ℕ → Ordering
 order = slice_cmp nat_cmp
@@ -35,6 +35,9 @@ is_less : (r : Ordering) → is_lt r ≡ true → r ≡ Less
 is_less Less h = refl
 is_less Equal h = absurd (true≢false (sym h))
 is_less Greater h = absurd (true≢false (sym h))
+
+abbrev Name : Type 0
+Name = Bor (List ℕ) × ℕ
 
 abbrev Pair : Type 0
 Pair = List ℕ × ℕ
@@ -122,27 +125,27 @@ found_at x (p ∷ ps) (suc m) d h within same =
     rw (above_apart x p.0 (get_or ps m d).0 (first_below p ps m d h (omega arith)) (inr (tied_back nat_list_cmp_total x (get_or ps m d).0 same))) (found_at x ps m d (rises_rest p ps h) (omega arith) same)
 
 -- the same in the table of the code
-pair_at : (ns : List Name) (m : ℕ) (d : Name) → get_or (pairs_of ns) m (d.text.now, d.value) ≡ ((get_or ns m d).text.now, (get_or ns m d).value)
+pair_at : (ns : List Name) (m : ℕ) (d : Name) → get_or (pairs_of ns) m (d.0.now, d.1) ≡ ((get_or ns m d).0.now, (get_or ns m d).1)
 pair_at [] m d = refl
 pair_at (n ∷ ns) zero d = refl
 pair_at (n ∷ ns) (suc m) d = pair_at ns m d
 
-order_at : (x bytes : List ℕ) (ns : List Name) (m : ℕ) (d : Name) → bytes ≡ (get_or ns m d).text.now → order x (get_or (pairs_of ns) m (d.text.now, d.value)).0 ≡ order x bytes
+order_at : (x bytes : List ℕ) (ns : List Name) (m : ℕ) (d : Name) → bytes ≡ (get_or ns m d).0.now → order x (get_or (pairs_of ns) m (d.0.now, d.1)).0 ≡ order x bytes
 order_at x bytes ns m d e = ap (λ (p : Pair). order x p.0) (pair_at ns m d) ∙ ap (order x) (sym e)
 
 long_pairs : (ns : List Name) → length (pairs_of ns) ≡ length ns
 long_pairs [] = refl
 long_pairs (n ∷ ns) = ap suc (long_pairs ns)
 
-pub name_is_below : (x bytes : List ℕ) (ns : List Name) (m : ℕ) (d : Name) → rises (pairs_of ns) ≡ true → m < length ns → bytes ≡ (get_or ns m d).text.now → Less ≡ order x bytes → value_among x (drop m (pairs_of ns)) ≡ None
-name_is_below x bytes ns m d h within e less = none_from x (pairs_of ns) m (d.text.now, d.value) h (omega (arith, long_pairs ns)) (order_at x bytes ns m d e ∙ sym less)
+pub name_is_below : (x bytes : List ℕ) (ns : List Name) (m : ℕ) (d : Name) → rises (pairs_of ns) ≡ true → m < length ns → bytes ≡ (get_or ns m d).0.now → Less ≡ order x bytes → value_among x (drop m (pairs_of ns)) ≡ None
+name_is_below x bytes ns m d h within e less = none_from x (pairs_of ns) m (d.0.now, d.1) h (omega (arith, long_pairs ns)) (order_at x bytes ns m d e ∙ sym less)
 
-pub name_is_above : (x bytes : List ℕ) (ns : List Name) (m : ℕ) (d : Name) → rises (pairs_of ns) ≡ true → m < length ns → bytes ≡ (get_or ns m d).text.now → Greater ≡ order x bytes → value_among x (take (m + 1) (pairs_of ns)) ≡ None
-name_is_above x bytes ns m d h within e greater = none_up_to x (pairs_of ns) m (d.text.now, d.value) h (omega (arith, long_pairs ns)) (order_at x bytes ns m d e ∙ sym greater)
+pub name_is_above : (x bytes : List ℕ) (ns : List Name) (m : ℕ) (d : Name) → rises (pairs_of ns) ≡ true → m < length ns → bytes ≡ (get_or ns m d).0.now → Greater ≡ order x bytes → value_among x (take (m + 1) (pairs_of ns)) ≡ None
+name_is_above x bytes ns m d h within e greater = none_up_to x (pairs_of ns) m (d.0.now, d.1) h (omega (arith, long_pairs ns)) (order_at x bytes ns m d e ∙ sym greater)
 
-pub name_is_found : (x bytes : List ℕ) (ns : List Name) (m : ℕ) (d : Name) → rises (pairs_of ns) ≡ true → m < length ns → bytes ≡ (get_or ns m d).text.now → Equal ≡ order x bytes → Some (get_or ns m d).value ≡ value_among x (pairs_of ns)
+pub name_is_found : (x bytes : List ℕ) (ns : List Name) (m : ℕ) (d : Name) → rises (pairs_of ns) ≡ true → m < length ns → bytes ≡ (get_or ns m d).0.now → Equal ≡ order x bytes → Some (get_or ns m d).1 ≡ value_among x (pairs_of ns)
 name_is_found x bytes ns m d h within e same =
-    sym (found_at x (pairs_of ns) m (d.text.now, d.value) h (omega (arith, long_pairs ns)) (order_at x bytes ns m d e ∙ sym same) ∙ ap (λ (p : Pair). Some p.1) (pair_at ns m d))
+    sym (found_at x (pairs_of ns) m (d.0.now, d.1) h (omega (arith, long_pairs ns)) (order_at x bytes ns m d e ∙ sym same) ∙ ap (λ (p : Pair). Some p.1) (pair_at ns m d))
 
 -- where none is left
 pub name_is_none : (x : List ℕ) (ns : List Name) (low high : ℕ) → low ≡ high → value_among x (take low (pairs_of ns)) ≡ None → value_among x (drop high (pairs_of ns)) ≡ None → None ≡ value_among x (pairs_of ns)

@@ -10,7 +10,6 @@ use Rattle.std.specs.Str.{bytes_eq}
 use Rattle.fixed_num.specs.Decimal.{number_of}
 use Rattle.color_values.specs.ColorNumber.{Number, most_units}
 use Rattle.decimal_limbs.specs.Limbs.{limbs_for}
-use Rattle.color_values.specs.declared.names.Name.{Name}
 use Rattle.color_values.specs.Parts.{Parts, trimmed}
 use Rattle.color_values.specs.declared.parts.Parts.{Parts as PartTexts}
 use Rattle.color_values.specs.declared.number.Number.{Number as NumberText}
@@ -32,8 +31,8 @@ abbrev pub limb_scale : ℕ → ℕ
 limb_scale places = 10 ^ (9 * limbs_for places - places)
 
 -- names as the table has them
-abbrev pub pairs_of : List Name → List (List ℕ × ℕ)
-pairs_of ns = map (λ n. (n.text.now, n.value)) ns
+abbrev pub pairs_of : List (Bor (List ℕ) × ℕ) → List (List ℕ × ℕ)
+pairs_of ns = map (λ n. (n.0.now, n.1)) ns
 
 -- whether each name is below the next, byte by byte
 abbrev pub rises : List (List ℕ × ℕ) → Bool
