@@ -31,7 +31,6 @@ mod number;
 mod parts;
 mod reading;
 mod rgb;
-mod text;
 
+pub use prop_values::color_text;
 pub use reading::read_color;
-pub use text::color_text;

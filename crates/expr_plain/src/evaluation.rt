@@ -49,7 +49,7 @@ fn evaluate<I: TextTest, S: TextTest>(
     ensures { IfOk result (λ evaluated. evaluated_of evaluated ≡ mean (term_of expression.now) want.now [] (world_of world.now.context.now (I.holds world.now.images.now) (S.holds world.now.scripts.now))) }
 {
     match expression {
-        Expr::Literal(value) => fit(alloc, copy(alloc, value)?, want),
+        Expr::Literal(value) => fit(alloc, copy(value)?, want),
         Expr::Node(op, arguments) => {
             evaluate_node(alloc, *op, arguments.as_slice(), want, world)
         }

@@ -7,11 +7,10 @@ ghost use Rattle.eval_face.specs.Meaning.{get_of};
 
 use eval_face::Context;
 use prop_values::{EvalFault, Value, copy};
-use std::alloc::{AllocError, Global};
+use std::alloc::AllocError;
 
 /// `get`: the property at a key, and null where there is none.
 pub(crate) fn property(
-    alloc: Global,
     values: &[Value],
     context: &Context<'_>,
 ) -> Result<Result<Value, EvalFault>, AllocError>
@@ -24,7 +23,7 @@ pub(crate) fn property(
         return Ok(Ok(Value::Null));
     };
     match feature.properties.get(key.as_str()) {
-        Some(value) => Ok(Ok(copy(alloc, value)?)),
+        Some(value) => Ok(Ok(copy(value)?)),
         None => Ok(Ok(Value::Null)),
     }
 }

@@ -68,7 +68,7 @@ pub(crate) fn applied<I: TextTest, S: TextTest>(
     ensures { IfOk result (λ evaluated. evaluated_of evaluated ≡ apply op (values_view values.now) (world_of world.now.context.now (I.holds world.now.images.now) (S.holds world.now.scripts.now))) }
 {
     match op {
-        Operator::Get => property(alloc, values, world.context),
+        Operator::Get => property(values, world.context),
         Operator::Number => Ok(Err(EvalFault::WrongType)),
         Operator::Equal => Ok(equality(values)),
         Operator::Less => Ok(less(values)),

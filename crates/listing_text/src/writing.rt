@@ -201,7 +201,7 @@ fn write_value_text(value: &Value, out: &mut Vec<u8>) -> Result<(), AllocError>
         Value::Bool(true) => write_parts(&[b"true"], out),
         Value::Num(number) => write_number(*number, out),
         Value::Text(text) => write_text(text.as_str(), out),
-        Value::Color(color) => write_color(color, out),
+        Value::Color(color) => write_color(&color.color(), out),
         Value::List(_) | Value::Map(_) => write_listed(value, out),
     }
 }

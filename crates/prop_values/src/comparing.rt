@@ -23,6 +23,7 @@ pub fn equals(a: &Value, b: &Value) -> bool
         (Value::Num(a), Value::Num(b)) => *a == *b,
         (Value::Text(a), Value::Text(b)) => a.as_str() == b.as_str(),
         (Value::Color(a), Value::Color(b)) => {
+            let (a, b) = (a.color(), b.color());
             a.r == b.r && a.g == b.g && a.b == b.b && a.a == b.a
         }
         (Value::List(a), Value::List(b)) => are_equal(a.as_slice(), b.as_slice()),

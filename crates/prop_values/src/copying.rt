@@ -13,7 +13,7 @@ use fixed_num::{Fixed, NumFault, json_numbers_are_read, read_decimal};
 use std::alloc::{AllocError, Global};
 
 /// The same value, in constant time: texts, lists and maps are shared with it, and nothing is copied.
-pub fn copy(_alloc: Global, value: &Value) -> Result<Value, AllocError>
+pub fn copy(value: &Value) -> Result<Value, AllocError>
     ensures { IfOk result (λ copy. copy ≡ value.now) }
 {
     match value {
@@ -21,7 +21,7 @@ pub fn copy(_alloc: Global, value: &Value) -> Result<Value, AllocError>
         Value::Bool(flag) => Ok(Value::Bool(*flag)),
         Value::Num(number) => Ok(Value::Num(*number)),
         Value::Text(text) => Ok(Value::Text(text.share()?)),
-        Value::Color(color) => Ok(Value::Color(*color)),
+        Value::Color(color) => Ok(Value::Color(color.copy())),
         Value::List(values) => Ok(Value::List(values.share()?)),
         Value::Map(entries) => Ok(Value::Map(entries.share()?)),
     }
@@ -33,7 +33,7 @@ pub(crate) fn copy_values(alloc: Global, values: &[Value]) -> Result<Vec<Value>,
 {
     let mut copies = Vec::with_capacity(alloc, values.len())?;
     for value in values {
-        copies.push(copy(alloc, value)?)?;
+        copies.push(copy(value)?)?;
     }
     Ok(copies)
 }
@@ -47,7 +47,7 @@ pub(crate) fn copy_entries(alloc: Global, entries: &Entries) -> Result<Entries, 
     let mut copies = Entries::with_capacity(alloc, given.len())?;
     for entry in given {
         let key = entry.key.share()?;
-        copies.push(key, copy(alloc, &entry.value)?)?;
+        copies.push(key, copy(&entry.value)?)?;
     }
     Ok(copies)
 }

@@ -7,7 +7,7 @@
 //! entries.set(Text::copy_of(alloc, "width")?, Value::Null)?;
 //! entries.remove("width");
 //! let map = Value::Map(SharedEntries::of(alloc, entries)?);
-//! to_text(alloc, &copy(alloc, &map)?)?.as_str();          // {"kind":true}
+//! to_text(alloc, &copy(&map)?)?.as_str();          // {"kind":true}
 //! ```
 //!
 //! What is promised, for all values: equality (maps in any order), order, kind text, truth, text and listed text
@@ -39,6 +39,7 @@ mod fault;
 mod kinds;
 mod laws;
 mod outcome;
+mod packed_color;
 mod places;
 mod text;
 mod value;
@@ -50,5 +51,6 @@ pub use fault::{EvalFault, FaultSet};
 pub use kinds::{Item, Kind, Want};
 pub use laws::{equality_is_reflexive, equality_is_symmetric, maps_are_equal_by_keys};
 pub use outcome::{Curve, Outcome};
-pub use text::{to_text, write_color, write_listed};
+pub use packed_color::PackedColor;
+pub use text::{color_text, to_text, write_color, write_listed};
 pub use value::{Entries, Entry, SharedEntries, Value, Values};

@@ -32,10 +32,19 @@ pub fn write_listed(value: &Value, out: &mut Vec<u8>) -> Result<(), AllocError>
     let alloc = *out.allocator();
     let mut text = String::new(alloc);
     match value {
-        Value::Color(color) => append_color(color, &mut text)?,
+        Value::Color(color) => append_color(&color.color(), &mut text)?,
         _ => append_json(alloc, value, &mut text)?,
     }
     out.extend_from_slice(text.as_bytes())
+}
+
+/// The text of a color, `rgba(r,g,b,a)` with its four numbers.
+pub fn color_text(alloc: Global, color: &Color) -> Result<Text, AllocError>
+    ensures { IfOk result (λ text. text ≡ color_text color.now) }
+{
+    let mut text = String::new(alloc);
+    append_color(color, &mut text)?;
+    Text::copy_of(alloc, text.as_str())
 }
 
 /// What `to-string` says of a value: null is empty, a text is itself, a color is its text, and all
@@ -47,7 +56,7 @@ pub fn to_text(alloc: Global, value: &Value) -> Result<Text, AllocError>
     match value {
         Value::Null => {}
         Value::Text(shown) => return shown.share(),
-        Value::Color(color) => append_color(color, &mut text)?,
+        Value::Color(color) => return color_text(alloc, &color.color()),
         _ => append_json(alloc, value, &mut text)?,
     }
     Text::copy_of(alloc, text.as_str())
@@ -65,7 +74,7 @@ fn append_json(alloc: Global, value: &Value, out: &mut String) -> Result<(), All
         Value::Text(text) => append_quoted(alloc, text.as_str(), out),
         Value::Color(color) => {
             let mut shown = String::new(alloc);
-            append_color(color, &mut shown)?;
+            append_color(&color.color(), &mut shown)?;
             append_quoted(alloc, shown.as_str(), out)
         }
         Value::List(values) => append_values(alloc, values, out),

@@ -9,9 +9,10 @@ ghost use Rattle.prop_values.specs.View.{data_of, values_view, entries_view};
 ghost use Rattle.prop_values.specs.declared.value.Entry.{Entry};
 
 use crate::copying::{copy_entries, copy_values};
+use crate::packed_color::PackedColor;
 use crate::places::{FIRST, Places, forget_key, forget_place, note_place, noted_place};
 use decimal_json::Text;
-use fixed_num::{Color, Fixed};
+use fixed_num::Fixed;
 use std::alloc::{AllocError, Global};
 use std::marker::Model;
 use std::rc::Rc;
@@ -24,7 +25,7 @@ pub enum Value {
     Bool(bool),
     Num(Fixed),
     Text(Text),
-    Color(Color),
+    Color(PackedColor),
     List(Values),
     Map(SharedEntries),
 }

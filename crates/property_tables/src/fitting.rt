@@ -6,7 +6,7 @@ ghost use Rattle.prop_values.specs.View.{data_of, evaluated_of, items};
 ghost use Rattle.property_tables.specs.Fitting.{fit, fit_boolean, fit_number, fit_text, fit_color, fit_object, fit_image, fit_list, fit_choice, fit_choices, read_as_color, is_item, are_items, has_count, is_choice, are_choices};
 
 use color_values::read_color;
-use prop_values::{Choice, EvalFault, Item, Value, Want, to_text};
+use prop_values::{Choice, EvalFault, Item, PackedColor, Value, Want, to_text};
 use std::alloc::{AllocError, Global};
 
 /// Fits a value to a want: the value as it passes on, or its fault.
@@ -86,7 +86,7 @@ fn color_of_text(text: &str) -> Result<Value, EvalFault>
     ensures { evaluated_of result ≡ read_as_color (color_of text.now) }
 {
     match read_color(text) {
-        Some(color) => Ok(Value::Color(color)),
+        Some(color) => Ok(Value::Color(PackedColor::of(&color))),
         None => Err(EvalFault::NotColor),
     }
 }

@@ -270,7 +270,7 @@ fn entries(
     let mut entries = Entries::with_capacity(alloc, chosen.len())?;
     for (key, value) in chosen {
         let text = keys[*key].share()?;
-        let value = copy(alloc, &values[*value])?;
+        let value = copy(&values[*value])?;
         entries.push(text, value)?;
     }
     Ok(entries)
