@@ -38,9 +38,9 @@ pub(crate) fn copy_values(alloc: Global, values: &[Value]) -> Result<Vec<Value>,
     Ok(copies)
 }
 
-/// The same entries in a map of their own, each value shared.
+/// The same entries in a map of their own, in time linear in the entries: each value is shared and not copied.
 #[tactic(auto, using(crate::proofs::Keys::lacks_before))]
-pub(crate) fn copy_entries(alloc: Global, entries: &Entries) -> Result<Entries, AllocError>
+pub fn copy_entries(alloc: Global, entries: &Entries) -> Result<Entries, AllocError>
     ensures { IfOk result (λ copies. copies ≡ entries.now) }
 {
     let given = entries.as_slice();

@@ -46,7 +46,7 @@ mod value;
 
 pub use choice::Choice;
 pub use comparing::{equals, kind_text, order, truth};
-pub use copying::{copy, from_json};
+pub use copying::{copy, copy_entries, from_json};
 pub use fault::{EvalFault, FaultSet};
 pub use kinds::{Item, Kind, Want};
 pub use laws::{equality_is_reflexive, equality_is_symmetric, maps_are_equal_by_keys};

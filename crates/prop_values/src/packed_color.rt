@@ -24,6 +24,10 @@ impl Model for PackedColor {
     ghost coded = { color_code };
 
     ghost view = { λ a. record { r = pos a.red; g = pos a.green; b = pos a.blue; a = pos a.opacity } };
+
+    ghost use Rattle.fixed_num.specs.ColorRange.{IsInRange};
+
+    ghost invariant = { λ a. IsInRange (record { r = pos a.red; g = pos a.green; b = pos a.blue; a = pos a.opacity }) };
 }
 
 impl PackedColor {
@@ -54,7 +58,8 @@ impl PackedColor {
 
     /// The color, its parts in millionths as numbers.
     pub fn color(&self) -> Color
-        ensures { result ≡ self.now }
+        ensures value { result ≡ self.now }
+        ensures range { IsInRange result }
     {
         Color {
             r: millionths(self.red),
