@@ -52,8 +52,11 @@ pub found_within : (q : List ℕ) (ms : List Member) (k : ℕ) → place_from 0 
 found_within q ms k e = let found = stands 0 q ms k e in omega (arith, found.place, found.within)
 
 -- and what stands there is the value of that member
-pub found_value : (q : List ℕ) (ms : List Member) (k : ℕ) (m : Member) → place_from 0 q (member_keys ms) ≡ Some k → m ≡ get_or ms k m → field_at q (fields ms) ≡ Some (tree_of m.value)
-found_value q ms k m f p =
+pub value_placed : (q : List ℕ) (ms : List Member) (k : ℕ) (d : Member) → place_from 0 q (member_keys ms) ≡ Some k → field_at q (fields ms) ≡ Some (tree_of (get_or ms k d).value)
+value_placed q ms k d f =
     let found = stands 0 q ms k f in
     let at_k : found.offset ≡ k = omega (arith, found.place) in
-    found.value m ∙ (ap (λ n. Some (tree_of (get_or ms n m).value)) at_k ∙ ap (λ (x : Member). Some (tree_of x.value)) (sym p))
+    found.value d ∙ ap (λ n. Some (tree_of (get_or ms n d).value)) at_k
+
+pub found_value : (q : List ℕ) (ms : List Member) (k : ℕ) (m : Member) → place_from 0 q (member_keys ms) ≡ Some k → m ≡ get_or ms k m → field_at q (fields ms) ≡ Some (tree_of m.value)
+found_value q ms k m f p = value_placed q ms k m f ∙ ap (λ (x : Member). Some (tree_of x.value)) (sym p)

@@ -17,13 +17,15 @@
 //! accepted text, and its kind the one rule that, dropped alone, lets that front and the next byte begin
 //! one; `specs/Parses.antt` says so. `write`, `write_text` and `write_path` append exactly the text that is
 //! defined in `specs/JsonText.antt` and `specs/Place.antt`; after want of memory a prefix of it may have
-//! been appended. The text of a tree that is sound, as `specs/Sound.antt` says it, spells that tree.
+//! been appended. The text of a tree that is sound, as `specs/Sound.antt` says it, spells that tree. The items of an array
+//! and the members of an object are edited in place, as `specs/Editing.antt` says; when allocation fails, nothing changes.
 //!
-//! The text to believe is in `specs/`: `Tree`, `View`, `Grammar`, `Parses`, `JsonText`, `Place`. Laws of
+//! The text to believe is in `specs/`: `Tree`, `View`, `Editing`, `Grammar`, `Parses`, `JsonText`, `Place`. Laws of
 //! it: `OneTree`, `OneFault`, `Sound`, `RoundTrip`.
 #![tactic(auto)]
 
 mod copying;
+mod editing;
 mod fault;
 mod laws;
 mod paths;

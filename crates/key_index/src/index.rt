@@ -1,6 +1,7 @@
-ghost use Rattle.std.specs.Prelude.{◌≡◌, ℕ, ◌≤◌, ◌++◌, ◌∷◌, [], List, length, map, drop, OnOk, OnErr};
+ghost use Rattle.std.specs.Prelude.{◌≡◌, ℕ, ◌≤◌, ◌++◌, ◌∷◌, [], List, length, map, drop, IfOk, OnOk, OnErr};
 ghost use Rattle.key_index.specs.Keys.{LacksKey, HasDistinctKeys, place_from};
-ghost use Rattle.key_index.specs.Index.{IsIndexed};
+ghost use Rattle.key_index.specs.Index.{IsIndexed, IsTabled};
+ghost use Rattle.key_index.specs.Table.{IsTable};
 
 use crate::keyed::{Keyed, first_place};
 use crate::table::Table;
@@ -28,23 +29,9 @@ impl KeyIndex {
         requires { IsIndexed self.now (map T.key entries.now) }
         ensures { result ≡ place_from 0 key.now (map T.key entries.now) }
     {
-        if entries.len() <= FIRST {
-            return first_place(entries, key);
-        }
-        match first_place(&entries[..FIRST], key) {
-            Some(place) => Some(place),
-            None => self.find_later(entries, key),
-        }
-    }
-
-    // The place of a key behind the first `FIRST`.
-    fn find_later<T: Keyed>(&self, entries: &[T], key: &str) -> Option<usize>
-        requires { IsIndexed self.now (map T.key entries.now) }
-        ensures { result ≡ place_from FIRST key.now (drop FIRST (map T.key entries.now)) }
-    {
         match &self.table {
-            Some(table) => table.find(entries, key),
-            None => None,
+            None => first_place(entries, key),
+            Some(table) => find_tabled(table, entries, key),
         }
     }
 
@@ -75,4 +62,39 @@ impl KeyIndex {
             }
         }
     }
+
+    /// Makes the index stand for these entries, whatever it stood for. When allocation fails, entries are looked through
+    /// one by one until the next key is noted.
+    pub fn renew<T: Keyed>(&mut self, alloc: Global, entries: &[T])
+        requires { HasDistinctKeys (map T.key entries.now) }
+        ensures { IsIndexed self.new (map T.key entries.now) }
+    {
+        self.table = match table_of(alloc, entries) {
+            Ok(table) => table,
+            Err(_) => None,
+        };
+    }
+}
+
+// The place of a key among the first `FIRST` entries, else in the table.
+fn find_tabled<T: Keyed>(table: &Table, entries: &[T], key: &str) -> Option<usize>
+    requires { IsTable table.now (map T.key entries.now) }
+    ensures { result ≡ place_from 0 key.now (map T.key entries.now) }
+{
+    match first_place(&entries[..FIRST], key) {
+        Some(place) => Some(place),
+        None => table.find(entries, key),
+    }
+}
+
+// The table of entries that are more than the first `FIRST`.
+fn table_of<T: Keyed>(alloc: Global, entries: &[T]) -> Result<Option<Box<Table>>, AllocError>
+    requires { HasDistinctKeys (map T.key entries.now) }
+    ensures { IfOk result (λ table. IsTabled table (map T.key entries.now)) }
+{
+    if entries.len() <= FIRST {
+        return Ok(None);
+    }
+    let table = Table::of(alloc, entries)?;
+    Ok(Some(Box::new(alloc, table)?))
 }

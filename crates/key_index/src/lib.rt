@@ -8,11 +8,12 @@
 //! let mut index = KeyIndex::new();
 //! index.note_next(alloc, entries.as_slice(), key)?;       // the key that is added to the entries next
 //! index.find(entries.as_slice(), key);                    // Some(the place of the entry that has the key)
+//! index.renew(alloc, entries.as_slice());                 // entries of which some were taken out
 //! ```
 //!
 //! What is promised: an index that stands for a list of keys (`IsIndexed`) finds each of them at its place, and no
-//! other key. `note_next` gives the index that stands for the longer list. When allocation fails, the index stands
-//! for what it stood for.
+//! other key. `note_next` gives the index that stands for the longer list, and leaves the index as it was when
+//! allocation fails. `renew` gives one that stands for any entries, and looks through them one by one when allocation fails.
 //!
 //! The text to believe is in `specs/`: `Keys`, `Index`.
 #![tactic(auto)]
