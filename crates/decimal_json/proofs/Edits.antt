@@ -131,3 +131,15 @@ distinct_removed [] zero h = tt
 distinct_removed [] (suc j) h = tt
 distinct_removed (m ∷ ms) zero h = h.1
 distinct_removed (m ∷ ms) (suc j) h = (lacks_removed m.key ms j h.0, distinct_removed ms j h.1)
+
+lacks_inserted : (k : List ℕ) (ms : List Member) (j : ℕ) (m : Member) → m.key ≢ k → LacksKey k (members_view ms) → LacksKey k (members_view (insert ms j m))
+lacks_inserted k [] zero m other h = (other, tt)
+lacks_inserted k [] (suc j) m other h = (other, tt)
+lacks_inserted k (n ∷ ms) zero m other h = (other, h)
+lacks_inserted k (n ∷ ms) (suc j) m other h = (h.0, lacks_inserted k ms j m other h.1)
+
+pub distinct_inserted : (ms : List Member) (j : ℕ) (m : Member) → LacksKey m.key (members_view ms) → HasDistinctKeys (members_view ms) → HasDistinctKeys (members_view (insert ms j m))
+distinct_inserted [] zero m lacks h = (tt, tt)
+distinct_inserted [] (suc j) m lacks h = (tt, tt)
+distinct_inserted (n ∷ ms) zero m lacks h = (lacks, h)
+distinct_inserted (n ∷ ms) (suc j) m lacks h = (lacks_inserted n.key ms j m (λ same. lacks.0 (sym same)) h.0, distinct_inserted ms j m lacks.1 h.1)

@@ -1,6 +1,6 @@
 ghost use Rattle.std.specs.Prelude.{◌≡◌, ◌<◌, ◌≤◌, length, insert, remove, slice_set, slice_index_or, OnOk, OnErr, option_map};
 ghost use Rattle.decimal_json.specs.Editing.{moved_items, members_with, replaced_members, members_without};
-ghost use Rattle.decimal_json.specs.Tree.{field_at, fields_of};
+ghost use Rattle.decimal_json.specs.Tree.{LacksKey, field_at, fields_of};
 ghost use Rattle.decimal_json.specs.View.{tree_of};
 ghost use Rattle.decimal_json.specs.declared.tree.Member.{Member};
 
@@ -99,6 +99,23 @@ impl Members {
                 Some(value)
             }
         }
+    }
+
+    /// Puts a member before the one at a place, or last where the place is the number of members. No member may have its
+    /// key. Takes time linear in the members. An index for which there is no memory is made when the next member is
+    /// added; until then keys are looked for one by one.
+    pub fn insert_at(&mut self, place: usize, key: Text, value: Json) -> Result<(), AllocError>
+        requires within { place ≤ length self.old }
+        requires lacks { LacksKey key self.old }
+        ensures ok { OnOk result (self.new ≡ insert self.old place (key, tree_of value)) }
+        ensures err { OnErr result (self.new ≡ self.old) }
+    {
+        let Ok(()) = self.members.insert(place, Member { key, value }) else {
+            return Err(AllocError);
+        };
+        let alloc = *self.members.allocator();
+        self.index.renew(alloc, self.members.as_slice());
+        Ok(())
     }
 }
 

@@ -1,4 +1,5 @@
-ghost use Rattle.std.specs.Prelude.{◌≡◌, ℕ, ◌≤◌, ◌++◌, ◌∷◌, [], List, length, map, drop, IfOk, OnOk, OnErr};
+ghost use Rattle.std.specs.Prelude.{◌≡◌, ℕ, ◌<◌, ◌≤◌, ◌++◌, ◌∷◌, [], List, length, map, drop, IfOk, OnOk, OnErr};
+ghost use Rattle.std.specs.Result.{IsOk};
 ghost use Rattle.key_index.specs.Keys.{LacksKey, HasDistinctKeys, place_from};
 ghost use Rattle.key_index.specs.Index.{IsIndexed, IsTabled};
 ghost use Rattle.key_index.specs.Table.{IsTable};
@@ -35,7 +36,8 @@ impl KeyIndex {
         }
     }
 
-    /// Notes the key of the entry that is added behind these next. No entry may have the key.
+    /// Notes the key of the entry that is added behind these next. No entry may have the key. It takes no memory, and
+    /// can't fail, while the entries are fewer than sixteen.
     pub fn note_next<T: Keyed>(
         &mut self,
         alloc: Global,
@@ -47,6 +49,7 @@ impl KeyIndex {
         requires lacks { LacksKey key.now (map T.key entries.now) }
         ensures ok { OnOk result (IsIndexed self.new (map T.key entries.now ++ key.now ∷ [])) }
         ensures err { OnErr result (IsIndexed self.new (map T.key entries.now)) }
+        ensures few { length entries.now < 16 → IsOk result }
     {
         let place = entries.len();
         if place < FIRST {
