@@ -30,7 +30,6 @@ mod fault;
 mod laws;
 mod paths;
 mod reading;
-mod starts;
 mod texts;
 mod tokens;
 mod tree;

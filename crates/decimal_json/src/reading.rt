@@ -9,7 +9,6 @@ ghost use Rattle.decimal_json.specs.Tree.{no_trees, no_fields, trees_of, fields_
 ghost use Rattle.decimal_json.specs.View.{tree_of};
 
 use crate::fault::JsonFault;
-use crate::starts::{Start, start_of};
 use crate::tokens::{read_number, read_string, read_text, read_word};
 use crate::tree::{Items, Json, Member, Members};
 use json_tokens::{Cursor, Halt, JsonKind};
@@ -59,15 +58,15 @@ fn read_value(alloc: Global, cursor: &mut Cursor<'_>, depth: usize) -> Result<Js
     ensures gives { Gives (SpellsValue depth) tree_of cursor.old result cursor.new }
     ensures shorter { length cursor.new ≤ length cursor.old }
 {
-    match start_of(cursor.peek()) {
-        Start::List => read_list(alloc, cursor, depth),
-        Start::Object => read_object(alloc, cursor, depth),
-        Start::Text => read_text(alloc, cursor),
-        Start::Number => read_number(cursor),
-        Start::True => read_word(cursor, "true", Json::Bool(true)),
-        Start::False => read_word(cursor, "false", Json::Bool(false)),
-        Start::Null => read_word(cursor, "null", Json::Null),
-        Start::Neither => Err(Halt::Fault(JsonKind::Syntax)),
+    match cursor.peek() {
+        Some(b'[') => read_list(alloc, cursor, depth),
+        Some(b'{') => read_object(alloc, cursor, depth),
+        Some(b'"') => read_text(alloc, cursor),
+        Some(b't') => read_word(cursor, "true", Json::Bool(true)),
+        Some(b'f') => read_word(cursor, "false", Json::Bool(false)),
+        Some(b'n') => read_word(cursor, "null", Json::Null),
+        Some(byte) if byte == b'-' || byte.is_ascii_digit() => read_number(cursor),
+        _ => Err(Halt::Fault(JsonKind::Syntax)),
     }
 }
 
