@@ -12,8 +12,9 @@
 //! ```
 //!
 //! What is promised: an index that stands for a list of keys (`IsIndexed`) finds each of them at its place, and no
-//! other key. `note_next` gives the index that stands for the longer list, and leaves the index as it was when
-//! allocation fails. `renew` gives one that stands for any entries, and looks through them one by one when allocation fails.
+//! other key. `note_next` gives the index that stands for the longer list, or one that still stands for the list as it is:
+//! never while the list has fewer than sixteen keys, and else when allocation fails. `renew` gives one that stands for any
+//! entries, and looks through them one by one when allocation fails.
 //!
 //! The text to believe is in `specs/`: `Keys`, `Index`.
 #![tactic(auto)]
