@@ -1,0 +1,10 @@
+//! Tests of public calls that no command of the program reaches: files, streams, steps, and tests on texts.
+//!
+//! A row that a command reaches stands in `worked_rows`, where it costs no proof. Here each call that can lack memory is made
+//! once with ample memory, and its answer is compared. Rows are constants, since each one in a function's body costs proof.
+#![tactic(auto)]
+
+#[cfg(test)]
+mod host_calls;
+#[cfg(test)]
+mod io_calls;
