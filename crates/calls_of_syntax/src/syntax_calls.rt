@@ -1,0 +1,148 @@
+//! Calls of `expr_syntax`: the table of operators.
+
+use expr_syntax::{Layout, Name, Place, Wanted, Wants, operator_named};
+use prop_values::Want;
+
+const NAMES: [(&'static str, Option<Name>); 10] = [
+    ("get", Some(Name::Get)),
+    ("==", Some(Name::Equal)),
+    ("!", Some(Name::Not)),
+    ("is-supported-script", Some(Name::IsSupportedScript)),
+    ("^", Some(Name::Power)),
+    ("accumulated", Some(Name::Accumulated)),
+    ("", None),
+    ("Get", None),
+    ("get ", None),
+    ("=", None),
+];
+
+#[test]
+fn names(rt: HostRuntime) {
+    for (text, name) in NAMES {
+        assert!(rt; operator_named(text) == name, "at {text}");
+    }
+}
+
+const OUTSIDE: [(&'static str, bool); 6] = [
+    ("upcase", true),
+    ("collator", true),
+    ("interpolate-hcl", true),
+    ("line-progress", true),
+    ("interpolate", false),
+    ("image", false),
+];
+
+fn is_outside(text: &str) -> Option<bool> {
+    Some(operator_named(text)?.row().is_outside)
+}
+
+#[test]
+fn names_outside(rt: HostRuntime) {
+    for (text, outside) in OUTSIDE {
+        assert!(rt; is_outside(text) == Some(outside), "at {text}");
+    }
+}
+
+// Each number of arguments that an operator may have, and those beside it.
+const ARITIES: [(&'static str, [bool; 6]); 14] = [
+    ("literal", [false, true, false, false, false, false]),
+    ("array", [false, true, true, true, false, false]),
+    ("number", [false, true, true, true, true, true]),
+    ("get", [false, true, true, false, false, false]),
+    ("id", [true, false, false, false, false, false]),
+    ("index-of", [false, false, true, true, false, false]),
+    ("==", [false, false, true, false, false, false]),
+    ("all", [true, true, true, true, true, true]),
+    ("case", [false, false, false, true, false, true]),
+    ("match", [false, false, false, false, true, false]),
+    ("step", [false, false, false, false, true, false]),
+    ("let", [false, false, false, true, false, true]),
+    ("-", [false, true, true, false, false, false]),
+    ("rgb", [false, false, false, true, true, false]),
+];
+
+fn allows(text: &str, elements: usize) -> Option<bool> {
+    Some(operator_named(text)?.row().arity.allows(elements))
+}
+
+#[test]
+fn numbers_of_arguments(rt: HostRuntime) {
+    for (text, [none, one, two, three, four, five]) in ARITIES {
+        assert!(rt; allows(text, 0) == Some(none), "{text} of 0");
+        assert!(rt; allows(text, 1) == Some(one), "{text} of 1");
+        assert!(rt; allows(text, 2) == Some(two), "{text} of 2");
+        assert!(rt; allows(text, 3) == Some(three), "{text} of 3");
+        assert!(rt; allows(text, 4) == Some(four), "{text} of 4");
+        assert!(rt; allows(text, 5) == Some(five), "{text} of 5");
+    }
+}
+
+// A layout, the number of elements with the name, the place of one, and what it is.
+const PLACES: [(Layout, usize, u16, Place); 18] = [
+    (Layout::Arguments, 2, 0, Place::Part),
+    (Layout::Arguments, 2, 1, Place::Argument),
+    (Layout::Choices, 2, 1, Place::Output),
+    (Layout::Value, 2, 1, Place::Part),
+    (Layout::Items, 2, 1, Place::Argument),
+    (Layout::Items, 4, 2, Place::Part),
+    (Layout::Items, 4, 3, Place::Argument),
+    (Layout::Cases, 4, 1, Place::Argument),
+    (Layout::Cases, 4, 2, Place::Output),
+    (Layout::Cases, 4, 3, Place::Output),
+    (Layout::Labels, 5, 1, Place::Argument),
+    (Layout::Labels, 5, 2, Place::Part),
+    (Layout::Labels, 5, 4, Place::Output),
+    (Layout::Stops, 5, 2, Place::Output),
+    (Layout::Stops, 5, 3, Place::Part),
+    (Layout::Ramp, 5, 1, Place::Part),
+    (Layout::Bindings, 4, 1, Place::Part),
+    (Layout::Bindings, 4, 3, Place::Output),
+];
+
+fn place_of(layout: Layout, elements: usize, at: u16) -> Place {
+    layout.place(elements, usize::from(at))
+}
+
+#[test]
+fn places_of_elements(rt: HostRuntime) {
+    for (layout, elements, at, place) in PLACES {
+        assert!(rt; place_of(layout, elements, at) == place, "{layout:?} {at}");
+    }
+}
+
+// Wants, the number of arguments, one of them, and what it is wanted as.
+const WANTED: [(Wants, usize, u16, Wanted); 9] = [
+    (Wants::Each(Want::Text), 3, 2, Wanted::Own(Want::Text)),
+    (
+        Wants::Then(Want::Text, Want::Object),
+        2,
+        0,
+        Wanted::Own(Want::Text),
+    ),
+    (
+        Wants::Then(Want::Text, Want::Object),
+        2,
+        1,
+        Wanted::Own(Want::Object),
+    ),
+    (Wants::Conditions, 3, 0, Wanted::Own(Want::Boolean)),
+    (Wants::Conditions, 3, 1, Wanted::OfNode),
+    (Wants::Conditions, 3, 2, Wanted::OfNode),
+    (Wants::Input(Want::Number), 4, 0, Wanted::Own(Want::Number)),
+    (Wants::Input(Want::Number), 4, 1, Wanted::OfNode),
+    (Wants::Bindings, 2, 0, Wanted::Own(Want::Any)),
+];
+
+fn wanted_of(wants: Wants, arguments: usize, argument: u16) -> Wanted {
+    wants.wanted(arguments, usize::from(argument))
+}
+
+#[test]
+fn wants_of_arguments(rt: HostRuntime) {
+    for (wants, arguments, argument, wanted) in WANTED {
+        assert!(rt;
+            wanted_of(wants, arguments, argument) == wanted,
+            "{wants:?} {argument}"
+        );
+    }
+}
