@@ -1,0 +1,12 @@
+//! Tests of public calls that no command of the program reaches: rows of the property
+//! table, their literals, and values fitted to wants.
+//!
+//! A row that a command reaches stands in `worked_rows`, where it costs no proof. Here each call that can lack
+//! memory is made once with ample memory, and its answer is compared. Rows are constants, since each one in a
+//! function's body costs proof.
+#![tactic(auto)]
+
+#[cfg(test)]
+mod row_calls;
+#[cfg(test)]
+mod table_calls;
