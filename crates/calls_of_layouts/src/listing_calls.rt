@@ -241,7 +241,7 @@ const LAYERS: [(&'static str, LayerType, Show, &'static str); 7] = [
 
 const ONE: [Named; 1] = [("v", Listed::Json("1"))];
 
-const TWO: [Named; 1] = [("v", Listed::Json("2"))];
+const POINT: [FeatureRow<'static>; 1] = [(0, Some(7), Shape::Point, &[("v", Listed::Json("2"))])];
 
 fn is_layer(
     alloc: Global,
@@ -251,8 +251,7 @@ fn is_layer(
     lines: &str,
 ) -> Result<bool, AllocError> {
     let listing = format!(in alloc; "zoom 0\n{lines}end\n")?;
-    let features = [(0, Some(7), Shape::Point, TWO.as_slice())];
-    let row = (id, layer_type, show, ONE.as_slice(), features.as_slice());
+    let row = (id, layer_type, show, ONE.as_slice(), POINT.as_slice());
     lists(alloc, "0", &[row], listing.as_str())
 }
 
@@ -267,45 +266,30 @@ fn layers(rt: HostRuntime) -> Result<(), Fail> {
     Ok(())
 }
 
-const FEATURES: [(u32, Option<u64>, Shape, &'static str); 5] = [
-    (0, None, Shape::Unknown, "0 Unknown"),
-    (9, Some(0), Shape::Point, "9 Point id 0"),
-    (10, Some(10), Shape::LineString, "10 LineString id 10"),
-    (4_000_000, None, Shape::Polygon, "4000000 Polygon"),
+const FEATURES: [([FeatureRow<'static>; 1], &'static str); 5] = [
+    ([(0, None, Shape::Unknown, &[])], "0 Unknown"),
+    ([(9, Some(0), Shape::Point, &[])], "9 Point id 0"),
     (
-        u32::MAX,
-        Some(u64::MAX),
-        Shape::Polygon,
+        [(10, Some(10), Shape::LineString, &[])],
+        "10 LineString id 10",
+    ),
+    ([(4_000_000, None, Shape::Polygon, &[])], "4000000 Polygon"),
+    (
+        [(u32::MAX, Some(u64::MAX), Shape::Polygon, &[])],
         "4294967295 Polygon id 18446744073709551615",
     ),
 ];
 
-fn is_feature(
-    alloc: Global,
-    number: u32,
-    id: Option<u64>,
-    shape: Shape,
-    text: &str,
-) -> Result<bool, AllocError> {
+fn is_feature(alloc: Global, features: &[FeatureRow<'_>], text: &str) -> Result<bool, AllocError> {
     let listing = format!(in alloc; "zoom 0\nlayer \"l\" line\n  feature {text}\nend\n")?;
-    let features = [(number, id, shape, [].as_slice())];
-    let row = (
-        "l",
-        LayerType::Line,
-        Show::Plain,
-        [].as_slice(),
-        features.as_slice(),
-    );
+    let row = ("l", LayerType::Line, Show::Plain, [].as_slice(), features);
     lists(alloc, "0", &[row], listing.as_str())
 }
 
 #[test]
 fn features(rt: HostRuntime) -> Result<(), Fail> {
-    for (number, id, shape, text) in FEATURES {
-        assert!(rt;
-            is_feature(rt.alloc(), number, id, shape, text)?,
-            "as {text}"
-        );
+    for (features, text) in FEATURES {
+        assert!(rt; is_feature(rt.alloc(), &features, text)?, "as {text}");
     }
     Ok(())
 }
