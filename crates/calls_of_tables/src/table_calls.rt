@@ -2,7 +2,7 @@
 
 use color_values::read_color;
 use decimal_json::parse;
-use prop_values::{Choice, Item, Value, Want, from_json, write_listed};
+use prop_values::{Choice, Item, PackedColor, Value, Want, from_json, write_listed};
 use property_tables::{LayerType, fit};
 use std::alloc::{AllocError, Global};
 use std::test::Fail;
@@ -11,7 +11,10 @@ use std::test::Fail;
 fn value_of(alloc: Global, text: &str) -> Result<Option<Value>, AllocError> {
     match parse(alloc, text.as_bytes())? {
         Ok(json) => Ok(from_json(alloc, &json)?.ok()),
-        Err(_) => Ok(read_color(text).map(Value::Color)),
+        Err(_) => match read_color(text) {
+            Some(color) => Ok(Some(Value::Color(PackedColor::of(&color)))),
+            None => Ok(None),
+        },
     }
 }
 

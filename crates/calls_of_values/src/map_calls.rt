@@ -70,7 +70,7 @@ fn maps_shared(rt: HostRuntime) -> Result<(), Fail> {
 #[test]
 fn maps_copied(rt: HostRuntime) -> Result<(), Fail> {
     let map = Value::Map(SharedEntries::of(rt.alloc(), twenty(rt.alloc())?)?);
-    let same = copy(rt.alloc(), &map)?;
+    let same = copy(&map)?;
     assert!(rt; equals(&map, &same));
     Ok(())
 }

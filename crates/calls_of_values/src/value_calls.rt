@@ -1,10 +1,11 @@
 //! Calls of `prop_values`: values that JSON texts say.
 
+use color_values::read_color;
 use decimal_json::parse;
-use fixed_num::{Color, Fixed, NumFault};
+use fixed_num::NumFault;
 use prop_values::{
-    Choice, Value, Values, equals, from_json, kind_text, order, to_text, truth, write_color,
-    write_listed,
+    Choice, PackedColor, Value, Values, equals, from_json, kind_text, order, to_text, truth,
+    write_color, write_listed,
 };
 use std::alloc::{AllocError, Global};
 use std::cmp::Ordering;
@@ -115,30 +116,18 @@ fn numbers_past_the_bound(rt: HostRuntime) -> Result<(), Fail> {
     Ok(())
 }
 
-// Black of half opacity.
-fn black() -> Option<Color> {
-    let none = Fixed::from_millionths(0)?;
-    let half = Fixed::from_millionths(500_000)?;
-    Some(Color {
-        r: none,
-        g: none,
-        b: none,
-        a: half,
-    })
-}
-
 // Within a list a color is a text, and alone it is bare.
 #[test]
 fn texts_of_colors(rt: HostRuntime) -> Result<(), Fail> {
-    let Some(color) = black() else {
+    let Some(color) = read_color("rgba(0,0,0,0.5)") else {
         return Err(Fail::new("no color"));
     };
     let mut values = Values::new(rt.alloc());
-    values.push(Value::Color(color))?;
+    values.push(Value::Color(PackedColor::of(&color)))?;
     let text = to_text(rt.alloc(), &Value::List(values))?;
     assert!(rt; text.as_str() == "[\"rgba(0,0,0,0.5)\"]");
     let mut out = Vec::new(rt.alloc());
-    write_listed(&Value::Color(color), &mut out)?;
+    write_listed(&Value::Color(PackedColor::of(&color)), &mut out)?;
     assert!(rt; out.as_slice() == b"rgba(0,0,0,0.5)".as_slice());
     write_color(&color, &mut out)?;
     assert!(rt; out.as_slice() == b"rgba(0,0,0,0.5)rgba(0,0,0,0.5)".as_slice());
