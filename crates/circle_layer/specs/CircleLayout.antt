@@ -8,7 +8,7 @@ use Rattle.property_tables.specs.declared.layer_type.LayerType.TheVariants.{Circ
 use Rattle.tile_reader.specs.declared.tile.Feature.{Feature}
 use Rattle.tile_reader.specs.declared.tile.TileLayer.{TileLayer}
 use Rattle.expr_syntax.specs.Term.{Term}
-use Rattle.dependency_sets.specs.Mentioned.{mentions}
+use Rattle.expr_syntax.specs.Mentioned.{mentions}
 use Rattle.eval_face.specs.Meaning.{mean}
 use Rattle.eval_face.specs.World.{World, feature_world, no_feature}
 use Rattle.expr_plain.specs.Resolved.{resolved, passes}

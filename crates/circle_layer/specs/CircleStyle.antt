@@ -6,8 +6,9 @@ use Rattle.fixed_num.specs.Decimal.{read_text}
 use Rattle.fixed_num.specs.declared.decimal.NumFault.{NumFault}
 use Rattle.decimal_json.specs.Tree.{Tree, number, text, list, object, no_trees, tree, Fields, no_fields, field, field_at}
 use Rattle.prop_values.specs.Data as values
-use Rattle.expr_syntax.specs.Reading.{node_of_items}
+use Rattle.expr_syntax.specs.Reading.{Reading, reading}
 use Rattle.expr_syntax.specs.Term.{Term, literal}
+use Rattle.eval_face.specs.Operators.{is_built}
 use Rattle.legacy_filters.specs.Split.{is_legacy}
 
 -- the style, as far as its layout reads it
@@ -56,9 +57,18 @@ layer_of _ = None
 abbrev pub has_no_more : Fields → Bool
 has_no_more fs = not (is_some (field_at (codes "minzoom") fs)) && (not (is_some (field_at (codes "maxzoom") fs)) && (not (is_some (field_at (codes "layout") fs)) && not (is_some (field_at (codes "ref") fs))))
 
+-- an expression whose meaning is written down
+abbrev pub built_term : Reading → Option Term
+built_term (Ok (Some t)) = if is_built t then Some t else None
+built_term (Ok None) = None
+built_term (Err fault) = None
+
+abbrev pub expression_of : Tree → Option Term
+expression_of t = built_term (reading t)
+
 -- a filter is an array that is an expression by the split of filters
 abbrev pub filter_term : Tree → Option Term
-filter_term (list ts) = if is_legacy (list ts) then None else node_of_items ts
+filter_term (list ts) = if is_legacy (list ts) then None else expression_of (list ts)
 filter_term _ = None
 
 abbrev pub filter_of : Option Tree → Option (Option Term)
@@ -72,7 +82,7 @@ radius_number (Err fault) = None
 
 abbrev pub radius_term : Tree → Option Term
 radius_term (number n) = radius_number (read_text n)
-radius_term (list ts) = node_of_items ts
+radius_term (list ts) = expression_of (list ts)
 radius_term _ = None
 
 -- a paint without members, or with the radius alone

@@ -2,13 +2,14 @@
 
 ghost use Rattle.std.specs.Prelude.{◌≡◌, IfOk, Some, option_map};
 ghost use Rattle.decimal_json.specs.View.{tree_of};
-ghost use Rattle.expr_syntax.specs.Reading.{expression_of};
+ghost use Rattle.expr_syntax.specs.ReadView.{reading_of};
 ghost use Rattle.expr_syntax.specs.TermView.{term_of};
-ghost use Rattle.circle_layer.specs.CircleStyle.{is_word, text_of};
+ghost use Rattle.circle_layer.specs.CircleStyle.{is_word, text_of, built_term, expression_of};
 ghost use Rattle.circle_layer.specs.StyleView.{tree_at, terms_at};
 
 use decimal_json::{Json, Text};
-use expr_syntax::{Expr, read_expr};
+use expr_plain::is_built;
+use expr_syntax::{Expr, Reading, SynFault, read_expr};
 use std::alloc::{AllocError, Global};
 
 pub(crate) fn is_word(word: &str, json: Option<&Json>) -> bool
@@ -32,7 +33,24 @@ pub(crate) fn text_of(json: Option<&Json>) -> Option<&Text>
 pub(crate) fn read_expression(alloc: Global, json: &Json) -> Result<Option<Expr>, AllocError>
     ensures { IfOk result (λ read. option_map term_of read ≡ expression_of (tree_of json.now)) }
 {
-    Ok(read_expr(alloc, json)?.ok())
+    Ok(built(read_expr(alloc, json)?))
+}
+
+// An expression whose meaning is written down.
+fn built(read: Result<Reading, SynFault>) -> Option<Expr>
+    ensures { option_map term_of result ≡ built_term (reading_of read) }
+{
+    match read {
+        Ok(Reading::Inside(expression)) => {
+            if is_built(&expression) {
+                Some(expression)
+            } else {
+                None
+            }
+        }
+        Ok(Reading::Outside) => None,
+        Err(_) => None,
+    }
 }
 
 // What is read of a member that is there, by the expression that it is.

@@ -136,10 +136,26 @@ fn style_of_parts(
 ) -> Result<Option<CircleStyle>, AllocError>
     ensures { IfOk result (λ style. option_map form_of style ≡ form_of_parts source.now (option_map (λ text. text.now) id.entry) (option_map (λ text. text.now) source_layer.entry) (terms_at filter) (terms_at radius)) }
 {
-    let (Some(id), Some(source_layer)) = (id, source_layer) else {
+    match (id, source_layer) {
+        (Some(id), Some(source_layer)) => style_of_terms(source, id, source_layer, filter, radius),
+        (Some(_), None) => Ok(None),
+        (None, _) => Ok(None),
+    }
+}
+
+fn style_of_terms(
+    source: &Text,
+    id: &Text,
+    source_layer: &Text,
+    filter: Option<Option<Expr>>,
+    radius: Option<Option<Expr>>,
+) -> Result<Option<CircleStyle>, AllocError>
+    ensures { IfOk result (λ style. option_map form_of style ≡ form_of_parts source.now (Some id.now) (Some source_layer.now) (terms_at filter) (terms_at radius)) }
+{
+    let Some(filter) = filter else {
         return Ok(None);
     };
-    let (Some(filter), Some(radius)) = (filter, radius) else {
+    let Some(radius) = radius else {
         return Ok(None);
     };
     Ok(Some(CircleStyle {

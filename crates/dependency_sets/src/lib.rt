@@ -4,14 +4,11 @@
 //! mentions(&expression).feature    // true of ["<",["number",["get","r"]],10]
 //! ```
 //!
-//! What is promised: `mentions` gives exactly what `specs/Mentioned.antt` defines: what one of the expression's nodes reads, whether it
-//! is ever evaluated or not. It takes no memory, and its recursion is as deep as the expression.
-//!
-//! The text to believe is in `specs/`: `Mentioned`.
+//! Promised: `mentions` gives exactly what `specs/Mentioned.antt` of `expr_syntax` defines: what one of the expression's nodes
+//! reads, whether it is ever evaluated or not. It takes no memory, and its recursion is as deep as the expression.
 #![tactic(auto)]
 
 mod mentioned;
-mod world_parts;
 
+pub use expr_syntax::Mentions;
 pub use mentioned::mentions;
-pub use world_parts::Mentions;

@@ -1,9 +1,8 @@
 ghost use Rattle.std.specs.Prelude.{◌≡◌};
+ghost use Rattle.expr_syntax.specs.Mentioned.{nothing, either, reads_of, of_operator, count, mentions, all_mentions};
 ghost use Rattle.expr_syntax.specs.TermView.{term_of, terms};
-ghost use Rattle.dependency_sets.specs.Mentioned.{nothing, either, of_operator, mentions, all_mentions};
 
-use crate::world_parts::Mentions;
-use expr_syntax::{Expr, Operator};
+use expr_syntax::{Expr, Mentions, Operator, Reads};
 
 /// What an expression reads of the world.
 #[tactic(auto, using(expr_syntax::specs::Falls::argument_weight))]
@@ -13,7 +12,10 @@ pub fn mentions(expression: &Expr) -> Mentions
 {
     match expression {
         Expr::Literal(_) => NOTHING,
-        Expr::Node(op, arguments) => either(of_operator(*op), all_mentions(arguments.as_slice())),
+        Expr::Node(op, arguments) => {
+            let arguments = arguments.as_slice();
+            either(of_operator(op, arguments), all_mentions(arguments))
+        }
     }
 }
 
@@ -47,20 +49,39 @@ fn either(a: Mentions, b: Mentions) -> Mentions
     }
 }
 
-fn of_operator(op: Operator) -> Mentions
-    ensures { result ≡ of_operator op }
+// What an operator itself reads, with these arguments.
+#[tactic(auto, using(expr_syntax::specs::Falls::count_terms))]
+fn of_operator(op: &Operator, arguments: &[Expr]) -> Mentions
+    ensures { result ≡ of_operator op.now (count (terms arguments.now)) }
 {
-    match op {
-        Operator::Get => Mentions {
+    reads_of(op.row().reads, arguments.len())
+}
+
+fn reads_of(reads: Reads, arguments: usize) -> Mentions
+    ensures { result ≡ reads_of reads arguments }
+{
+    match reads {
+        Reads::Nothing => NOTHING,
+        Reads::Zoom => Mentions {
+            zoom: true,
+            ..NOTHING
+        },
+        Reads::Feature => Mentions {
             feature: true,
             ..NOTHING
         },
-        Operator::Number
-        | Operator::Equal
-        | Operator::Less
-        | Operator::Case
-        | Operator::Add
-        | Operator::Multiply
-        | Operator::Subtract => NOTHING,
+        Reads::FeatureAlone if arguments <= 1 => Mentions {
+            feature: true,
+            ..NOTHING
+        },
+        Reads::FeatureAlone => NOTHING,
+        Reads::State => Mentions {
+            state: true,
+            ..NOTHING
+        },
+        Reads::Images => Mentions {
+            image: true,
+            ..NOTHING
+        },
     }
 }

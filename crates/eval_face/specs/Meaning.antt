@@ -100,13 +100,12 @@ difference_of _ = Err WrongType
 -- An operator that evaluates all its arguments, on their values. Each reads only what it needs of the world.
 abbrev pub apply : Operator → List Data → World → Evaluated
 apply Get ds world = get_of world.properties ds
-apply Number ds world = Err WrongType
 apply Equal ds world = equal_of ds
 apply Less ds world = less_of ds
-apply Case ds world = Err WrongType
 apply Add ds world = sum_of ds
 apply Multiply ds world = product_of ds
 apply Subtract ds world = difference_of ds
+apply _ ds world = Err WrongType
 
 abbrev pub strict_of : Operator → List Meaning → Meaning
 strict_of op ms want names world = then_values (values_of op 0 ms names world) (λ ds. then_value (apply op ds world) (fit want))

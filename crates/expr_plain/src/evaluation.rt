@@ -50,9 +50,7 @@ fn evaluate<I: TextTest, S: TextTest>(
 {
     match expression {
         Expr::Literal(value) => fit(alloc, copy(value)?, want),
-        Expr::Node(op, arguments) => {
-            evaluate_node(alloc, *op, arguments.as_slice(), want, world)
-        }
+        Expr::Node(op, arguments) => evaluate_node(alloc, op, arguments.as_slice(), want, world),
     }
 }
 
@@ -60,12 +58,12 @@ fn evaluate<I: TextTest, S: TextTest>(
 #[cycle(evaluation)]
 fn evaluate_node<I: TextTest, S: TextTest>(
     alloc: Global,
-    op: Operator,
+    op: &Operator,
     arguments: &[Expr],
     want: &Want,
     world: &World<'_, '_, I, S>,
 ) -> Result<Result<Value, EvalFault>, AllocError>
-    ensures { IfOk result (λ evaluated. evaluated_of evaluated ≡ node_meaning op (meanings arguments.now) want.now [] (world_of world.now.context.now (I.holds world.now.images.now) (S.holds world.now.scripts.now))) }
+    ensures { IfOk result (λ evaluated. evaluated_of evaluated ≡ node_meaning op.now (meanings arguments.now) want.now [] (world_of world.now.context.now (I.holds world.now.images.now) (S.holds world.now.scripts.now))) }
 {
     match manner_of(op) {
         Manner::Each => evaluate_strict(alloc, op, arguments, want, world),
@@ -82,12 +80,12 @@ fn evaluate_node<I: TextTest, S: TextTest>(
 #[cycle(evaluation)]
 fn evaluate_strict<I: TextTest, S: TextTest>(
     alloc: Global,
-    op: Operator,
+    op: &Operator,
     arguments: &[Expr],
     want: &Want,
     world: &World<'_, '_, I, S>,
 ) -> Result<Result<Value, EvalFault>, AllocError>
-    ensures { IfOk result (λ evaluated. evaluated_of evaluated ≡ strict_of op (meanings arguments.now) want.now [] (world_of world.now.context.now (I.holds world.now.images.now) (S.holds world.now.scripts.now))) }
+    ensures { IfOk result (λ evaluated. evaluated_of evaluated ≡ strict_of op.now (meanings arguments.now) want.now [] (world_of world.now.context.now (I.holds world.now.images.now) (S.holds world.now.scripts.now))) }
 {
     match arguments {
         [only] => evaluate_one(alloc, op, only, want, world),
@@ -103,12 +101,12 @@ fn evaluate_strict<I: TextTest, S: TextTest>(
 #[cycle(evaluation)]
 fn evaluate_one<I: TextTest, S: TextTest>(
     alloc: Global,
-    op: Operator,
+    op: &Operator,
     argument: &Expr,
     want: &Want,
     world: &World<'_, '_, I, S>,
 ) -> Result<Result<Value, EvalFault>, AllocError>
-    ensures { IfOk result (λ evaluated. evaluated_of evaluated ≡ strict_of op (mean (term_of argument.now) ∷ []) want.now [] (world_of world.now.context.now (I.holds world.now.images.now) (S.holds world.now.scripts.now))) }
+    ensures { IfOk result (λ evaluated. evaluated_of evaluated ≡ strict_of op.now (mean (term_of argument.now) ∷ []) want.now [] (world_of world.now.context.now (I.holds world.now.images.now) (S.holds world.now.scripts.now))) }
 {
     match evaluate(alloc, argument, &wanted(op, 0), world)? {
         Ok(value) => finished(alloc, op, &[value], want, world),
@@ -120,13 +118,13 @@ fn evaluate_one<I: TextTest, S: TextTest>(
 #[cycle(evaluation)]
 fn evaluate_two<I: TextTest, S: TextTest>(
     alloc: Global,
-    op: Operator,
+    op: &Operator,
     first: &Expr,
     second: &Expr,
     want: &Want,
     world: &World<'_, '_, I, S>,
 ) -> Result<Result<Value, EvalFault>, AllocError>
-    ensures { IfOk result (λ evaluated. evaluated_of evaluated ≡ strict_of op (mean (term_of first.now) ∷ mean (term_of second.now) ∷ []) want.now [] (world_of world.now.context.now (I.holds world.now.images.now) (S.holds world.now.scripts.now))) }
+    ensures { IfOk result (λ evaluated. evaluated_of evaluated ≡ strict_of op.now (mean (term_of first.now) ∷ mean (term_of second.now) ∷ []) want.now [] (world_of world.now.context.now (I.holds world.now.images.now) (S.holds world.now.scripts.now))) }
 {
     match evaluate(alloc, first, &wanted(op, 0), world)? {
         Ok(a) => match evaluate(alloc, second, &wanted(op, 1), world)? {
@@ -141,11 +139,11 @@ fn evaluate_two<I: TextTest, S: TextTest>(
 #[cycle(evaluation)]
 fn evaluate_values<I: TextTest, S: TextTest>(
     alloc: Global,
-    op: Operator,
+    op: &Operator,
     arguments: &[Expr],
     world: &World<'_, '_, I, S>,
 ) -> Result<Result<Vec<Value>, EvalFault>, AllocError>
-    ensures { IfOk result (λ values. listed values ≡ values_of op 0 (meanings arguments.now) [] (world_of world.now.context.now (I.holds world.now.images.now) (S.holds world.now.scripts.now))) }
+    ensures { IfOk result (λ values. listed values ≡ values_of op.now 0 (meanings arguments.now) [] (world_of world.now.context.now (I.holds world.now.images.now) (S.holds world.now.scripts.now))) }
 {
     let mut values = Vec::new(alloc);
     for (i, argument) in arguments.iter().enumerate() {
@@ -203,12 +201,12 @@ fn evaluate_case<I: TextTest, S: TextTest>(
 
 fn finished_all<I: TextTest, S: TextTest>(
     alloc: Global,
-    op: Operator,
+    op: &Operator,
     values: Result<Vec<Value>, EvalFault>,
     want: &Want,
     world: &World<'_, '_, I, S>,
 ) -> Result<Result<Value, EvalFault>, AllocError>
-    ensures { IfOk result (λ evaluated. evaluated_of evaluated ≡ then_values (listed values) (λ ds. then_value (apply op ds (world_of world.now.context.now (I.holds world.now.images.now) (S.holds world.now.scripts.now))) (fit want.now))) }
+    ensures { IfOk result (λ evaluated. evaluated_of evaluated ≡ then_values (listed values) (λ ds. then_value (apply op.now ds (world_of world.now.context.now (I.holds world.now.images.now) (S.holds world.now.scripts.now))) (fit want.now))) }
 {
     match values {
         Ok(values) => finished(alloc, op, values.as_slice(), want, world),
@@ -218,12 +216,12 @@ fn finished_all<I: TextTest, S: TextTest>(
 
 fn finished<I: TextTest, S: TextTest>(
     alloc: Global,
-    op: Operator,
+    op: &Operator,
     values: &[Value],
     want: &Want,
     world: &World<'_, '_, I, S>,
 ) -> Result<Result<Value, EvalFault>, AllocError>
-    ensures { IfOk result (λ evaluated. evaluated_of evaluated ≡ then_value (apply op (values_view values.now) (world_of world.now.context.now (I.holds world.now.images.now) (S.holds world.now.scripts.now))) (fit want.now)) }
+    ensures { IfOk result (λ evaluated. evaluated_of evaluated ≡ then_value (apply op.now (values_view values.now) (world_of world.now.context.now (I.holds world.now.images.now) (S.holds world.now.scripts.now))) (fit want.now)) }
 {
     then_fitted(alloc, applied(alloc, op, values, world)?, want)
 }

@@ -10,7 +10,8 @@
 //!
 //! What is promised, for all expressions, wants, contexts and tests: `eval_plain` gives exactly the value or the fault that is the
 //! expression's meaning, `mean` of `eval_face`, with no names bound around it, unless memory lacks. `resolved` and `passes`
-//! are the definitions of `specs/Resolved.antt`.
+//! are the definitions of `specs/Resolved.antt`. `is_built` says exactly whether the meaning of each node is written down so far;
+//! a node of another operator is `WrongType`.
 //!
 //! Arguments are evaluated from left to right, each fitted to its want at once, and the first fault ends the evaluation. `case` evaluates
 //! one branch alone, and `number` nothing behind the first number. Texts are shared and not copied; lists and maps of literals and
@@ -24,6 +25,7 @@
 #![tactic(auto)]
 
 mod arithmetic;
+mod built;
 mod comparisons;
 mod evaluation;
 mod features;
@@ -31,5 +33,6 @@ mod operators;
 mod outcome;
 mod world;
 
+pub use built::is_built;
 pub use evaluation::eval_plain;
 pub use outcome::{passes, resolved};

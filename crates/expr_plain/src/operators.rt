@@ -27,54 +27,45 @@ pub(crate) enum Manner {
     Branch,
 }
 
-pub(crate) fn manner_of(op: Operator) -> Manner
-    ensures { result ≡ manner_of op }
+pub(crate) fn manner_of(op: &Operator) -> Manner
+    ensures { result ≡ manner_of op.now }
 {
     match op {
-        Operator::Get => Manner::Each,
         Operator::Number => Manner::FirstNumber,
-        Operator::Equal => Manner::Each,
-        Operator::Less => Manner::Each,
         Operator::Case => Manner::Branch,
-        Operator::Add => Manner::Each,
-        Operator::Multiply => Manner::Each,
-        Operator::Subtract => Manner::Each,
+        _ => Manner::Each,
     }
 }
 
 /// What the argument of a place, counted from 0, is wanted as.
-pub(crate) fn wanted(op: Operator, place: usize) -> Want
-    ensures { result ≡ want_at op place }
+pub(crate) fn wanted(op: &Operator, place: usize) -> Want
+    ensures { result ≡ want_at op.now place }
 {
     match op {
         Operator::Get => Want::Text,
-        Operator::Number => Want::Any,
-        Operator::Equal => Want::Any,
-        Operator::Less => Want::Any,
-        Operator::Case => Want::Any,
         Operator::Add => Want::Number,
         Operator::Multiply => Want::Number,
         Operator::Subtract => Want::Number,
+        _ => Want::Any,
     }
 }
 
 /// What an operator that evaluates all its arguments gives of their values.
 pub(crate) fn applied<I: TextTest, S: TextTest>(
     alloc: Global,
-    op: Operator,
+    op: &Operator,
     values: &[Value],
     world: &World<'_, '_, I, S>,
 ) -> Result<Result<Value, EvalFault>, AllocError>
-    ensures { IfOk result (λ evaluated. evaluated_of evaluated ≡ apply op (values_view values.now) (world_of world.now.context.now (I.holds world.now.images.now) (S.holds world.now.scripts.now))) }
+    ensures { IfOk result (λ evaluated. evaluated_of evaluated ≡ apply op.now (values_view values.now) (world_of world.now.context.now (I.holds world.now.images.now) (S.holds world.now.scripts.now))) }
 {
     match op {
         Operator::Get => property(values, world.context),
-        Operator::Number => Ok(Err(EvalFault::WrongType)),
         Operator::Equal => Ok(equality(values)),
         Operator::Less => Ok(less(values)),
-        Operator::Case => Ok(Err(EvalFault::WrongType)),
         Operator::Add => Ok(total(values)),
         Operator::Multiply => Ok(product(values)),
         Operator::Subtract => Ok(difference(values)),
+        _ => Ok(Err(EvalFault::WrongType)),
     }
 }

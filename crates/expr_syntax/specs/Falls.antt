@@ -6,7 +6,8 @@ use Rattle.expr_syntax.specs.declared.expression.Expr.{Expr}
 use Rattle.expr_syntax.specs.declared.expression.Expr.TheVariants.{Literal, Node}
 use Rattle.expr_syntax.specs.declared.expression.Arguments.TheDeep.{deep-Expr}
 use Rattle.expr_syntax.specs.Term.{terms_of, nodes, terms_nodes}
-use Rattle.expr_syntax.specs.TermView.{term_of, terms_view, terms_size}
+use Rattle.expr_syntax.specs.TermView.{term_of, terms_view, terms_size, terms}
+use Rattle.expr_syntax.specs.Mentioned.{count}
 
 deep_le-nodes : (e : Expr) → deep-Expr e ≤ nodes (term_of e)
 deep_le-nodes (Literal v) = omega arith
@@ -25,3 +26,7 @@ pub argument_weight : (es : List Expr) (i : ℕ) (e : Expr) → e ≡ get_or es 
 argument_weight [] i e p h = absurd (omega arith)
 argument_weight (x ∷ es) zero e p h = let q = ap (λ y. nodes (term_of y)) p in omega arith
 argument_weight (x ∷ es) (suc i) e p h = let r = argument_weight es i e p (omega arith) in omega arith
+
+pub count_terms : (es : List Expr) → count (terms es) ≡ length es
+count_terms [] = omega arith
+count_terms (e ∷ es) = let h = count_terms es in omega arith

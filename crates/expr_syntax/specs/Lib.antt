@@ -1,11 +1,17 @@
--- To be believed: the table of operators, and which trees are expressions.
 pub mod Rows
 pub mod Names
-pub mod Term
-pub mod Reading
-pub mod TermView
-pub mod ReadView
--- What only contracts of private functions, models and proofs use.
 pub mod Slots
+pub mod FaultName
+pub mod Operators
+pub mod Elements
+pub mod Scopes
+pub mod Parts
+pub mod Seen
+pub mod Standing
+pub mod Reading
+pub mod Term
+pub mod TermView
 pub mod TermCode
 pub mod Falls
+pub mod ReadView
+pub mod Mentioned

@@ -56,7 +56,7 @@ row Interpolate = record (plain (codes "interpolate") (EvenFrom 4) (Input wants.
 row Let = record (plain (codes "let") (OddFrom 3) wanting.Bindings) { layout = layouts.Bindings; manner = manners.Names }
 row Var = record (plain (codes "var") (Exactly 1) (Each wants.Any)) { layout = layouts.Variable; manner = manners.Names }
 row Zoom = record (plain (codes "zoom") (Exactly 0) (Each wants.Any)) { reads = reads.Zoom }
-row Concat = plain (codes "concat") (AtLeast 0) (Each wants.Text)
+row Concat = plain (codes "concat") (AtLeast 0) (Each wants.Any)
 row Rgb = plain (codes "rgb") (Between 3 4) (Each wants.Number)
 row Rgba = plain (codes "rgba") (Between 3 4) (Each wants.Number)
 row ToRgba = plain (codes "to-rgba") (Exactly 1) (Each wants.Color)

@@ -2,35 +2,43 @@
 //!
 //! ```text
 //! match read_expr(alloc, &json)? {
-//!     Ok(Expr::Node(Operator::Less, arguments)) => ..,     // ["<",["number",["get","r"]],10]
-//!     Ok(_) => ..,
-//!     Err(fault) => ..,                                    // fault.path, fault.code
+//!     Ok(Reading::Inside(expression)) => ..,      // ["<",["number",["get","r"]],10]
+//!     Ok(Reading::Outside) => ..,                 // ["+",1,["sqrt",4]]
+//!     Err(fault) => ..,                           // ["+",1,["foo"]]: fault.code is UnknownOperator, at fault.path, /2
 //! }
 //! ```
 //!
-//! What is promised: `read_expr` gives exactly the term that a tree is by `reading` of `specs/Reading.antt`, or its fault.
+//! What is promised, for all trees: `read_expr` and `read_with` give exactly what `specs/Reading.antt` defines. An expression with a
+//! node that is outside of what is evaluated is outside, whatever else it holds; else the first fault in document order is the
+//! answer, of two at one node the lesser; else the expression. `uses_globals` says exactly whether a `global-state` node stands in
+//! the tree, and `operator_named` which operator has a name.
 //!
-//! So far a tree is an expression where it is null, a truth value, a number within the bound, a text, or an array of an
-//! operator's name and as many expressions as the operator may have: `get` and `number` one, `==` and `<` two, `case` an odd
-//! number from three, `-` one or two, `+` and `*` any number. Every other tree has the fault `Unbuilt`.
+//! What is known of an operator stands in one place, its row in `names.rt`, which `specs/Names.antt` defines: its name, how many
+//! elements may follow, which of them are arguments, what each is wanted as, how they are evaluated, and what it reads of the world.
+//! An operator without parts has besides a line in each of the two tables of `expression.rt`; one with parts has a layout of its own.
 //!
-//! `operator_named` gives the name that a text is, among all operators of the language, and `Name::row` what the table of operators
-//! says of it (`specs/Names.antt`): its name, how many elements may follow, which of them are arguments, what each is wanted as, how
-//! they are evaluated, and what the operator reads of the world.
-//!
-//! Each text of the tree is shared and not copied. Time is linear in the tree, and the recursion is as deep as the tree.
-//!
-//! The text to believe is in `specs/`: `Rows`, `Names`, `Term`, `Reading`, `TermView`, `ReadView`.
+//! Each text of the tree is shared and not copied. Time is linear in the tree, but for the labels of a `match`, which take n log n.
+//! The recursion is as deep as the tree.
 #![tactic(auto)]
 
+mod elements;
 mod expression;
 mod fault;
+mod labels;
 mod names;
+mod parts;
 mod reading;
 mod rows;
+mod scope;
+mod sections;
+mod standing;
+mod values;
+mod world_parts;
 
 pub use expression::{Arguments, Expr, Operator};
 pub use fault::{SynCode, SynFault};
 pub use names::{Name, operator_named};
-pub use reading::read_expr;
+pub use parts::{Inputs, Label, Labelled, Labels, Names, Piece, Pieces, Role};
+pub use reading::{Reading, read_expr, read_with, uses_globals};
 pub use rows::{Arity, Layout, Manner, Place, Reads, Row, Wanted, Wants};
+pub use world_parts::Mentions;

@@ -328,7 +328,7 @@ impl Name {
                 reads: Reads::Zoom,
                 ..plain("zoom", Exactly(0), Each(Want::Any))
             },
-            Name::Concat => plain("concat", AtLeast(0), Each(Want::Text)),
+            Name::Concat => plain("concat", AtLeast(0), Each(Want::Any)),
             Name::Rgb => plain("rgb", Between(3, 4), Each(Want::Number)),
             Name::Rgba => plain("rgba", Between(3, 4), Each(Want::Number)),
             Name::ToRgba => plain("to-rgba", Exactly(1), Each(Want::Color)),

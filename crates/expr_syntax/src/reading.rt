@@ -1,109 +1,384 @@
-ghost use Rattle.std.specs.Prelude.{◌≡◌, IfOk};
-ghost use Rattle.std.specs.Option.{option_map};
-ghost use Rattle.decimal_json.specs.View.{tree_of, trees};
-ghost use Rattle.expr_syntax.specs.TermView.{term_of};
-ghost use Rattle.expr_syntax.specs.Reading.{operator_of, operator_at, number_literal, expression_of, node_of_items, arguments_of, reading};
-ghost use Rattle.expr_syntax.specs.ReadView.{reading_of};
+//! The reading of expressions from JSON.
 
+ghost use Rattle.std.specs.Prelude.{◌≡◌, IfOk, length, option_map, ◌<◌, ◌^◌, false, if◌then◌else◌};
+ghost use Rattle.decimal_json.specs.Place.{path_of};
+ghost use Rattle.decimal_json.specs.View.{tree_of, trees, fields};
+ghost use Rattle.expr_syntax.specs.Elements.{head_text, second, second_text};
+ghost use Rattle.expr_syntax.specs.Names.{row};
+ghost use Rattle.expr_syntax.specs.Parts.{operator_of};
+ghost use Rattle.expr_syntax.specs.Rows.{element_place};
+ghost use Rattle.prop_values.specs.View.{data_of};
+ghost use Rattle.expr_syntax.specs.ReadView.{read_of, reading_of};
+ghost use Rattle.expr_syntax.specs.Reading.{fault, number_read, literal_read, global_read, global_term, arguments, names_in, then_node, with_operator, options_read, sections_read, no_sections, section_read, options, is_part, node_read, array_read, read, elements, members, reading_with, reading, is_value_layout, is_global_layout};
+ghost use Rattle.expr_syntax.specs.Scopes.{scope_of, global_at};
+ghost use Rattle.expr_syntax.specs.Standing.{uses_globals};
+ghost use Rattle.expr_syntax.specs.TermView.{term_of};
+
+use crate::elements::{head_text, second, second_text};
 use crate::expression::{Arguments, Expr, Operator};
 use crate::fault::{SynCode, SynFault};
-use decimal_json::{Json, Path};
+use crate::names::{Name, operator_named};
+use crate::parts::Role;
+use crate::rows::{Layout, Place};
+use crate::scope::{Scope, global_at};
+use crate::sections::{Sections, finish_format};
+use crate::standing::{Sought, has_arity, is_format, stands};
+use crate::values::{option_named, read_operator};
+use decimal_json::{Here, Json, Member, Text, path_to};
 use fixed_num::{Fixed, NumFault, read_decimal};
-use prop_values::Value;
+use prop_values::{Entries, SharedEntries, Value, copy, from_json};
 use std::alloc::{AllocError, Global};
 
-/// The expression that a JSON tree is, or why it is none.
-pub fn read_expr(alloc: Global, json: &Json) -> Result<Result<Expr, SynFault>, AllocError>
+/// What a JSON tree that has no fault reads as.
+#[derive(Drop)]
+pub enum Reading {
+    Inside(Expr),
+    /// One of its nodes is outside of what is evaluated.
+    Outside,
+}
+
+/// What a JSON tree reads as, or its first fault, where no name of the global state has a value.
+pub fn read_expr(alloc: Global, json: &Json) -> Result<Result<Reading, SynFault>, AllocError>
     ensures { IfOk result (λ read. reading_of read ≡ reading (tree_of json.now)) }
 {
-    match read(alloc, json)? {
-        Some(expression) => Ok(Ok(expression)),
-        None => Ok(Err(SynFault {
-            path: Path::new(alloc),
-            code: SynCode::Unbuilt,
-        })),
+    let globals = Entries::new(alloc);
+    read_with(alloc, json, &globals)
+}
+
+/// What a JSON tree reads as, or its first fault, by the values of the global state. Each `global-state` node reads as `get` of
+/// its name in an object that has the name's value, or is empty where it has none.
+pub fn read_with(
+    alloc: Global,
+    json: &Json,
+    globals: &Entries,
+) -> Result<Result<Reading, SynFault>, AllocError>
+    ensures { IfOk result (λ read. reading_of read ≡ reading_with (tree_of json.now) globals.now) }
+{
+    if stands(Sought::Outside, json, true) {
+        return Ok(Ok(Reading::Outside));
+    }
+    match read_json(alloc, json, &Scope::Globals(globals), &Here::Root)? {
+        Ok(expression) => Ok(Ok(Reading::Inside(expression))),
+        Err(fault) => Ok(Err(fault)),
     }
 }
 
-#[tactic(auto, using(decimal_json::specs::Falls::item_weight, crate::proofs::ReadingLaws::after_argument))]
+/// Whether a `global-state` node stands in an expression.
+pub fn uses_globals(json: &Json) -> bool
+    ensures { result ≡ uses_globals (tree_of json.now) }
+{
+    stands(Sought::Global, json, true)
+}
+
+#[tactic(auto, using(decimal_json::specs::Falls::item_weight, decimal_json::specs::Falls::member_weight, crate::proofs::ElementLaws::readers_length))]
 #[cycle(reading)]
-fn read(alloc: Global, json: &Json) -> Result<Option<Expr>, AllocError>
-    ensures { IfOk result (λ read. option_map term_of read ≡ expression_of (tree_of json.now)) }
+fn read_json(
+    alloc: Global,
+    json: &Json,
+    scope: &Scope<'_>,
+    here: &Here<'_>,
+) -> Result<Result<Expr, SynFault>, AllocError>
+    ensures { IfOk result (λ r. read_of r ≡ read (tree_of json.now) (scope_of scope.now) (path_of here.now)) }
 {
     match json {
-        Json::Null => Ok(Some(Expr::Literal(Value::Null))),
-        Json::Bool(flag) => Ok(Some(Expr::Literal(Value::Bool(*flag)))),
-        Json::Num(number) => Ok(literal(read_decimal(number.as_str().as_bytes()))),
-        Json::Text(text) => Ok(Some(Expr::Literal(Value::Text(text.share()?)))),
-        Json::List(items) => read_node(alloc, items.as_slice()),
-        Json::Object(_) => Ok(None),
+        Json::Null => Ok(Ok(Expr::Literal(Value::Null))),
+        Json::Bool(flag) => Ok(Ok(Expr::Literal(Value::Bool(*flag)))),
+        Json::Num(number) => read_number(alloc, read_decimal(number.as_str().as_bytes()), here),
+        Json::Text(text) => Ok(Ok(Expr::Literal(Value::Text(text.share()?)))),
+        Json::List(items) => read_array(alloc, items.as_slice(), scope, here),
+        Json::Object(_) => refused(alloc, here, SynCode::BareObject),
     }
 }
 
-#[tactic(auto, using(decimal_json::specs::Falls::item_weight, crate::proofs::ReadingLaws::after_argument))]
+#[tactic(auto, using(decimal_json::specs::Falls::item_weight, decimal_json::specs::Falls::member_weight, crate::proofs::ElementLaws::readers_length))]
 #[cycle(reading)]
-fn read_node(alloc: Global, items: &[Json]) -> Result<Option<Expr>, AllocError>
-    ensures { IfOk result (λ read. option_map term_of read ≡ node_of_items (trees items.now)) }
+fn read_array(
+    alloc: Global,
+    items: &[Json],
+    scope: &Scope<'_>,
+    here: &Here<'_>,
+) -> Result<Result<Expr, SynFault>, AllocError>
+    ensures { IfOk result (λ r. read_of r ≡ array_read (head_text (trees items.now)) (trees items.now) (elements (trees items.now)) (scope_of scope.now) (path_of here.now)) }
 {
-    let [first, arguments @ ..] = items else {
-        return Ok(None);
+    let Some(text) = head_text(items) else {
+        return refused(alloc, here, SynCode::NoOperator);
     };
-    let Some(op) = operator_named(first, arguments.len()) else {
-        return Ok(None);
-    };
-    match read_arguments(alloc, arguments)? {
-        Some(arguments) => Ok(Some(Expr::Node(op, arguments))),
-        None => Ok(None),
+    match operator_named(text.as_str()) {
+        Some(name) => read_node(alloc, name, items, scope, here),
+        None => refused(alloc, here, SynCode::UnknownOperator),
     }
 }
 
-#[tactic(auto, using(decimal_json::specs::Falls::item_weight, crate::proofs::ReadingLaws::after_argument))]
+#[tactic(auto, using(decimal_json::specs::Falls::item_weight, decimal_json::specs::Falls::member_weight, crate::proofs::ElementLaws::readers_length))]
 #[cycle(reading)]
-fn read_arguments(alloc: Global, items: &[Json]) -> Result<Option<Arguments>, AllocError>
-    ensures { IfOk result (λ read. read ≡ arguments_of (trees items.now)) }
+fn read_node(
+    alloc: Global,
+    name: Name,
+    items: &[Json],
+    scope: &Scope<'_>,
+    here: &Here<'_>,
+) -> Result<Result<Expr, SynFault>, AllocError>
+    ensures { IfOk result (λ r. read_of r ≡ node_read name (trees items.now) (elements (trees items.now)) (scope_of scope.now) (path_of here.now)) }
 {
+    if !has_arity(name, items) {
+        return refused(alloc, here, SynCode::Arity);
+    }
+    if is_value(name) {
+        return read_literal(alloc, items, here);
+    }
+    if is_global(name) {
+        return read_global(alloc, items, scope, here);
+    }
+    if is_format(name) {
+        let read = read_sections(alloc, items, scope, here)?;
+        return Ok(finish_format(read));
+    }
+    match read_operator(alloc, name.row().layout, name, items, scope)? {
+        Ok(op) => {
+            let arguments = read_within(alloc, name, &op, items, &*scope, here)?;
+            Ok(finish(op, arguments))
+        }
+        Err(code) => refused(alloc, here, code),
+    }
+}
+
+// The arguments of a node, its last element inside the names that it binds.
+#[tactic(auto, using(decimal_json::specs::Falls::item_weight, decimal_json::specs::Falls::member_weight, crate::proofs::ElementLaws::readers_length))]
+#[cycle(reading)]
+fn read_within<'x>(
+    alloc: Global,
+    name: Name,
+    op: &'x Operator,
+    items: &[Json],
+    scope: &'x Scope<'x>,
+    here: &Here<'_>,
+) -> Result<Result<Arguments, SynFault>, AllocError>
+    ensures { IfOk result (λ r. r ≡ arguments (row name).layout (length items.now) 0 (elements (trees items.now)) (names_in op.now (scope_of scope.now)) (scope_of scope.now) (path_of here.now)) }
+{
+    match op {
+        Operator::Let(names) => {
+            let inner = Scope::Frame(names, &*scope);
+            read_arguments(alloc, name, items, &inner, &*scope, here)
+        }
+        _ => read_arguments(alloc, name, items, &*scope, &*scope, here),
+    }
+}
+
+#[tactic(auto, using(decimal_json::specs::Falls::item_weight, decimal_json::specs::Falls::member_weight, crate::proofs::ElementLaws::readers_length, crate::proofs::ElementLaws::after_term))]
+#[cycle(reading)]
+fn read_arguments<'x>(
+    alloc: Global,
+    name: Name,
+    items: &[Json],
+    inner: &'x Scope<'x>,
+    scope: &'x Scope<'x>,
+    here: &Here<'_>,
+) -> Result<Result<Arguments, SynFault>, AllocError>
+    ensures { IfOk result (λ r. r ≡ arguments (row name).layout (length items.now) 0 (elements (trees items.now)) (scope_of inner.now) (scope_of scope.now) (path_of here.now)) }
+{
+    let layout = name.row().layout;
     let mut arguments = Arguments::new(alloc);
-    for item in items {
-        match read(alloc, item)? {
-            Some(argument) => arguments.push(argument)?,
-            None => return Ok(None),
+    for (i, item) in items.iter().enumerate() {
+        if !is_part(layout, items.len(), i) {
+            let there = Here::Index(i, &*here);
+            let argument = if i + 1 == items.len() {
+                read_json(alloc, item, inner, &there)?
+            } else {
+                read_json(alloc, item, scope, &there)?
+            };
+            match argument {
+                Ok(argument) => arguments.push(argument)?,
+                Err(fault) => return Ok(Err(fault)),
+            }
         }
     }
-    Ok(Some(arguments))
+    Ok(Ok(arguments))
 }
 
-fn literal(number: Result<Fixed, NumFault>) -> Option<Expr>
-    ensures { option_map term_of result ≡ number_literal number }
+// The contents of a `format` and the options behind them.
+#[tactic(auto, using(decimal_json::specs::Falls::item_weight, decimal_json::specs::Falls::member_weight, crate::proofs::ElementLaws::readers_length))]
+#[cycle(reading)]
+fn read_sections(
+    alloc: Global,
+    items: &[Json],
+    scope: &Scope<'_>,
+    here: &Here<'_>,
+) -> Result<Result<Sections, SynFault>, AllocError>
+    ensures { IfOk result (λ r. r ≡ sections_read 0 false (elements (trees items.now)) (scope_of scope.now) (path_of here.now) no_sections) }
+{
+    let mut found = Sections::new(alloc);
+    let mut follows = false;
+    for (i, item) in items.iter().enumerate() {
+        if i > 0 {
+            let there = Here::Index(i, &*here);
+            match read_section(alloc, item, i, follows, found, scope, &there)? {
+                Ok(more) => found = more,
+                Err(fault) => return Ok(Err(fault)),
+            }
+        }
+        follows = i > 0 && !matches!(item, Json::Object(_));
+    }
+    Ok(Ok(found))
+}
+
+#[tactic(auto, using(decimal_json::specs::Falls::item_weight, decimal_json::specs::Falls::member_weight, crate::proofs::ElementLaws::readers_length))]
+#[cycle(reading)]
+fn read_section(
+    alloc: Global,
+    item: &Json,
+    at: usize,
+    follows: bool,
+    found: Sections,
+    scope: &Scope<'_>,
+    here: &Here<'_>,
+) -> Result<Result<Sections, SynFault>, AllocError>
+    ensures { IfOk result (λ r. r ≡ section_read at follows (options (tree_of item.now)) (read (tree_of item.now)) (scope_of scope.now) (path_of here.now) found) }
+{
+    match item {
+        Json::Object(options) if follows => {
+            read_options(alloc, options.as_slice(), at, found, scope, here)
+        }
+        Json::Object(_) => no_section(alloc, here, SynCode::BareObject),
+        _ => match read_json(alloc, item, scope, here)? {
+            Ok(content) => Ok(Ok(found.with(at, Role::Content, content)?)),
+            Err(fault) => Ok(Err(fault)),
+        },
+    }
+}
+
+#[tactic(auto, using(decimal_json::specs::Falls::item_weight, decimal_json::specs::Falls::member_weight, crate::proofs::ElementLaws::readers_length))]
+#[cycle(reading)]
+fn read_options(
+    alloc: Global,
+    options: &[Member],
+    at: usize,
+    found: Sections,
+    scope: &Scope<'_>,
+    here: &Here<'_>,
+) -> Result<Result<Sections, SynFault>, AllocError>
+    ensures { IfOk result (λ r. r ≡ options_read at (members (fields options.now)) (scope_of scope.now) (path_of here.now) found) }
+{
+    let mut found = found;
+    for option in options {
+        let Some(role) = option_named(option.key.as_str()) else {
+            return no_section(alloc, here, SynCode::BareObject);
+        };
+        let there = Here::Key(option.key.as_str(), &*here);
+        match read_json(alloc, &option.value, scope, &there)? {
+            Ok(value) => found = found.with(at, role, value)?,
+            Err(fault) => return Ok(Err(fault)),
+        }
+    }
+    Ok(Ok(found))
+}
+
+fn refused(
+    alloc: Global,
+    here: &Here<'_>,
+    code: SynCode,
+) -> Result<Result<Expr, SynFault>, AllocError>
+    ensures { IfOk result (λ r. read_of r ≡ fault (path_of here.now) code) }
+{
+    Ok(Err(SynFault {
+        path: path_to(alloc, here)?,
+        code,
+    }))
+}
+
+fn no_section(
+    alloc: Global,
+    here: &Here<'_>,
+    code: SynCode,
+) -> Result<Result<Sections, SynFault>, AllocError>
+    ensures { IfOk result (λ r. r ≡ fault (path_of here.now) code) }
+{
+    Ok(Err(SynFault {
+        path: path_to(alloc, here)?,
+        code,
+    }))
+}
+
+fn read_number(
+    alloc: Global,
+    number: Result<Fixed, NumFault>,
+    here: &Here<'_>,
+) -> Result<Result<Expr, SynFault>, AllocError>
+    ensures { IfOk result (λ r. read_of r ≡ number_read number (path_of here.now)) }
 {
     match number {
-        Ok(number) => Some(Expr::Literal(Value::Num(number))),
-        Err(_) => None,
+        Ok(number) => Ok(Ok(Expr::Literal(Value::Num(number)))),
+        Err(_) => refused(alloc, here, SynCode::NumberRange),
     }
 }
 
-// The operator that the first item of an array names.
-fn operator_named(first: &Json, arguments: usize) -> Option<Operator>
-    ensures { result ≡ operator_at (tree_of first.now) arguments }
+fn read_literal(
+    alloc: Global,
+    items: &[Json],
+    here: &Here<'_>,
+) -> Result<Result<Expr, SynFault>, AllocError>
+    ensures { IfOk result (λ r. read_of r ≡ literal_read (second (trees items.now)) (path_of here.now)) }
 {
-    match first {
-        Json::Text(name) => operator(name.as_str(), arguments),
-        _ => None,
+    let Some(part) = second(items) else {
+        return refused(alloc, here, SynCode::Part);
+    };
+    match from_json(alloc, part)? {
+        Ok(value) => Ok(Ok(Expr::Literal(value))),
+        Err(_) => refused(alloc, here, SynCode::NumberRange),
     }
 }
 
-// The operator of this name, where it may have this number of arguments.
-fn operator(name: &str, arguments: usize) -> Option<Operator>
-    ensures { result ≡ operator_of name.now arguments }
+fn read_global(
+    alloc: Global,
+    items: &[Json],
+    scope: &Scope<'_>,
+    here: &Here<'_>,
+) -> Result<Result<Expr, SynFault>, AllocError>
+    ensures { IfOk result (λ r. read_of r ≡ global_read (second_text (trees items.now)) (scope_of scope.now) (path_of here.now)) }
 {
-    match name {
-        "get" if arguments == 1 => Some(Operator::Get),
-        "number" if arguments == 1 => Some(Operator::Number),
-        "==" if arguments == 2 => Some(Operator::Equal),
-        "<" if arguments == 2 => Some(Operator::Less),
-        "case" if arguments >= 3 && arguments % 2 == 1 => Some(Operator::Case),
-        "+" => Some(Operator::Add),
-        "*" => Some(Operator::Multiply),
-        "-" if arguments == 1 || arguments == 2 => Some(Operator::Subtract),
-        _ => None,
+    let Some(name) = second_text(items) else {
+        return refused(alloc, here, SynCode::Part);
+    };
+    Ok(Ok(global_get(alloc, name, global_at(scope, name.as_str()))?))
+}
+
+// `get` of a name in an object that has its value, or is empty where there is none.
+fn global_get(alloc: Global, name: &Text, value: Option<&Value>) -> Result<Expr, AllocError>
+    ensures { IfOk result (λ e. term_of e ≡ global_term name.now (option_map (λ v. data_of v.now) value.entry)) }
+{
+    let mut members = Entries::new(alloc);
+    if let Some(value) = value {
+        members.push(name.share()?, copy(value)?)?;
     }
+    let mut arguments = Arguments::new(alloc);
+    arguments.push(Expr::Literal(Value::Text(name.share()?)))?;
+    arguments.push(Expr::Literal(Value::Map(SharedEntries::of(alloc, members)?)))?;
+    Ok(Expr::Node(Operator::Get, arguments))
+}
+
+fn finish(op: Operator, arguments: Result<Arguments, SynFault>) -> Result<Expr, SynFault>
+    ensures { read_of result ≡ then_node op arguments }
+{
+    match arguments {
+        Ok(arguments) => Ok(Expr::Node(op, arguments)),
+        Err(fault) => Err(fault),
+    }
+}
+
+fn is_part(layout: Layout, elements: usize, at: usize) -> bool
+    requires { at < 2 ^ 63 }
+    ensures { result ≡ is_part (element_place layout elements at) }
+{
+    matches!(layout.place(elements, at), Place::Part)
+}
+
+fn is_value(name: Name) -> bool
+    ensures { result ≡ is_value_layout (row name).layout }
+{
+    matches!(name.row().layout, Layout::Value)
+}
+
+fn is_global(name: Name) -> bool
+    ensures { result ≡ is_global_layout (row name).layout }
+{
+    matches!(name.row().layout, Layout::Global)
 }

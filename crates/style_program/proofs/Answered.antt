@@ -7,9 +7,7 @@ use Rattle.decimal_json.specs.Tree.{Tree}
 use Rattle.decimal_json.specs.View.{tree_of}
 use Rattle.decimal_json.specs.declared.fault.JsonFault.{JsonFault}
 use Rattle.decimal_json.specs.declared.tree.Json.{Json}
-use Rattle.expr_syntax.specs.Reading.{reading}
-use Rattle.expr_syntax.specs.Term.{Term}
-use Rattle.expr_syntax.specs.declared.fault.SynFault.{SynFault}
+use Rattle.expr_syntax.specs.Reading.{Reading, reading}
 use Rattle.tile_reader.specs.Tile.{tile_of}
 use Rattle.tile_reader.specs.declared.tile.Feature.{Feature}
 use Rattle.tile_reader.specs.declared.tile.TileLayer.{TileLayer}
@@ -44,7 +42,7 @@ parsed_fault what text bytes After fault o same parsed defined =
     let (place, kind, none) = subst (λ b. Parses b (Err fault)) same parsed in
     inr (fault.kind, fault.at, none, place, kind, defined)
 
-pub value_answered : (images scripts : List ℕ → Bool) (text bytes : List ℕ) (json : Json) (read : Result Term SynFault) (r : Result Answer AllocError) → bytes ≡ text → Parses bytes (Ok json) → read ≡ reading (tree_of json) → IfOk r (λ a. outcome_of a ≡ expression_outcome images scripts read) → IfOk r (λ a. IsValueOutcome images scripts text (outcome_of a))
+pub value_answered : (images scripts : List ℕ → Bool) (text bytes : List ℕ) (json : Json) (read : Reading) (r : Result Answer AllocError) → bytes ≡ text → Parses bytes (Ok json) → read ≡ reading (tree_of json) → IfOk r (λ a. outcome_of a ≡ expression_outcome images scripts read) → IfOk r (λ a. IsValueOutcome images scripts text (outcome_of a))
 value_answered images scripts text bytes json read r same parsed e =
     if_ok (λ a. outcome_of a ≡ expression_outcome images scripts read) (λ a. IsValueOutcome images scripts text (outcome_of a)) r
     (λ a d. parsed_tree (codes "expr") text bytes (λ t p. p ≡ expression_outcome images scripts (reading t)) json (outcome_of a) same parsed (d ∙ ap (expression_outcome images scripts) e))

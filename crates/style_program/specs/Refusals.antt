@@ -3,6 +3,9 @@ use Rattle.std.specs.Prelude.{ℕ, List, ◌++◌, codes, decimal}
 use Rattle.decimal_json.specs.JsonText.{text_json}
 use Rattle.json_tokens.specs.declared.kind.JsonKind.{JsonKind}
 use Rattle.json_tokens.specs.declared.kind.JsonKind.TheVariants as json
+use Rattle.decimal_json.specs.Place.{path_json}
+use Rattle.expr_syntax.specs.FaultName.{code_name}
+use Rattle.expr_syntax.specs.declared.fault.SynFault.{SynFault}
 use Rattle.proto_wire.specs.declared.wire.WireKind.TheVariants as wire
 use Rattle.tile_reader.specs.declared.fault.TileFault.{TileFault}
 use Rattle.tile_reader.specs.declared.fault.TileKind.{TileKind}
@@ -25,6 +28,14 @@ no_json what kind at = refused (what ++ (codes " json " ++ (json_kind_name kind 
 -- an expression or a style that is none of those that are read so far
 abbrev pub unbuilt : List ℕ → Outcome
 unbuilt what = refused (what ++ codes " Unbuilt")
+
+-- an expression with a node that is outside of what is evaluated
+abbrev pub outside : Outcome
+outside = refused (codes "expr Outside")
+
+-- no expression: the code of its first fault, and the path of its node
+abbrev pub no_expression : SynFault → Outcome
+no_expression fault = refused (codes "expr " ++ (code_name fault.code ++ (codes " " ++ path_json fault.path)))
 
 abbrev pub style_too_long : Outcome
 style_too_long = refused (codes "style TooLong")

@@ -1,17 +1,17 @@
 -- The outcome of `value`: the value of an expression, or the fault of its evaluation.
-use Rattle.std.specs.Prelude.{◌≡◌, ℕ, pos, List, [], ◌++◌, codes, Bool, Result, Ok, Err}
+use Rattle.std.specs.Prelude.{◌≡◌, ℕ, pos, List, [], ◌++◌, codes, Bool, Option, Some, None, Result, Ok, Err, if◌then◌else◌}
 use Rattle.prop_values.specs.Faults.{fault_name}
 use Rattle.prop_values.specs.ValueText.{listed_text}
 use Rattle.prop_values.specs.declared.kinds.Want.TheVariants.{Any}
-use Rattle.expr_syntax.specs.Reading.{reading}
+use Rattle.expr_syntax.specs.Reading.{Reading, reading}
 use Rattle.expr_syntax.specs.Term.{Term}
-use Rattle.expr_syntax.specs.declared.fault.SynFault.{SynFault}
 use Rattle.eval_face.specs.Meaning.{Evaluated, mean}
+use Rattle.eval_face.specs.Operators.{is_built}
 use Rattle.eval_face.specs.World.{World, feature_world, no_feature}
 use Rattle.style_program.specs.declared.status.Ending.TheVariants.{Fine, Found}
 use Rattle.style_program.specs.Outcome.{Outcome, line, said}
 use Rattle.style_program.specs.Parsed.{IsParsedOutcome}
-use Rattle.style_program.specs.Refusals.{unbuilt}
+use Rattle.style_program.specs.Refusals.{unbuilt, outside, no_expression}
 
 abbrev pub value_outcome : Evaluated → Outcome
 value_outcome (Ok d) = said (line (listed_text d)) Fine
@@ -22,9 +22,10 @@ module _ (images scripts : List ℕ → Bool) where
   abbrev pub value_world : World
   value_world = feature_world (pos 0) no_feature [] images scripts
 
-  abbrev pub expression_outcome : Result Term SynFault → Outcome
-  expression_outcome (Ok t) = value_outcome (mean t Any [] value_world)
-  expression_outcome (Err fault) = unbuilt (codes "expr")
+  abbrev pub expression_outcome : Reading → Outcome
+  expression_outcome (Ok (Some t)) = if is_built t then value_outcome (mean t Any [] value_world) else unbuilt (codes "expr")
+  expression_outcome (Ok None) = outside
+  expression_outcome (Err fault) = no_expression fault
 
   -- the outcome of an expression's text
   abbrev pub IsValueOutcome : List ℕ → Outcome → Type 0

@@ -7,12 +7,12 @@ ghost use Rattle.style_program.specs.ValueOutcome.{IsValueOutcome, expression_ou
 ghost use Rattle.style_program.specs.AnswerView.{outcome_of};
 
 use crate::answer::{Answer, answer_out};
-use crate::refusals::{no_json, unbuilt};
+use crate::refusals::{no_expression, no_json, outside, unbuilt};
 use crate::status::Ending;
 use decimal_json::parse;
 use eval_face::Context;
-use expr_plain::eval_plain;
-use expr_syntax::{Expr, SynFault, read_expr};
+use expr_plain::{eval_plain, is_built};
+use expr_syntax::{Reading, SynFault, read_expr};
 use fixed_num::Fixed;
 use host_ops::HostOp;
 use prop_values::{EvalFault, Value, Want, write_listed};
@@ -38,14 +38,17 @@ pub fn answer_value(
 
 fn answer_expression(
     alloc: Global,
-    read: Result<Expr, SynFault>,
+    read: Result<Reading, SynFault>,
     images: &dyn HostOp,
     scripts: &dyn HostOp,
 ) -> Result<Answer, AllocError>
     ensures { IfOk result (λ answer. outcome_of answer ≡ expression_outcome (test images.now) (test scripts.now) (reading_of read)) }
 {
     match read {
-        Ok(expression) => {
+        Ok(Reading::Inside(expression)) => {
+            if !is_built(&expression) {
+                return unbuilt(alloc, b"expr");
+            }
             let context = Context {
                 zoom: zero(),
                 feature: None,
@@ -54,7 +57,8 @@ fn answer_expression(
             let evaluated = eval_plain(alloc, &expression, &Want::Any, &context, images, scripts)?;
             answer_evaluated(alloc, &evaluated)
         }
-        Err(_) => unbuilt(alloc, b"expr"),
+        Ok(Reading::Outside) => outside(alloc),
+        Err(fault) => no_expression(alloc, &fault),
     }
 }
 

@@ -1,0 +1,46 @@
+//! The names around an expression.
+
+ghost use Rattle.std.specs.Prelude.{◌≡◌, option_map};
+ghost use Rattle.prop_values.specs.View.{data_of};
+ghost use Rattle.expr_syntax.specs.Scopes.{scope_of, is_among, is_known, global_at};
+
+use crate::parts::Names;
+use prop_values::{Entries, Value};
+
+/// The names around an expression: the values of the global state, and inside of them the names of each `let`.
+#[derive(Drop)]
+pub(crate) enum Scope<'a> {
+    Globals(&'a Entries),
+    Frame(&'a Names, &'a Scope<'a>),
+}
+
+/// Whether a `let` binds a name.
+pub(crate) fn knows(scope: &Scope<'_>, name: &str) -> bool
+    ensures { result ≡ is_known (scope_of scope.now) name.now }
+{
+    match scope {
+        Scope::Globals(_) => false,
+        Scope::Frame(names, outer) => is_among(names, name) || knows(outer, name),
+    }
+}
+
+fn is_among(names: &Names, name: &str) -> bool
+    ensures { result ≡ is_among names.now name.now }
+{
+    for other in names.as_slice() {
+        if other.as_str() == name {
+            return true;
+        }
+    }
+    false
+}
+
+/// The value of a name of the global state.
+pub(crate) fn global_at<'a>(scope: &Scope<'a>, name: &str) -> Option<&'a Value>
+    ensures { option_map (λ v. data_of v.now) result ≡ global_at (scope_of scope.now) name.now }
+{
+    match scope {
+        Scope::Globals(values) => values.get(name),
+        Scope::Frame(_, outer) => global_at(outer, name),
+    }
+}

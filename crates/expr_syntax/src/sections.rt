@@ -1,0 +1,55 @@
+//! The arguments of a `format` while they are read.
+
+ghost use Rattle.std.specs.Prelude.{◌≡◌, IfOk};
+ghost use Rattle.expr_syntax.specs.Reading.{no_sections, with_piece, then_format};
+ghost use Rattle.expr_syntax.specs.ReadView.{read_of};
+ghost use Rattle.expr_syntax.specs.TermView.{term_of};
+
+use crate::expression::{Arguments, Expr, Operator};
+use crate::fault::SynFault;
+use crate::parts::{Piece, Pieces, Role};
+use std::alloc::{AllocError, Global};
+
+/// The arguments of a `format`, and what each is.
+#[derive(Drop)]
+pub(crate) struct Sections {
+    pieces: Pieces,
+    arguments: Arguments,
+}
+
+impl Sections {
+    pub(crate) fn new(alloc: Global) -> Sections
+        ensures { result ≡ no_sections }
+    {
+        Sections {
+            pieces: Pieces::new(alloc),
+            arguments: Arguments::new(alloc),
+        }
+    }
+
+    /// One argument more, which the element of a place is or has in it.
+    pub(crate) fn with(self, at: usize, role: Role, argument: Expr) -> Result<Sections, AllocError>
+        ensures { IfOk result (λ more. more ≡ with_piece at role self (term_of argument)) }
+    {
+        let Sections {
+            mut pieces,
+            mut arguments,
+        } = self;
+        pieces.push(Piece { at, role })?;
+        arguments.push(argument)?;
+        Ok(Sections { pieces, arguments })
+    }
+}
+
+/// The `format` of arguments that were read.
+pub(crate) fn finish_format(read: Result<Sections, SynFault>) -> Result<Expr, SynFault>
+    ensures { read_of result ≡ then_format read }
+{
+    match read {
+        Ok(found) => {
+            let Sections { pieces, arguments } = found;
+            Ok(Expr::Node(Operator::Format(pieces), arguments))
+        }
+        Err(fault) => Err(fault),
+    }
+}
