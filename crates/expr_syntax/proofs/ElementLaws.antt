@@ -1,6 +1,7 @@
 -- Elements of a node, one after another.
 use Rattle.std.proofs.Common.{◌≡◌, suc, List, [], ◌∷◌, ◌++◌, refl, ap, append_assoc, length}
 use Rattle.std.specs.Prelude.{Result, Ok, Err}
+use Rattle.decimal_json.specs.Falls.{item_weight, member_weight}
 use Rattle.decimal_json.specs.View.{trees}
 use Rattle.decimal_json.specs.declared.tree.Json.{Json}
 use Rattle.expr_syntax.specs.declared.fault.SynFault.{SynFault}
@@ -25,3 +26,8 @@ after_terms ts (Err f) = Err f
 pub after_term : (ts : List Term) (t : Term) (later : Result (List Term) SynFault) → after_terms (ts ++ t ∷ []) later ≡ after_terms ts (and_term (Ok t) later)
 after_term ts t (Ok us) = ap Ok (append_assoc ts (t ∷ []) us)
 after_term ts t (Err f) = refl
+
+-- what walks over elements want
+pub ruleset reading_rules = (item_weight, member_weight, readers_length)
+
+pub ruleset standing_rules = (item_weight, member_weight, elements_length)

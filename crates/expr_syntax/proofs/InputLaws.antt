@@ -20,6 +20,10 @@ pub past_input : (past : Bool) (ys : List ℤ) (later : Result (List ℤ) SynCod
 past_input past ys (Ok zs) = refl
 past_input past ys (Err c) = refl
 
+pub skipped_input : (ys : List ℤ) (z : ℤ) (later : Result (List ℤ) SynCode) → after_inputs true ys later ≡ after_inputs true ys (and_input (Some z) later)
+skipped_input ys z (Ok zs) = refl
+skipped_input ys z (Err c) = refl
+
 abbrev pub after_names : List (List ℕ) → Option (List (List ℕ)) → Option (List (List ℕ))
 after_names ns (Some xs) = Some (ns ++ xs)
 after_names ns None = None

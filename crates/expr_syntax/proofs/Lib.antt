@@ -4,3 +4,10 @@ pub mod InputLaws
 pub mod LabelLaws
 pub mod OperatorLaws
 pub mod PartLaws
+pub mod StopLaws
+pub mod NameIndexLaws
+pub mod LabelIndexLaws
+pub mod CountLaws
+pub mod SoundParts
+pub mod NamedOutputs
+pub mod ReadTermLaws

@@ -1,6 +1,6 @@
 -- Looking the name of an operator up.
-use Rattle.std.proofs.Common.{◌≡◌, ◌<◌, refl, sym, ◌∙◌, ap, subst, List, [], ◌∷◌, ℕ, zero, suc, length, get_or, true, false, inl, inr, arith}
-use Rattle.std.specs.Prelude.{Bool, ◌&&◌, nat_lt, Some, None, Option, slice_index_or, if◌then◌else◌}
+use Rattle.std.proofs.Common.{◌≡◌, ◌<◌, refl, sym, ◌∙◌, subst, List, [], ◌∷◌, ℕ, zero, suc, length, get_or, true, false, inl, inr, arith}
+use Rattle.std.specs.Prelude.{Bool, ◌&&◌, nat_lt, Some, None, slice_index_or}
 use Rattle.std.specs.Str.{bytes_eq}
 use Rattle.std.proofs.lemmas.Bool.{cases_Bool, false≢true}
 use Rattle.std.proofs.lemmas.Slice.Eq.{bytes_eq-Decides}

@@ -1,10 +1,9 @@
 -- The elements of a node by their number.
 use Rattle.std.proofs.Common.{◌≡◌, ◌≤◌, ◌-◌, take, drop, ap, List, [], ◌∷◌, refl, length, get_or, arith}
 use Rattle.std.proofs.lemmas.List.{take_all}
-use Rattle.std.specs.Prelude.{Option, Some, None, Result, Ok}
+use Rattle.std.specs.Prelude.{None, Ok}
 use Rattle.decimal_json.specs.View.{tree_of, trees}
 use Rattle.decimal_json.specs.declared.tree.Json.{Json}
-use Rattle.expr_syntax.specs.declared.expression.Operator.{Operator}
 use Rattle.expr_syntax.specs.declared.expression.Operator.TheVariants as operators
 use Rattle.expr_syntax.specs.Elements.{after_head, second}
 use Rattle.expr_syntax.specs.Parts.{array_operator, with_item, with_length, item_of, length_of, curve_from}
@@ -40,3 +39,5 @@ array_of_more [] item count p q h = absurd (omega arith)
 array_of_more (j ∷ []) item count p q h = absurd (omega arith)
 array_of_more (j ∷ k ∷ []) item count p q h = absurd (omega arith)
 array_of_more (j ∷ k ∷ l ∷ js) item count p q h = rw (p, q) refl
+
+pub ruleset array_rules = (array_of_one, array_of_two, array_of_more)

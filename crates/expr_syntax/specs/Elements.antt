@@ -2,7 +2,7 @@
 use Rattle.std.specs.Prelude.{ℕ, ◌+◌, List, [], ◌∷◌, Bool, true, false, Option, Some, None, if◌then◌else◌}
 use Rattle.std.specs.Str.{bytes_eq}
 use Rattle.std.specs.Prelude.{codes}
-use Rattle.decimal_json.specs.Tree.{Tree, null, boolean, number, text, list, object, Trees, no_trees, tree}
+use Rattle.decimal_json.specs.Tree.{Tree, text, object, Trees, no_trees, tree}
 use Rattle.expr_syntax.specs.declared.names.Name.{Name}
 use Rattle.expr_syntax.specs.declared.parts.Role.{Role}
 use Rattle.expr_syntax.specs.declared.parts.Role.TheVariants.{Scale, Font, Color}
@@ -62,6 +62,7 @@ option_named key =
     else if bytes_eq key (codes "text-color") then Some Color
     else None
 
--- An element as a walk finds it: what the walk makes of it, and of the members where it is an object, each with its key.
+-- An element as a walk finds it: what the walk makes of it, and of the members where it is an object, each
+-- with its key.
 abbrev pub Element : Type 0 → Type 0
 Element A = A × Option (List (List ℕ × A))

@@ -1,4 +1,5 @@
--- The table of operators, a row for each name, in its order (MapLibre style specification, version 8, expressions).
+-- The table of operators, a row for each name, in its order (MapLibre style specification, version 8,
+-- expressions).
 use Rattle.std.specs.Prelude.{ℕ, List, [], ◌∷◌, codes, Option, Some, None, if◌then◌else◌}
 use Rattle.std.specs.Str.{bytes_eq}
 use Rattle.prop_values.specs.declared.kinds.Want.TheVariants as wants
@@ -13,9 +14,9 @@ use Rattle.expr_syntax.specs.declared.rows.Manner.TheVariants as manners
 use Rattle.expr_syntax.specs.declared.rows.Reads.TheVariants as reads
 use Rattle.expr_syntax.specs.Rows.{Row, plain, outside}
 
--- What the table says of an operator: its name as it is written, how many elements may follow it, and what its arguments are wanted
--- as; where it differs from a plain operator, how its elements are laid out, which argument has to be a text or a list, how the
--- arguments are evaluated, and what it reads of the world.
+-- What the table says of an operator: its name as it is written, how many elements may follow it, and what
+-- its arguments are wanted as; where it differs from a plain operator, how its elements are laid out, which
+-- argument has to be a text or a list, how the arguments are evaluated, and what it reads of the world.
 abbrev pub row : Name → Row
 row Literal = record (plain (codes "literal") (Exactly 1) (Each wants.Any)) { layout = layouts.Value }
 row Array = record (plain (codes "array") (Between 1 3) (Each wants.Any)) { layout = layouts.Items }

@@ -51,7 +51,7 @@ operator_name Case = names.Case
 operator_name (Match a) = names.Match
 operator_name Coalesce = names.Coalesce
 operator_name (Step a) = names.Step
-operator_name (Interpolate a b) = names.Interpolate
+operator_name (Interpolate a) = names.Interpolate
 operator_name (Let a) = names.Let
 operator_name (Var a) = names.Var
 operator_name Zoom = names.Zoom
@@ -138,7 +138,8 @@ abbrev pub piece_wanted : Option Piece → Wanted
 piece_wanted (Some piece) = Own (role_want piece.role)
 piece_wanted None = Own wants.Any
 
--- What the argument k of m arguments of an operator is wanted as: the row says it, and of `format` what the argument is there.
+-- What the argument k of m arguments of an operator is wanted as: the row says it, and of `format` what the
+-- argument is there.
 abbrev pub wanted_by : Operator → ℕ → ℕ → Wanted
 wanted_by (Format pieces) m k = piece_wanted (slice_get pieces k)
 wanted_by op m k = wanted (row (operator_name op)).wants m k

@@ -1,10 +1,9 @@
 -- The operators that have parts: the operator with its parts, or the least fault at the node.
 use Rattle.std.specs.Prelude.{ℕ, ◌+◌, ◌/◌, ◌%◌, ℤ, pos, int_lt, unsigned_abs, List, [], ◌∷◌, ◌++◌, Bool, true, false, not, ◌&&◌, ◌||◌, nat_eq, nat_le, Option, Some, None, Result, Ok, Err, if◌then◌else◌, codes}
 use Rattle.std.specs.Str.{bytes_eq}
-use Rattle.std.specs.Ordering.{int_eq}
 use Rattle.std.specs.Char.{is_ascii_alphanumeric}
 use Rattle.std.specs.List.{list_all}
-use Rattle.decimal_json.specs.Tree.{Tree, null, boolean, number, text, list, object, Trees, no_trees, tree}
+use Rattle.decimal_json.specs.Tree.{Tree, number, text, list, Trees, no_trees, tree}
 use Rattle.fixed_num.specs.declared.decimal.NumFault.{NumFault}
 use Rattle.fixed_num.specs.Decimal.{read_text}
 use Rattle.prop_values.specs.declared.kinds.Item.{Item}
@@ -15,8 +14,8 @@ use Rattle.expr_syntax.specs.declared.fault.SynCode.{SynCode}
 use Rattle.expr_syntax.specs.declared.fault.SynCode.TheVariants as code
 use Rattle.expr_syntax.specs.declared.parts.Label.{Label}
 use Rattle.expr_syntax.specs.declared.parts.Label.TheVariants.{Text, Number}
-use Rattle.expr_syntax.specs.declared.parts.Labelled.{Labelled}
 use Rattle.expr_syntax.specs.declared.labels.Collected.{Collected}
+use Rattle.expr_syntax.specs.LabelLists.{is_number, is_text, repeats}
 use Rattle.expr_syntax.specs.declared.expression.Operator.{Operator}
 use Rattle.expr_syntax.specs.declared.expression.Operator.TheVariants as operators
 use Rattle.expr_syntax.specs.declared.names.Name.{Name}
@@ -74,13 +73,16 @@ array_operator (tree item (tree length (tree x ts))) = with_length (item_of item
 abbrev pub is_whole : ℤ → Bool
 is_whole z = nat_eq (unsigned_abs z % 1000000) 0
 
+abbrev pub with_label : ℕ → Label → Collected → Collected
+with_label output label found = record found { labels = found.labels ++ record { label = label; output = output } ∷ [] }
+
 abbrev pub collect_number : ℕ → Result ℤ NumFault → Collected → Option Collected
-collect_number output (Ok z) found = if is_whole z then Some (record found { labels = found.labels ++ record { label = Number z; output = output } ∷ [] }) else None
+collect_number output (Ok z) found = if is_whole z then Some (with_label output (Number z) found) else None
 collect_number output (Err fault) found = Some (record found { past = true })
 
 -- one label more; none where a tree is no label
 abbrev pub collect_label : ℕ → Tree → Collected → Option Collected
-collect_label output (text s) found = Some (record found { labels = found.labels ++ record { label = Text s; output = output } ∷ [] })
+collect_label output (text s) found = Some (with_label output (Text s) found)
 collect_label output (number n) found = collect_number output (read_text n) found
 collect_label output _ found = None
 
@@ -105,28 +107,8 @@ abbrev pub collect_parts : ℕ → List Tree → Collected → Option Collected
 collect_parts output [] found = Some found
 collect_parts output (t ∷ ts) found = then_collect (collect_part output t found) (collect_parts (output + 1) ts)
 
-abbrev pub is_number_label : Label → Bool
-is_number_label (Number z) = true
-is_number_label (Text s) = false
-
-abbrev pub is_number : Labelled → Bool
-is_number l = is_number_label l.label
-
-abbrev pub is_text : Labelled → Bool
-is_text l = not (is_number_label l.label)
-
 abbrev pub are_of_one_type : Collected → Bool
 are_of_one_type found = list_all is_number found.labels || (not found.past && list_all is_text found.labels)
-
-abbrev pub same_label : Label → Label → Bool
-same_label (Text s) (Text t) = bytes_eq s t
-same_label (Number y) (Number z) = int_eq y z
-same_label _ _ = false
-
--- whether one of some labels stands twice, or is one of those before them
-abbrev pub repeats : (Label → Bool) → List Labelled → Bool
-repeats is_before [] = false
-repeats is_before (l ∷ ls) = is_before l.label || repeats (λ m. same_label l.label m || is_before m) ls
 
 abbrev pub labels_operator : Collected → Result Operator SynCode
 labels_operator found =
@@ -198,7 +180,7 @@ curve_in (Some t) = curve_of t
 curve_in None = None
 
 abbrev pub ramp_operator : Option Curve → Result (List ℤ) SynCode → Result Operator SynCode
-ramp_operator (Some curve) inputs = with_inputs (operators.Interpolate curve) inputs
+ramp_operator (Some curve) inputs = with_inputs (λ zs. operators.Interpolate (curve, zs)) inputs
 ramp_operator None inputs = Err code.Part
 
 -- ---- `let` and `var`
@@ -236,11 +218,29 @@ or_unknown None = Err code.UnknownOperator
 abbrev pub no_labels : Collected
 no_labels = record { labels = []; past = false }
 
+-- the labels of `match` among the elements
+abbrev pub labels_among : ℕ → Trees → Option Collected
+labels_among n ts = collect_parts 0 (taken is_label n 0 ts) no_labels
+
+-- the inputs of stops among them
+abbrev pub inputs_among : ℕ → Trees → Result (List ℤ) SynCode
+inputs_among n ts = inputs_of None (taken (λ n i. is_input i) n 0 ts)
+
+-- the names of `let` among them
+abbrev pub names_among : ℕ → Trees → Option (List (List ℕ))
+names_among n ts = binding_names (taken is_binder n 0 ts)
+
+abbrev pub step_operator : ℕ → Trees → Result Operator SynCode
+step_operator n ts = with_inputs operators.Step (inputs_among n ts)
+
+abbrev pub interpolate_operator : ℕ → Trees → Result Operator SynCode
+interpolate_operator n ts = ramp_operator (curve_in (second ts)) (inputs_among n ts)
+
 abbrev pub operator_of : Layout → Name → Scope → ℕ → Trees → Result Operator SynCode
 operator_of layouts.Items name scope n ts = array_operator (after_head ts)
-operator_of layouts.Labels name scope n ts = match_operator (collect_parts 0 (taken is_label n 0 ts) no_labels)
-operator_of layouts.Stops name scope n ts = with_inputs operators.Step (inputs_of None (taken (λ n i. is_input i) n 0 ts))
-operator_of layouts.Ramp name scope n ts = ramp_operator (curve_in (second ts)) (inputs_of None (taken (λ n i. is_input i) n 0 ts))
-operator_of layouts.Bindings name scope n ts = let_operator (binding_names (taken is_binder n 0 ts))
+operator_of layouts.Labels name scope n ts = match_operator (labels_among n ts)
+operator_of layouts.Stops name scope n ts = step_operator n ts
+operator_of layouts.Ramp name scope n ts = interpolate_operator n ts
+operator_of layouts.Bindings name scope n ts = let_operator (names_among n ts)
 operator_of layouts.Variable name scope n ts = var_operator scope (second_text ts)
 operator_of _ name scope n ts = or_unknown (plain_operator name)

@@ -1,12 +1,27 @@
 -- What was read, as definitions see it.
-use Rattle.std.specs.Prelude.{Option, Some, None, Result, Ok, Err}
+use Rattle.std.specs.Prelude.{ℕ, List, length, option_map, Option, Some, None, Result, Ok, Err}
+use Rattle.std.specs.Borrow.{Bor}
+use Rattle.decimal_json.specs.Place.{path_of}
+use Rattle.decimal_json.specs.View.{trees, fields}
+use Rattle.decimal_json.specs.declared.paths.Here.{Here}
+use Rattle.decimal_json.specs.declared.paths.PathPart.{PathPart}
+use Rattle.decimal_json.specs.declared.tree.Json.{Json}
+use Rattle.decimal_json.specs.declared.tree.Member.{Member}
+use Rattle.prop_values.specs.Data.{Data}
+use Rattle.prop_values.specs.View.{data_of}
+use Rattle.prop_values.specs.declared.value.Value.{Value}
 use Rattle.expr_syntax.specs.declared.expression.Expr.{Expr}
+use Rattle.expr_syntax.specs.declared.expression.Operator.{Operator}
 use Rattle.expr_syntax.specs.declared.fault.SynFault.{SynFault}
 use Rattle.expr_syntax.specs.declared.reading.Reading.{Reading as CodeReading}
 use Rattle.expr_syntax.specs.declared.reading.Reading.TheVariants.{Inside, Outside}
+use Rattle.expr_syntax.specs.declared.rows.Layout.{Layout}
+use Rattle.expr_syntax.specs.declared.scope.Scope.{Scope as CodeScope}
+use Rattle.expr_syntax.specs.Elements.{Element}
+use Rattle.expr_syntax.specs.Reading.{Read, Reader, Reading, elements, members, arguments, names_in}
+use Rattle.expr_syntax.specs.Scopes.{Scope, scope_of}
 use Rattle.expr_syntax.specs.Term.{Term}
 use Rattle.expr_syntax.specs.TermView.{term_of}
-use Rattle.expr_syntax.specs.Reading.{Read, Reading}
 
 abbrev pub read_of : Result Expr SynFault → Read
 read_of (Ok e) = Ok (term_of e)
@@ -16,3 +31,26 @@ abbrev pub reading_of : Result CodeReading SynFault → Reading
 reading_of (Ok (Inside e)) = Ok (Some (term_of e))
 reading_of (Ok Outside) = Ok None
 reading_of (Err f) = Err f
+
+-- the elements of a node, each as what reads it
+abbrev pub elements_of : List Json → List (Element Reader)
+elements_of items = elements (trees items)
+
+-- the arguments of a node, the last inside of other names
+abbrev pub arguments_of : Layout → List Json → Scope → Scope → List PathPart → Result (List Term) SynFault
+arguments_of layout items inner scope path = arguments layout (length items) 0 (elements_of items) inner scope path
+
+-- the arguments of a node of an operator, the last inside of the names that it binds
+abbrev pub arguments_within : Layout → Operator → List Json → Scope → List PathPart → Result (List Term) SynFault
+arguments_within layout op items scope path = arguments_of layout items (names_in op scope) scope path
+
+abbrev pub members_of : List Member → List (List ℕ × Reader)
+members_of options = members (fields options)
+
+-- what is read at a place, inside the names around it
+abbrev pub read_at : {A : Type 0} → (Scope → List PathPart → A) → CodeScope → Here → A
+read_at reader scope here = reader (scope_of scope) (path_of here)
+
+-- the value of a name of the global state, where it has one
+abbrev pub value_view : Option (Bor Value) → Option Data
+value_view = option_map (λ v. data_of v.now)

@@ -1,6 +1,6 @@
--- What a JSON tree reads as: an expression, that it is outside, or its first fault in document order, of two at one node the lesser
--- (MapLibre style specification, version 8, expressions).
-use Rattle.std.specs.Prelude.{ℕ, ◌+◌, ◌-◌, ℤ, List, [], ◌∷◌, ◌++◌, length, Bool, true, false, not, ◌&&◌, nat_eq, nat_lt, is_none, Option, Some, None, Result, Ok, Err, if◌then◌else◌}
+-- What a JSON tree reads as: an expression, that it is outside, or its first fault in document order, of two
+-- at one node the lesser (MapLibre style specification, version 8, expressions).
+use Rattle.std.specs.Prelude.{ℕ, ◌+◌, ◌-◌, ℤ, List, [], ◌∷◌, ◌++◌, length, Bool, true, false, not, nat_eq, is_none, Option, Some, None, Result, Ok, Err, if◌then◌else◌}
 use Rattle.decimal_json.specs.Tree.{Tree, null, boolean, number, text, list, object, Trees, no_trees, tree, Fields, no_fields, field}
 use Rattle.decimal_json.specs.declared.paths.PathPart.{PathPart}
 use Rattle.decimal_json.specs.declared.paths.PathPart.TheVariants as parts
@@ -14,7 +14,7 @@ use Rattle.expr_syntax.specs.declared.fault.SynCode.{SynCode}
 use Rattle.expr_syntax.specs.declared.fault.SynCode.TheVariants as code
 use Rattle.expr_syntax.specs.declared.names.Name.{Name}
 use Rattle.expr_syntax.specs.declared.rows.Layout.{Layout}
-use Rattle.expr_syntax.specs.declared.rows.Layout.TheVariants.{Value, Global, Sections as SectionsLayout}
+use Rattle.expr_syntax.specs.declared.rows.Layout.TheVariants.{Value, Global}
 use Rattle.expr_syntax.specs.declared.rows.Place.{Place}
 use Rattle.expr_syntax.specs.declared.rows.Place.TheVariants.{Part}
 use Rattle.expr_syntax.specs.declared.expression.Operator.{Operator}
@@ -135,6 +135,10 @@ sections_read i follows (e ∷ es) scope path found =
 abbrev pub no_sections : Sections
 no_sections = record { pieces = []; arguments = [] }
 
+-- from the name on
+abbrev pub all_sections : List (Element Reader) → Scope → List PathPart → Result Sections SynFault
+all_sections es scope path = sections_read 0 false es scope path no_sections
+
 abbrev pub then_format : Result Sections SynFault → Read
 then_format (Ok found) = Ok (node (operators.Format found.pieces) (terms_of found.arguments))
 then_format (Err f) = Err f
@@ -154,7 +158,7 @@ node_read name ts es scope path =
     if not (allows (row name).arity (length es - 1)) then fault path code.Arity
     else if is_value_layout (row name).layout then literal_read (second ts) path
     else if is_global_layout (row name).layout then global_read (second_text ts) scope path
-    else if is_format_layout (row name).layout then then_format (sections_read 0 false es scope path no_sections)
+    else if is_format_layout (row name).layout then then_format (all_sections es scope path)
     else with_operator (row name).layout es (operator_of (row name).layout name scope (length es) ts) scope path
 
 abbrev pub named_read : Option Name → Trees → List (Element Reader) → Reader
@@ -189,6 +193,14 @@ abbrev mutual
   pub members : Fields → List (List ℕ × Reader)
   members no_fields = []
   members (field k t fs) = (k, read t) ∷ members fs
+
+-- a node of this name
+abbrev pub node_of : Name → Trees → Reader
+node_of name ts = node_read name ts (elements ts)
+
+-- an element of a `format`
+abbrev pub section_of : ℕ → Bool → Tree → Scope → List PathPart → Sections → Result Sections SynFault
+section_of i follows t scope path found = section_read i follows (options t) (read t) scope path found
 
 -- an expression, or none where it is outside
 abbrev pub Reading : Type 0

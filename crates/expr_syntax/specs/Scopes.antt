@@ -1,18 +1,14 @@
 -- The names around an expression.
-use Rattle.std.specs.Prelude.{ℕ, List, [], ◌∷◌, Bool, false, ◌||◌, Option}
-use Rattle.std.specs.Str.{bytes_eq}
+use Rattle.std.specs.Prelude.{ℕ, List, Bool, false, ◌||◌, Option}
 use Rattle.prop_values.specs.Data.{Data, pairs_of}
 use Rattle.prop_values.specs.Equality.{at_key}
-use Rattle.expr_syntax.specs.declared.scope.Scope.{Scope as CodeScope, Globals, Frame'}
+use Rattle.expr_syntax.specs.BoundNames.{is_among}
+use Rattle.expr_syntax.specs.declared.scope.Scope.{Scope as CodeScope, Globals, Inside'}
 
 -- The values of the global state, and inside of them the names of each `let`, the innermost first.
 pub data Scope : Type 0 where
   globals : List (List ℕ × Data) → Scope
   frame : List (List ℕ) → Scope → Scope
-
-abbrev pub is_among : List (List ℕ) → List ℕ → Bool
-is_among [] name = false
-is_among (n ∷ ns) name = bytes_eq n name || is_among ns name
 
 -- whether a `let` binds a name
 abbrev pub is_known : Scope → List ℕ → Bool
@@ -27,4 +23,4 @@ global_at (frame names outer) name = global_at outer name
 -- the scope of the program's own
 abbrev pub scope_of : CodeScope → Scope
 scope_of (Globals values) = globals values.now
-scope_of (Frame' names p outer) = frame names.now (scope_of outer)
+scope_of (Inside' bound p outer) = frame bound.now (scope_of outer)

@@ -4,7 +4,8 @@ use Rattle.expr_syntax.specs.declared.names.Name.{Name}
 use Rattle.expr_syntax.specs.declared.names.Name.TheVariants.{Literal}
 use Rattle.expr_syntax.specs.Names.{names}
 
--- a number below 256, which differs for any two names: of the first byte, the last, the middle one and the length
+-- a number below 256, which differs for any two names: of the first byte, the last, the middle one and the
+-- length
 abbrev pub slot_of : List ℕ → ℕ
 slot_of [] = 0
 slot_of (b ∷ bs) = (3 * b + 82 * slice_index (b ∷ bs) (length (b ∷ bs) - 1) + 48 * slice_index (b ∷ bs) (length (b ∷ bs) / 2) + 38 * (length (b ∷ bs) % 256)) % 256

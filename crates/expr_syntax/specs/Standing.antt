@@ -1,6 +1,6 @@
--- Whether a node of some sort stands in a tree. A node of an unknown or outside name, or with a number of elements that its row does
--- not allow, has no argument nodes.
-use Rattle.std.specs.Prelude.{ℕ, ◌+◌, ◌-◌, List, [], ◌∷◌, length, Bool, true, false, not, ◌&&◌, ◌||◌, nat_eq, nat_lt, Option, Some, None, is_none, if◌then◌else◌, codes}
+-- Whether a node of some sort stands in a tree. A node of an unknown or outside name, or with a number of
+-- elements that its row does not allow, has no argument nodes.
+use Rattle.std.specs.Prelude.{ℕ, ◌+◌, ◌-◌, List, [], ◌∷◌, length, Bool, true, false, not, ◌&&◌, ◌||◌, nat_lt, Option, Some, None, is_none, if◌then◌else◌, codes}
 use Rattle.std.specs.Str.{bytes_eq}
 use Rattle.decimal_json.specs.Tree.{Tree, null, boolean, number, text, list, object, Trees, no_trees, tree, Fields, no_fields, field}
 use Rattle.prop_values.specs.declared.outcome.Curve.{Curve}
@@ -42,7 +42,8 @@ abbrev pub is_image_node : Option (List ℕ) → Bool
 is_image_node (Some s) = bytes_eq s (codes "image")
 is_image_node None = false
 
--- Elements of a `format`: an object directly behind a content is one of options. The name stands at place 0 and is no content.
+-- Elements of a `format`: an object directly behind a content is one of options. The name stands at place 0
+-- and is no content.
 abbrev pub outside_part : ℕ → Bool → Tree → Bool
 outside_part i follows (object fs) = follows && other_options fs
 outside_part i follows (list ts) = nat_lt 0 i && is_image_node (head_text ts)

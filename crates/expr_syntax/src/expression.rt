@@ -5,15 +5,15 @@ ghost use Rattle.expr_syntax.specs.Rows.{row_view};
 ghost use Rattle.expr_syntax.specs.TermView.{term_of, terms_view};
 
 use crate::names::Name;
-use crate::parts::{Inputs, Labels, Names, Pieces};
+use crate::parts::{Inputs, Labels, Names, Pieces, Ramp};
 use crate::rows::{Row, Wanted};
 use decimal_json::Text;
-use prop_values::{Curve, Item, Value, Want};
+use prop_values::{Item, Value, Want};
 use std::alloc::{AllocError, Global};
 use std::marker::Model;
 
-/// What a node does with its arguments (MapLibre style specification, version 8, expressions), with its parts. `name` gives its row
-/// in the table of operators.
+/// What a node does with its arguments (MapLibre style specification, version 8, expressions), with its
+/// parts. `name` gives its row in the table of operators.
 #[derive(Drop)]
 pub enum Operator {
     /// `array`: the items and the length, where they are asked.
@@ -85,7 +85,7 @@ pub enum Operator {
     /// `step`.
     Step(Inputs),
     /// `interpolate`.
-    Interpolate(Curve, Inputs),
+    Interpolate(Ramp),
     /// `let`.
     Let(Names),
     /// `var`.
@@ -170,7 +170,7 @@ impl Operator {
             Operator::Match(_) => Name::Match,
             Operator::Coalesce => Name::Coalesce,
             Operator::Step(_) => Name::Step,
-            Operator::Interpolate(_, _) => Name::Interpolate,
+            Operator::Interpolate(_) => Name::Interpolate,
             Operator::Let(_) => Name::Let,
             Operator::Var(_) => Name::Var,
             Operator::Zoom => Name::Zoom,

@@ -1,34 +1,25 @@
 //! The labels of `match`.
 
-ghost use Rattle.std.specs.Prelude.{◌≡◌, ◌||◌, ◌++◌, [], ◌∷◌, ℕ, ℤ, List, false, IfOk, OnOk, is_some, length};
+ghost use Rattle.std.specs.Prelude.{◌≡◌, IfOk, length};
 ghost use Rattle.std.specs.List.{list_all};
-ghost use Rattle.std.specs.Str.{bytes_eq};
-ghost use Rattle.std.specs.Ordering.{int_cmp, int_eq};
-ghost use Rattle.std.specs.BTreeSet.{contains};
-ghost use Rattle.prop_values.specs.Data.{pairs_of};
-ghost use Rattle.prop_values.specs.Equality.{at_key};
-ghost use Rattle.expr_syntax.specs.declared.parts.Label.{Label};
 ghost use Rattle.decimal_json.specs.View.{tree_of, trees};
-ghost use Rattle.fixed_num.specs.declared.decimal.NumFault.{NumFault};
-ghost use Rattle.expr_syntax.specs.Elements.{taken};
-ghost use Rattle.expr_syntax.specs.Rows.{is_label};
-ghost use Rattle.expr_syntax.specs.Parts.{collect_number, collect_label, collect_labels, collect_some, collect_part, collect_parts, no_labels, is_number, is_text, are_of_one_type, repeats, same_label, labels_operator, match_operator};
-ghost use Rattle.expr_syntax.specs.Seen.{seen_in};
+ghost use Rattle.expr_syntax.specs.LabelLists.{is_number, is_text};
+ghost use Rattle.expr_syntax.specs.Parts.{match_operator, labels_operator, labels_among, collect_part, collect_some, collect_labels};
+ghost use Rattle.expr_syntax.specs.Parts.{collect_label, collect_number, with_label, are_of_one_type};
 
 use crate::expression::Operator;
 use crate::fault::SynCode;
+use crate::label_index::LabelList;
 use crate::parts::{Label, Labelled, Labels};
 use crate::rows::is_label;
-use decimal_json::{Json, Text};
+use decimal_json::Json;
 use fixed_num::{Fixed, NumFault, read_decimal};
-use prop_values::{Entries, Value};
 use std::alloc::{AllocError, Global};
-use std::collections::BTreeSet;
 
 /// The labels within the bound, and whether there is one past it.
 #[derive(Drop)]
 pub(crate) struct Collected {
-    labels: Labels,
+    labels: LabelList,
     past: bool,
 }
 
@@ -37,7 +28,7 @@ pub(crate) fn read_match(
     alloc: Global,
     items: &[Json],
 ) -> Result<Result<Operator, SynCode>, AllocError>
-    ensures { IfOk result (λ read. read ≡ match_operator (collect_parts 0 (taken is_label (length items.now) 0 (trees items.now)) no_labels)) }
+    ensures { IfOk result (λ read. read ≡ match_operator (labels_among (length items.now) (trees items.now))) }
 {
     match collect_parts(alloc, items)? {
         Some(found) => finish(alloc, found),
@@ -48,10 +39,13 @@ pub(crate) fn read_match(
 fn finish(alloc: Global, found: Collected) -> Result<Result<Operator, SynCode>, AllocError>
     ensures { IfOk result (λ read. read ≡ labels_operator found) }
 {
-    if !are_of_one_type(&found) || repeats(alloc, found.labels.as_slice())? {
+    if !are_of_one_type(&found) {
         return Ok(Err(SynCode::Part));
     }
     let Collected { labels, past } = found;
+    let Some(labels) = Labels::of(alloc, labels)? else {
+        return Ok(Err(SynCode::Part));
+    };
     if past {
         return Ok(Err(SynCode::NumberRange));
     }
@@ -59,10 +53,10 @@ fn finish(alloc: Global, found: Collected) -> Result<Result<Operator, SynCode>, 
 }
 
 fn collect_parts(alloc: Global, items: &[Json]) -> Result<Option<Collected>, AllocError>
-    ensures { IfOk result (λ found. found ≡ collect_parts 0 (taken is_label (length items.now) 0 (trees items.now)) no_labels) }
+    ensures { IfOk result (λ found. found ≡ labels_among (length items.now) (trees items.now)) }
 {
     let mut found = Collected {
-        labels: Labels::new(alloc),
+        labels: LabelList::new(alloc),
         past: false,
     };
     let mut output = 0;
@@ -164,7 +158,7 @@ fn collect_number(
 }
 
 fn with_label(found: Collected, label: Label, output: usize) -> Result<Collected, AllocError>
-    ensures { IfOk result (λ next. next ≡ record found { labels = found.labels ++ record { label = label; output = output } ∷ [] }) }
+    ensures { IfOk result (λ next. next ≡ with_label output label found) }
 {
     let mut found = found;
     found.labels.push(Labelled { label, output })?;
@@ -197,68 +191,4 @@ fn are_texts(labels: &[Labelled]) -> bool
         }
     }
     true
-}
-
-// Labels that were met. The values of the texts do not count.
-#[derive(Drop)]
-pub(crate) struct Seen {
-    texts: Entries,
-    numbers: BTreeSet<i128>,
-}
-
-// Whether a label stands twice.
-fn repeats(alloc: Global, labels: &[Labelled]) -> Result<bool, AllocError>
-    ensures { IfOk result (λ twice. twice ≡ repeats (λ m. false) labels.now) }
-{
-    let mut seen = Seen {
-        texts: Entries::new(alloc),
-        numbers: BTreeSet::new(alloc),
-    };
-    for label in labels {
-        if is_seen(&seen, &label.label) {
-            return Ok(true);
-        }
-        note(&mut seen, &label.label)?;
-    }
-    Ok(false)
-}
-
-fn is_seen(seen: &Seen, label: &Label) -> bool
-    ensures { result ≡ seen_in seen.now label.now }
-{
-    match label {
-        Label::Text(text) => has_text(&seen.texts, text),
-        Label::Number(number) => seen.numbers.contains(&number.millionths()),
-    }
-}
-
-fn has_text(texts: &Entries, text: &Text) -> bool
-    ensures { result ≡ is_some (at_key text.now (pairs_of texts.now)) }
-{
-    match texts.get(text.as_str()) {
-        Some(_) => true,
-        None => false,
-    }
-}
-
-fn note(seen: &mut Seen, label: &Label) -> Result<(), AllocError>
-    ensures { OnOk result ((m : Label) → seen_in seen.new m ≡ (same_label label.now m || seen_in seen.old m)) }
-{
-    match label {
-        Label::Text(text) => note_text(&mut seen.texts, text),
-        Label::Number(number) => note_number(&mut seen.numbers, number.millionths()),
-    }
-}
-
-fn note_text(texts: &mut Entries, text: &Text) -> Result<(), AllocError>
-    ensures { OnOk result ((s : List ℕ) → is_some (at_key s (pairs_of texts.new)) ≡ (bytes_eq text.now s || is_some (at_key s (pairs_of texts.old)))) }
-{
-    texts.set(text.share()?, Value::Null)
-}
-
-fn note_number(numbers: &mut BTreeSet<i128>, number: i128) -> Result<(), AllocError>
-    ensures { OnOk result ((z : ℤ) → contains int_cmp numbers.new z ≡ (int_eq number z || contains int_cmp numbers.old z)) }
-{
-    numbers.insert(number)?;
-    Ok(())
 }

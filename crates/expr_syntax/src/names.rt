@@ -10,8 +10,8 @@ use crate::rows::Wants::{Bindings, Conditions, Each, Input, Then, Third};
 use crate::rows::{Arity, Layout, Manner, Reads, Row, Wants};
 use prop_values::{Item, Want};
 
-/// The name of an operator (MapLibre style specification, version 8, expressions), in the order of the table. Those behind
-/// `format` are outside of what is evaluated.
+/// The name of an operator (MapLibre style specification, version 8, expressions), in the order of the table.
+/// Those behind `format` are outside of what is evaluated.
 #[derive(Clone, Copy, Debug, PartialEq, Eq)]
 pub enum Name {
     /// `literal`.
@@ -184,7 +184,32 @@ pub enum Name {
     Accumulated,
 }
 
+/// How the elements of a node stand: a part of its row.
+#[derive(Clone, Copy, Debug, PartialEq, Eq)]
+pub(crate) struct Shape {
+    /// Whether the operator is outside of what is evaluated.
+    pub(crate) is_outside: bool,
+    /// How many elements may follow the name.
+    pub(crate) arity: Arity,
+    /// Which elements are arguments.
+    pub(crate) layout: Layout,
+}
+
 impl Name {
+    /// How the elements of its nodes stand.
+    pub(crate) fn shape(self) -> Shape
+        ensures is_outside { result.is_outside ≡ (row self).is_outside }
+        ensures arity { result.arity ≡ (row self).arity }
+        ensures layout { result.layout ≡ (row self).layout }
+    {
+        let row = self.row();
+        Shape {
+            is_outside: row.is_outside,
+            arity: row.arity,
+            layout: row.layout,
+        }
+    }
+
     /// What the table says of the operator.
     pub fn row(self) -> Row
         ensures { row_view result ≡ row self }
@@ -410,7 +435,8 @@ fn outside(text: &'static str) -> Row
     }
 }
 
-/// The name that a text is, or `None` exactly where it is the name of no operator. Compares the text with one name alone.
+/// The name that a text is, or `None` exactly where it is the name of no operator. Compares the text with one
+/// name alone.
 #[tactic(auto, using(crate::proofs::NameLaws::name_found, crate::proofs::NameLaws::name_lost))]
 pub fn operator_named(text: &str) -> Option<Name>
     ensures { result ≡ name_of text.now }

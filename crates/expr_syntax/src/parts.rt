@@ -1,11 +1,18 @@
 //! The parts of operators, which are no arguments.
 
-ghost use Rattle.std.specs.Prelude.{◌≡◌, [], ◌∷◌, ◌++◌, OnOk, OnErr};
+ghost use Rattle.std.specs.Prelude.{◌≡◌, ◌<◌, [], ◌∷◌, ◌++◌, length, IfOk, OnOk, OnErr};
+ghost use Rattle.prop_values.specs.View.{data_of};
+ghost use Rattle.expr_syntax.specs.Chosen.{output_of};
+ghost use Rattle.expr_syntax.specs.LabelIndex.{distinct_labels};
 ghost use Rattle.expr_syntax.specs.Operators.{role_want};
+ghost use Rattle.expr_syntax.specs.Stops.{IsAboveLast};
+ghost use Rattle.interpolate_fixed.specs.Places.{IsAscending};
+ghost use Rattle.interpolate_fixed.specs.Warp.{HasPositiveBase};
 
+use crate::label_index::{LabelIndex, LabelList, index_of, value_output};
 use decimal_json::Text;
 use fixed_num::Fixed;
-use prop_values::{Item, Want};
+use prop_values::{Curve, Item, Value, Want};
 use std::alloc::{AllocError, Global};
 use std::marker::Model;
 
@@ -23,37 +30,35 @@ pub struct Labelled {
     pub output: usize,
 }
 
-/// The labels of a `match` in order. They are all texts or all numbers, and no two are equal.
+/// The labels of a `match` in order. They are all texts or all numbers, and no two are equal. The index finds
+/// the output of a value in logarithmic time.
 #[derive(Drop)]
 pub struct Labels {
-    labels: Vec<Labelled>,
+    labels: LabelList,
+    index: LabelIndex,
 }
 
 impl Model for Labels {
     ghost use Rattle.std.specs.Prelude.{List};
     ghost use Rattle.expr_syntax.specs.declared.parts.Labelled.{Labelled};
+    ghost use Rattle.expr_syntax.specs.LabelIndex.{IsIndexOfLabels};
 
     ghost Value = { List Labelled };
 
-    ghost view = { λ a. a.labels.items };
+    ghost view = { λ a. a.labels };
+
+    ghost invariant = { λ a. IsIndexOfLabels a.index a.labels };
 }
 
 impl Labels {
-    pub fn new(alloc: Global) -> Labels
-        ensures { result ≡ [] }
+    /// Labels, or none where one stands twice.
+    pub(crate) fn of(alloc: Global, labels: LabelList) -> Result<Option<Labels>, AllocError>
+        ensures { IfOk result (λ made. made ≡ distinct_labels labels) }
     {
-        Labels {
-            labels: Vec::new(alloc),
+        match index_of(alloc, labels.as_slice())? {
+            Some(index) => Ok(Some(Labels { labels, index })),
+            None => Ok(None),
         }
-    }
-
-    /// Adds a label at the end.
-    pub fn push(&mut self, label: Labelled) -> Result<(), AllocError>
-        ensures ok { OnOk result (self.new ≡ self.old ++ label ∷ []) }
-        ensures err { OnErr result (self.new ≡ self.old) }
-    {
-        self.labels.push(label)?;
-        Ok(())
     }
 
     pub fn as_slice(&self) -> &[Labelled]
@@ -61,9 +66,20 @@ impl Labels {
     {
         self.labels.as_slice()
     }
+
+    /// The number of the output of the label that is equal to a value, or the given one where none is.
+    #[tactic(auto, using(crate::proofs::LabelIndexLaws::chosen_some, crate::proofs::LabelIndexLaws::chosen_none))]
+    pub fn output_of(&self, value: &Value, last: usize) -> usize
+        ensures { result ≡ output_of self.now (data_of value.now) last }
+    {
+        match value_output(&self.index, value) {
+            Some(output) => output,
+            None => last,
+        }
+    }
 }
 
-/// The inputs of stops, which ascend.
+/// The inputs of stops. Each is below the next.
 #[derive(Drop)]
 pub struct Inputs {
     inputs: Vec<Fixed>,
@@ -71,10 +87,13 @@ pub struct Inputs {
 
 impl Model for Inputs {
     ghost use Rattle.std.specs.Prelude.{List, ℤ};
+    ghost use Rattle.interpolate_fixed.specs.Places.{IsAscending};
 
     ghost Value = { List ℤ };
 
     ghost view = { λ a. a.inputs.items };
+
+    ghost invariant = { λ a. IsAscending a.inputs.items };
 }
 
 impl Inputs {
@@ -86,8 +105,9 @@ impl Inputs {
         }
     }
 
-    /// Adds an input at the end.
+    /// Adds an input at the end. It has to be above the last.
     pub fn push(&mut self, input: Fixed) -> Result<(), AllocError>
+        requires { IsAboveLast input self.old }
         ensures ok { OnOk result (self.new ≡ self.old ++ input ∷ []) }
         ensures err { OnErr result (self.new ≡ self.old) }
     {
@@ -96,7 +116,53 @@ impl Inputs {
     }
 
     pub fn as_slice(&self) -> &[Fixed]
-        ensures { result.now ≡ self.now }
+        ensures inputs { result.now ≡ self.now }
+        ensures ascending { IsAscending result.now }
+    {
+        self.inputs.as_slice()
+    }
+}
+
+/// How an `interpolate` goes from stop to stop: the curve, whose base is above 0 where it has one, and the
+/// inputs of the stops, at least one.
+#[derive(Drop)]
+pub struct Ramp {
+    curve: Curve,
+    inputs: Inputs,
+}
+
+impl Model for Ramp {
+    ghost use Rattle.std.specs.Prelude.{List, ℤ, ◌<◌, length};
+    ghost use Rattle.prop_values.specs.declared.outcome.Curve.{Curve};
+    ghost use Rattle.interpolate_fixed.specs.Warp.{HasPositiveBase};
+
+    ghost Value = { Curve × List ℤ };
+
+    ghost view = { λ a. (a.curve, a.inputs) };
+
+    ghost invariant = { λ a. (0 < length a.inputs) × HasPositiveBase a.curve };
+}
+
+impl Ramp {
+    pub fn new(curve: Curve, inputs: Inputs) -> Ramp
+        requires some { 0 < length inputs }
+        requires base { HasPositiveBase curve }
+        ensures { result ≡ (curve, inputs) }
+    {
+        Ramp { curve, inputs }
+    }
+
+    pub fn curve(&self) -> &Curve
+        ensures curve { result.now ≡ self.now.0 }
+        ensures base { HasPositiveBase result.now }
+    {
+        &self.curve
+    }
+
+    pub fn inputs(&self) -> &[Fixed]
+        ensures inputs { result.now ≡ self.now.1 }
+        ensures some { 0 < length result.now }
+        ensures ascending { IsAscending result.now }
     {
         self.inputs.as_slice()
     }

@@ -1,16 +1,16 @@
 //! The reading of expressions from JSON.
 
-ghost use Rattle.std.specs.Prelude.{◌≡◌, IfOk, length, option_map, ◌<◌, ◌^◌, false, if◌then◌else◌};
+ghost use Rattle.std.specs.Prelude.{◌≡◌, ◌<◌, ◌^◌, IfOk};
 ghost use Rattle.decimal_json.specs.Place.{path_of};
-ghost use Rattle.decimal_json.specs.View.{tree_of, trees, fields};
-ghost use Rattle.expr_syntax.specs.Elements.{head_text, second, second_text};
-ghost use Rattle.expr_syntax.specs.Names.{row};
-ghost use Rattle.expr_syntax.specs.Parts.{operator_of};
+ghost use Rattle.decimal_json.specs.Tree.{list};
+ghost use Rattle.decimal_json.specs.View.{tree_of, trees};
+ghost use Rattle.expr_syntax.specs.Elements.{second, second_text};
+ghost use Rattle.expr_syntax.specs.ReadView.{read_of, reading_of, read_at, arguments_of, arguments_within, elements_of, members_of, value_view};
+ghost use Rattle.expr_syntax.specs.Reading.{read, node_of, reading, reading_with, fault, number_read, literal_read};
+ghost use Rattle.expr_syntax.specs.Reading.{global_read, global_term, is_value_layout, is_global_layout, is_part};
+ghost use Rattle.expr_syntax.specs.Reading.{then_node, all_sections, section_of, options_read};
 ghost use Rattle.expr_syntax.specs.Rows.{element_place};
-ghost use Rattle.prop_values.specs.View.{data_of};
-ghost use Rattle.expr_syntax.specs.ReadView.{read_of, reading_of};
-ghost use Rattle.expr_syntax.specs.Reading.{fault, number_read, literal_read, global_read, global_term, arguments, names_in, then_node, with_operator, options_read, sections_read, no_sections, section_read, options, is_part, node_read, array_read, read, elements, members, reading_with, reading, is_value_layout, is_global_layout};
-ghost use Rattle.expr_syntax.specs.Scopes.{scope_of, global_at};
+ghost use Rattle.expr_syntax.specs.Scopes.{scope_of};
 ghost use Rattle.expr_syntax.specs.Standing.{uses_globals};
 ghost use Rattle.expr_syntax.specs.TermView.{term_of};
 
@@ -20,7 +20,7 @@ use crate::fault::{SynCode, SynFault};
 use crate::names::{Name, operator_named};
 use crate::parts::Role;
 use crate::rows::{Layout, Place};
-use crate::scope::{Scope, global_at};
+use crate::scope::{Frame, Scope, global_at};
 use crate::sections::{Sections, finish_format};
 use crate::standing::{Sought, has_arity, is_format, stands};
 use crate::values::{option_named, read_operator};
@@ -45,8 +45,8 @@ pub fn read_expr(alloc: Global, json: &Json) -> Result<Result<Reading, SynFault>
     read_with(alloc, json, &globals)
 }
 
-/// What a JSON tree reads as, or its first fault, by the values of the global state. Each `global-state` node reads as `get` of
-/// its name in an object that has the name's value, or is empty where it has none.
+/// What a JSON tree reads as, or its first fault, by the values of the global state. Each `global-state` node
+/// reads as `get` of its name in an object that has the name's value, or is empty where it has none.
 pub fn read_with(
     alloc: Global,
     json: &Json,
@@ -70,7 +70,7 @@ pub fn uses_globals(json: &Json) -> bool
     stands(Sought::Global, json, true)
 }
 
-#[tactic(auto, using(decimal_json::specs::Falls::item_weight, decimal_json::specs::Falls::member_weight, crate::proofs::ElementLaws::readers_length))]
+#[tactic(auto, using(crate::proofs::ElementLaws::reading_rules))]
 #[cycle(reading)]
 fn read_json(
     alloc: Global,
@@ -78,7 +78,7 @@ fn read_json(
     scope: &Scope<'_>,
     here: &Here<'_>,
 ) -> Result<Result<Expr, SynFault>, AllocError>
-    ensures { IfOk result (λ r. read_of r ≡ read (tree_of json.now) (scope_of scope.now) (path_of here.now)) }
+    ensures { IfOk result (λ r. read_of r ≡ read_at (read (tree_of json.now)) scope.now here.now) }
 {
     match json {
         Json::Null => Ok(Ok(Expr::Literal(Value::Null))),
@@ -90,7 +90,7 @@ fn read_json(
     }
 }
 
-#[tactic(auto, using(decimal_json::specs::Falls::item_weight, decimal_json::specs::Falls::member_weight, crate::proofs::ElementLaws::readers_length))]
+#[tactic(auto, using(crate::proofs::ElementLaws::reading_rules))]
 #[cycle(reading)]
 fn read_array(
     alloc: Global,
@@ -98,7 +98,7 @@ fn read_array(
     scope: &Scope<'_>,
     here: &Here<'_>,
 ) -> Result<Result<Expr, SynFault>, AllocError>
-    ensures { IfOk result (λ r. read_of r ≡ array_read (head_text (trees items.now)) (trees items.now) (elements (trees items.now)) (scope_of scope.now) (path_of here.now)) }
+    ensures { IfOk result (λ r. read_of r ≡ read_at (read (list (trees items.now))) scope.now here.now) }
 {
     let Some(text) = head_text(items) else {
         return refused(alloc, here, SynCode::NoOperator);
@@ -109,7 +109,7 @@ fn read_array(
     }
 }
 
-#[tactic(auto, using(decimal_json::specs::Falls::item_weight, decimal_json::specs::Falls::member_weight, crate::proofs::ElementLaws::readers_length))]
+#[tactic(auto, using(crate::proofs::ElementLaws::reading_rules, crate::proofs::StopLaws::ramp_arity))]
 #[cycle(reading)]
 fn read_node(
     alloc: Global,
@@ -118,24 +118,25 @@ fn read_node(
     scope: &Scope<'_>,
     here: &Here<'_>,
 ) -> Result<Result<Expr, SynFault>, AllocError>
-    ensures { IfOk result (λ r. read_of r ≡ node_read name (trees items.now) (elements (trees items.now)) (scope_of scope.now) (path_of here.now)) }
+    ensures { IfOk result (λ r. read_of r ≡ read_at (node_of name (trees items.now)) scope.now here.now) }
 {
-    if !has_arity(name, items) {
+    let shape = name.shape();
+    if !has_arity(shape.arity, items) {
         return refused(alloc, here, SynCode::Arity);
     }
-    if is_value(name) {
+    if is_value(shape.layout) {
         return read_literal(alloc, items, here);
     }
-    if is_global(name) {
+    if is_global(shape.layout) {
         return read_global(alloc, items, scope, here);
     }
-    if is_format(name) {
+    if is_format(shape.layout) {
         let read = read_sections(alloc, items, scope, here)?;
         return Ok(finish_format(read));
     }
-    match read_operator(alloc, name.row().layout, name, items, scope)? {
+    match read_operator(alloc, shape.layout, name, items, scope)? {
         Ok(op) => {
-            let arguments = read_within(alloc, name, &op, items, &*scope, here)?;
+            let arguments = read_within(alloc, shape.layout, &op, items, &*scope, here)?;
             Ok(finish(op, arguments))
         }
         Err(code) => refused(alloc, here, code),
@@ -143,40 +144,40 @@ fn read_node(
 }
 
 // The arguments of a node, its last element inside the names that it binds.
-#[tactic(auto, using(decimal_json::specs::Falls::item_weight, decimal_json::specs::Falls::member_weight, crate::proofs::ElementLaws::readers_length))]
+#[tactic(auto, using(crate::proofs::ElementLaws::reading_rules))]
 #[cycle(reading)]
 fn read_within<'x>(
     alloc: Global,
-    name: Name,
+    layout: Layout,
     op: &'x Operator,
     items: &[Json],
     scope: &'x Scope<'x>,
     here: &Here<'_>,
 ) -> Result<Result<Arguments, SynFault>, AllocError>
-    ensures { IfOk result (λ r. r ≡ arguments (row name).layout (length items.now) 0 (elements (trees items.now)) (names_in op.now (scope_of scope.now)) (scope_of scope.now) (path_of here.now)) }
+    ensures { IfOk result (λ r. r ≡ read_at (arguments_within layout op.now items.now) scope.now here.now) }
 {
     match op {
         Operator::Let(names) => {
-            let inner = Scope::Frame(names, &*scope);
-            read_arguments(alloc, name, items, &inner, &*scope, here)
+            let frame = Frame::of(alloc, names)?;
+            let inner = Scope::Inside(&frame, &*scope);
+            read_arguments(alloc, layout, items, &inner, &*scope, here)
         }
-        _ => read_arguments(alloc, name, items, &*scope, &*scope, here),
+        _ => read_arguments(alloc, layout, items, &*scope, &*scope, here),
     }
 }
 
-#[tactic(auto, using(decimal_json::specs::Falls::item_weight, decimal_json::specs::Falls::member_weight, crate::proofs::ElementLaws::readers_length, crate::proofs::ElementLaws::after_term))]
+#[tactic(auto, using(crate::proofs::ElementLaws::reading_rules, crate::proofs::ElementLaws::after_term))]
 #[cycle(reading)]
 fn read_arguments<'x>(
     alloc: Global,
-    name: Name,
+    layout: Layout,
     items: &[Json],
     inner: &'x Scope<'x>,
     scope: &'x Scope<'x>,
     here: &Here<'_>,
 ) -> Result<Result<Arguments, SynFault>, AllocError>
-    ensures { IfOk result (λ r. r ≡ arguments (row name).layout (length items.now) 0 (elements (trees items.now)) (scope_of inner.now) (scope_of scope.now) (path_of here.now)) }
+    ensures { IfOk result (λ r. r ≡ read_at (arguments_of layout items.now (scope_of inner.now)) scope.now here.now) }
 {
-    let layout = name.row().layout;
     let mut arguments = Arguments::new(alloc);
     for (i, item) in items.iter().enumerate() {
         if !is_part(layout, items.len(), i) {
@@ -196,7 +197,7 @@ fn read_arguments<'x>(
 }
 
 // The contents of a `format` and the options behind them.
-#[tactic(auto, using(decimal_json::specs::Falls::item_weight, decimal_json::specs::Falls::member_weight, crate::proofs::ElementLaws::readers_length))]
+#[tactic(auto, using(crate::proofs::ElementLaws::reading_rules))]
 #[cycle(reading)]
 fn read_sections(
     alloc: Global,
@@ -204,7 +205,7 @@ fn read_sections(
     scope: &Scope<'_>,
     here: &Here<'_>,
 ) -> Result<Result<Sections, SynFault>, AllocError>
-    ensures { IfOk result (λ r. r ≡ sections_read 0 false (elements (trees items.now)) (scope_of scope.now) (path_of here.now) no_sections) }
+    ensures { IfOk result (λ r. r ≡ read_at (all_sections (elements_of items.now)) scope.now here.now) }
 {
     let mut found = Sections::new(alloc);
     let mut follows = false;
@@ -221,7 +222,7 @@ fn read_sections(
     Ok(Ok(found))
 }
 
-#[tactic(auto, using(decimal_json::specs::Falls::item_weight, decimal_json::specs::Falls::member_weight, crate::proofs::ElementLaws::readers_length))]
+#[tactic(auto, using(crate::proofs::ElementLaws::reading_rules))]
 #[cycle(reading)]
 fn read_section(
     alloc: Global,
@@ -232,7 +233,7 @@ fn read_section(
     scope: &Scope<'_>,
     here: &Here<'_>,
 ) -> Result<Result<Sections, SynFault>, AllocError>
-    ensures { IfOk result (λ r. r ≡ section_read at follows (options (tree_of item.now)) (read (tree_of item.now)) (scope_of scope.now) (path_of here.now) found) }
+    ensures { IfOk result (λ r. r ≡ read_at (section_of at follows (tree_of item.now)) scope.now here.now found) }
 {
     match item {
         Json::Object(options) if follows => {
@@ -246,7 +247,7 @@ fn read_section(
     }
 }
 
-#[tactic(auto, using(decimal_json::specs::Falls::item_weight, decimal_json::specs::Falls::member_weight, crate::proofs::ElementLaws::readers_length))]
+#[tactic(auto, using(crate::proofs::ElementLaws::reading_rules))]
 #[cycle(reading)]
 fn read_options(
     alloc: Global,
@@ -256,7 +257,7 @@ fn read_options(
     scope: &Scope<'_>,
     here: &Here<'_>,
 ) -> Result<Result<Sections, SynFault>, AllocError>
-    ensures { IfOk result (λ r. r ≡ options_read at (members (fields options.now)) (scope_of scope.now) (path_of here.now) found) }
+    ensures { IfOk result (λ r. r ≡ read_at (options_read at (members_of options.now)) scope.now here.now found) }
 {
     let mut found = found;
     for option in options {
@@ -333,7 +334,7 @@ fn read_global(
     scope: &Scope<'_>,
     here: &Here<'_>,
 ) -> Result<Result<Expr, SynFault>, AllocError>
-    ensures { IfOk result (λ r. read_of r ≡ global_read (second_text (trees items.now)) (scope_of scope.now) (path_of here.now)) }
+    ensures { IfOk result (λ r. read_of r ≡ read_at (global_read (second_text (trees items.now))) scope.now here.now) }
 {
     let Some(name) = second_text(items) else {
         return refused(alloc, here, SynCode::Part);
@@ -343,7 +344,7 @@ fn read_global(
 
 // `get` of a name in an object that has its value, or is empty where there is none.
 fn global_get(alloc: Global, name: &Text, value: Option<&Value>) -> Result<Expr, AllocError>
-    ensures { IfOk result (λ e. term_of e ≡ global_term name.now (option_map (λ v. data_of v.now) value.entry)) }
+    ensures { IfOk result (λ e. term_of e ≡ global_term name.now (value_view value.entry)) }
 {
     let mut members = Entries::new(alloc);
     if let Some(value) = value {
@@ -371,14 +372,14 @@ fn is_part(layout: Layout, elements: usize, at: usize) -> bool
     matches!(layout.place(elements, at), Place::Part)
 }
 
-fn is_value(name: Name) -> bool
-    ensures { result ≡ is_value_layout (row name).layout }
+fn is_value(layout: Layout) -> bool
+    ensures { result ≡ is_value_layout layout }
 {
-    matches!(name.row().layout, Layout::Value)
+    matches!(layout, Layout::Value)
 }
 
-fn is_global(name: Name) -> bool
-    ensures { result ≡ is_global_layout (row name).layout }
+fn is_global(layout: Layout) -> bool
+    ensures { result ≡ is_global_layout layout }
 {
-    matches!(name.row().layout, Layout::Global)
+    matches!(layout, Layout::Global)
 }

@@ -67,7 +67,8 @@ pub enum Layout {
     Sections,
 }
 
-/// What an element of a node is: a part of the operator, an argument, or an argument whose value may be that of the node.
+/// What an element of a node is: a part of the operator, an argument, or an argument whose value may be that
+/// of the node.
 #[derive(Clone, Copy, Debug, PartialEq, Eq)]
 pub enum Place {
     Part,
@@ -139,7 +140,8 @@ impl Arity {
 }
 
 impl Layout {
-    /// What the element at a place is. Places are counted from the name, which has place 0 and counts as one of the elements.
+    /// What the element at a place is. Places are counted from the name, which has place 0 and counts as one
+    /// of the elements.
     pub fn place(self, elements: usize, at: usize) -> Place
         requires { at < 2 ^ 63 }
         ensures { result ≡ element_place self elements at }

@@ -1,15 +1,14 @@
 //! Whether a node of some sort stands in a tree.
 
-ghost use Rattle.expr_syntax.specs.Names.{row};
 ghost use Rattle.expr_syntax.specs.Rows.{allows};
 ghost use Rattle.std.specs.Prelude.{◌≡◌, length, false, Some, ◌-◌};
+ghost use Rattle.decimal_json.specs.Tree.{list};
 ghost use Rattle.decimal_json.specs.View.{tree_of, trees, fields};
-ghost use Rattle.expr_syntax.specs.Elements.{head_name, second, head_text};
-ghost use Rattle.expr_syntax.specs.Standing.{stands, elements, members, array_stands, some_element, some_section, some_option, is_sought, is_outside_node, layout_outside, outside_curve, is_outside_curve, outside_sections, outside_part, other_options, is_image_node, is_format_layout, outside_ramp};
+ghost use Rattle.expr_syntax.specs.Elements.{second, head_text};
+ghost use Rattle.expr_syntax.specs.Standing.{stands, elements, members, some_element, some_section, some_option, is_sought, layout_outside, outside_curve, is_outside_curve, outside_sections, outside_part, other_options, is_image_node, is_format_layout, outside_ramp};
 
 use crate::elements::{head_name, head_text, second};
-use crate::names::Name;
-use crate::rows::{Layout, Place};
+use crate::rows::{Arity, Layout, Place};
 use crate::values::{curve_of, option_named};
 use decimal_json::{Json, Member};
 use prop_values::Curve;
@@ -24,7 +23,7 @@ pub(crate) enum Sought {
 }
 
 /// Whether a node that is sought stands in a tree. `format` says whether a `format` node may stand at its root.
-#[tactic(auto, using(decimal_json::specs::Falls::item_weight, decimal_json::specs::Falls::member_weight, crate::proofs::ElementLaws::elements_length))]
+#[tactic(auto, using(crate::proofs::ElementLaws::standing_rules))]
 #[cycle(standing)]
 pub(crate) fn stands(sought: Sought, json: &Json, format: bool) -> bool
     ensures { result ≡ stands (tree_of json.now) sought format }
@@ -35,36 +34,36 @@ pub(crate) fn stands(sought: Sought, json: &Json, format: bool) -> bool
     }
 }
 
-#[tactic(auto, using(decimal_json::specs::Falls::item_weight, decimal_json::specs::Falls::member_weight, crate::proofs::ElementLaws::elements_length))]
+#[tactic(auto, using(crate::proofs::ElementLaws::standing_rules))]
 #[cycle(standing)]
 fn stands_in_array(sought: Sought, items: &[Json], format: bool) -> bool
-    ensures { result ≡ array_stands (head_name (trees items.now)) (trees items.now) (elements (trees items.now)) sought format }
+    ensures { result ≡ stands (list (trees items.now)) sought format }
 {
     let Some(name) = head_name(items) else {
         return false;
     };
-    if is_outside_node(name, items, format) {
+    let shape = name.shape();
+    if shape.is_outside || layout_outside(shape.layout, items, format) {
         return matches!(sought, Sought::Outside);
     }
-    if is_sought(sought, name) {
+    if is_sought(sought, shape.layout) {
         return true;
     }
-    if !has_arity(name, items) {
+    if !has_arity(shape.arity, items) {
         return false;
     }
-    if is_format(name) {
+    if is_format(shape.layout) {
         stands_in_sections(sought, items)
     } else {
-        stands_in_elements(sought, name, items, format)
+        stands_in_elements(sought, shape.layout, items, format)
     }
 }
 
-#[tactic(auto, using(decimal_json::specs::Falls::item_weight, decimal_json::specs::Falls::member_weight, crate::proofs::ElementLaws::elements_length))]
+#[tactic(auto, using(crate::proofs::ElementLaws::standing_rules))]
 #[cycle(standing)]
-fn stands_in_elements(sought: Sought, name: Name, items: &[Json], format: bool) -> bool
-    ensures { result ≡ some_element (row name).layout (length items.now) 0 (elements (trees items.now)) sought format }
+fn stands_in_elements(sought: Sought, layout: Layout, items: &[Json], format: bool) -> bool
+    ensures { result ≡ some_element layout (length items.now) 0 (elements (trees items.now)) sought format }
 {
-    let layout = name.row().layout;
     for (i, item) in items.iter().enumerate() {
         let found = match layout.place(items.len(), i) {
             Place::Part => false,
@@ -79,7 +78,7 @@ fn stands_in_elements(sought: Sought, name: Name, items: &[Json], format: bool) 
 }
 
 // The contents of a `format` and the options behind them. The name, which is a text, counts as no content.
-#[tactic(auto, using(decimal_json::specs::Falls::item_weight, decimal_json::specs::Falls::member_weight, crate::proofs::ElementLaws::elements_length))]
+#[tactic(auto, using(crate::proofs::ElementLaws::standing_rules))]
 #[cycle(standing)]
 fn stands_in_sections(sought: Sought, items: &[Json]) -> bool
     ensures { result ≡ some_section 0 false (elements (trees items.now)) sought }
@@ -98,7 +97,7 @@ fn stands_in_sections(sought: Sought, items: &[Json]) -> bool
     false
 }
 
-#[tactic(auto, using(decimal_json::specs::Falls::item_weight, decimal_json::specs::Falls::member_weight, crate::proofs::ElementLaws::elements_length))]
+#[tactic(auto, using(crate::proofs::ElementLaws::standing_rules))]
 #[cycle(standing)]
 fn stands_in_options(sought: Sought, options: &[Member]) -> bool
     ensures { result ≡ some_option (members (fields options.now)) sought }
@@ -111,37 +110,30 @@ fn stands_in_options(sought: Sought, options: &[Member]) -> bool
     false
 }
 
-fn is_sought(sought: Sought, name: Name) -> bool
-    ensures { result ≡ is_sought sought (row name).layout }
+fn is_sought(sought: Sought, layout: Layout) -> bool
+    ensures { result ≡ is_sought sought layout }
 {
-    matches!(sought, Sought::Global) && matches!(name.row().layout, Layout::Global)
+    matches!(sought, Sought::Global) && matches!(layout, Layout::Global)
 }
 
 /// Whether a node may have so many elements, the name counted.
-pub(crate) fn has_arity(name: Name, items: &[Json]) -> bool
-    ensures { result ≡ allows (row name).arity (length items.now - 1) }
+pub(crate) fn has_arity(arity: Arity, items: &[Json]) -> bool
+    ensures { result ≡ allows arity (length items.now - 1) }
 {
     match items {
-        [] => name.row().arity.allows(0),
-        [_, elements @ ..] => name.row().arity.allows(elements.len()),
+        [] => arity.allows(0),
+        [_, elements @ ..] => arity.allows(elements.len()),
     }
 }
 
 /// Whether the elements of a node are contents and options.
-pub(crate) fn is_format(name: Name) -> bool
-    ensures { result ≡ is_format_layout (row name).layout }
+pub(crate) fn is_format(layout: Layout) -> bool
+    ensures { result ≡ is_format_layout layout }
 {
-    matches!(name.row().layout, Layout::Sections)
+    matches!(layout, Layout::Sections)
 }
 
-// Whether a node itself is outside of what is evaluated.
-fn is_outside_node(name: Name, items: &[Json], format: bool) -> bool
-    ensures { result ≡ is_outside_node name (trees items.now) format }
-{
-    let row = name.row();
-    row.is_outside || layout_outside(row.layout, items, format)
-}
-
+// Whether a node of a layout is outside of what is evaluated by its elements.
 fn layout_outside(layout: Layout, items: &[Json], format: bool) -> bool
     ensures { result ≡ layout_outside layout (trees items.now) format }
 {

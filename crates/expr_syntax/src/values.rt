@@ -1,21 +1,25 @@
 //! The parts of operators other than labels, as they are read from JSON.
 
 ghost use Rattle.std.specs.Str.{bytes_eq};
-ghost use Rattle.std.specs.Prelude.{◌≡◌, IfOk, length, ℤ, List, Option, Some, None, if◌then◌else◌, codes};
+ghost use Rattle.std.specs.Prelude.{◌≡◌, ◌<◌, IfOk, IfSome, length, ℤ, List, Option, Some, None, if◌then◌else◌, codes};
 ghost use Rattle.std.specs.List.{list_all};
-ghost use Rattle.decimal_json.specs.View.{tree_of, trees};
 ghost use Rattle.decimal_json.specs.Tree.{Tree};
-ghost use Rattle.expr_syntax.specs.Elements.{taken, after_head, second, second_text, option_named};
-ghost use Rattle.expr_syntax.specs.Rows.{is_input, is_binder};
+ghost use Rattle.decimal_json.specs.View.{tree_of, trees};
+ghost use Rattle.interpolate_fixed.specs.Warp.{HasPositiveBase};
+ghost use Rattle.expr_syntax.specs.declared.rows.Layout.TheVariants as layouts;
+ghost use Rattle.expr_syntax.specs.Elements.{after_head, second, second_text, option_named};
 ghost use Rattle.expr_syntax.specs.Scopes.{scope_of};
-ghost use Rattle.expr_syntax.specs.Parts.{item_named, item_of, whole_units, length_in, length_of, array_operator, with_item, with_length, inputs_of, value_in, steps_up, base_of, curve_of, curve_from, linear, exponential, curve_in, is_name_byte, is_binding_name, binding_names, let_operator, var_operator, with_inputs, ramp_operator, operator_of, or_unknown};
+ghost use Rattle.expr_syntax.specs.Parts.{operator_of, or_unknown, array_operator, with_item, with_length, item_named, item_of};
+ghost use Rattle.expr_syntax.specs.Parts.{whole_units, length_in, length_of, step_operator, interpolate_operator, inputs_among};
+ghost use Rattle.expr_syntax.specs.Parts.{value_in, steps_up, base_of, curve_of, curve_from, linear, exponential, curve_in};
+ghost use Rattle.expr_syntax.specs.Parts.{is_name_byte, is_binding_name, names_among, let_operator, var_operator};
 
 use crate::elements::{after_head, second, second_text, text_in};
 use crate::expression::{Operator, plain_operator};
 use crate::fault::SynCode;
 use crate::labels::read_match;
 use crate::names::Name;
-use crate::parts::{Inputs, Names, Role};
+use crate::parts::{Inputs, Names, Ramp, Role};
 use crate::rows::{Layout, is_binder, is_input};
 use crate::scope::{Scope, knows};
 use decimal_json::Json;
@@ -23,7 +27,8 @@ use fixed_num::{Fixed, NumFault, read_decimal};
 use prop_values::{Curve, Item};
 use std::alloc::{AllocError, Global};
 
-/// The operator of a node with its parts, or the least fault at the node. The elements are as many as its row allows.
+/// The operator of a node with its parts, or the least fault at the node. The elements are as many as its row
+/// allows.
 pub(crate) fn read_operator(
     alloc: Global,
     layout: Layout,
@@ -31,7 +36,8 @@ pub(crate) fn read_operator(
     items: &[Json],
     scope: &Scope<'_>,
 ) -> Result<Result<Operator, SynCode>, AllocError>
-    ensures { IfOk result (λ read. read ≡ operator_of layout name (scope_of scope.now) (length items.now) (trees items.now)) }
+    requires { layout ≡ layouts.Ramp → 3 < length items.now }
+    ensures { IfOk result (λ r. r ≡ operator_of layout name (scope_of scope.now) (length items.now) (trees items.now)) }
 {
     match layout {
         Layout::Items => Ok(read_array(after_head(items))),
@@ -45,7 +51,7 @@ pub(crate) fn read_operator(
 }
 
 // `array`, by the elements behind its name.
-#[tactic(auto, using(crate::proofs::PartLaws::array_of_one, crate::proofs::PartLaws::array_of_two, crate::proofs::PartLaws::array_of_more))]
+#[tactic(auto, using(crate::proofs::PartLaws::array_rules))]
 fn read_array(elements: &[Json]) -> Result<Operator, SynCode>
     ensures { result ≡ array_operator (trees elements.now) }
 {
@@ -127,7 +133,7 @@ fn whole_units(millionths: u128) -> Option<u32>
 }
 
 fn read_step(alloc: Global, items: &[Json]) -> Result<Result<Operator, SynCode>, AllocError>
-    ensures { IfOk result (λ read. read ≡ with_inputs Operator.Step (inputs_of None (taken (λ n i. is_input i) (length items.now) 0 (trees items.now)))) }
+    ensures { IfOk result (λ read. read ≡ step_operator (length items.now) (trees items.now)) }
 {
     match read_inputs(alloc, items)? {
         Ok(inputs) => Ok(Ok(Operator::Step(inputs))),
@@ -135,22 +141,24 @@ fn read_step(alloc: Global, items: &[Json]) -> Result<Result<Operator, SynCode>,
     }
 }
 
+#[tactic(auto, using(crate::proofs::StopLaws::ramp_inputs))]
 fn read_interpolate(alloc: Global, items: &[Json]) -> Result<Result<Operator, SynCode>, AllocError>
-    ensures { IfOk result (λ read. read ≡ ramp_operator (curve_in (second (trees items.now))) (inputs_of None (taken (λ n i. is_input i) (length items.now) 0 (trees items.now)))) }
+    requires { 3 < length items.now }
+    ensures { IfOk result (λ read. read ≡ interpolate_operator (length items.now) (trees items.now)) }
 {
     let Some(curve) = curve_in(items) else {
         return Ok(Err(SynCode::Part));
     };
     match read_inputs(alloc, items)? {
-        Ok(inputs) => Ok(Ok(Operator::Interpolate(curve, inputs))),
+        Ok(inputs) => Ok(Ok(Operator::Interpolate(Ramp::new(curve, inputs)))),
         Err(code) => Ok(Err(code)),
     }
 }
 
 // The inputs of stops among the elements of a node.
-#[tactic(auto, using(crate::proofs::InputLaws::after_input, crate::proofs::InputLaws::past_input))]
+#[tactic(auto, using(crate::proofs::StopLaws::input_rules))]
 fn read_inputs(alloc: Global, items: &[Json]) -> Result<Result<Inputs, SynCode>, AllocError>
-    ensures { IfOk result (λ read. read ≡ inputs_of None (taken (λ n i. is_input i) (length items.now) 0 (trees items.now))) }
+    ensures { IfOk result (λ read. read ≡ inputs_among (length items.now) (trees items.now)) }
 {
     let mut inputs = Inputs::new(alloc);
     let mut before: Option<Fixed> = None;
@@ -165,7 +173,8 @@ fn read_inputs(alloc: Global, items: &[Json]) -> Result<Result<Inputs, SynCode>,
                 return Ok(Err(SynCode::Part));
             }
             match &input {
-                Some(input) => inputs.push(*input)?,
+                Some(input) if !past => inputs.push(*input)?,
+                Some(_) => {}
                 None => past = true,
             }
             before = input;
@@ -197,7 +206,8 @@ fn steps_up(before: &Option<Fixed>, input: &Option<Fixed>) -> bool
 
 // The interpolation of a node, which stands behind its name.
 fn curve_in(items: &[Json]) -> Option<Curve>
-    ensures { result ≡ curve_in (second (trees items.now)) }
+    ensures curve { result ≡ curve_in (second (trees items.now)) }
+    ensures base { IfSome result HasPositiveBase }
 {
     match second(items) {
         Some(part) => curve_of(part),
@@ -207,7 +217,8 @@ fn curve_in(items: &[Json]) -> Option<Curve>
 
 /// The interpolation that a part is.
 pub(crate) fn curve_of(part: &Json) -> Option<Curve>
-    ensures { result ≡ curve_of (tree_of part.now) }
+    ensures curve { result ≡ curve_of (tree_of part.now) }
+    ensures base { IfSome result HasPositiveBase }
 {
     match part {
         Json::List(items) => curve_from(items.as_slice()),
@@ -217,7 +228,8 @@ pub(crate) fn curve_of(part: &Json) -> Option<Curve>
 
 #[tactic(auto, using(crate::proofs::PartLaws::curve_from_many))]
 fn curve_from(items: &[Json]) -> Option<Curve>
-    ensures { result ≡ curve_from (trees items.now) }
+    ensures curve { result ≡ curve_from (trees items.now) }
+    ensures base { IfSome result HasPositiveBase }
 {
     match items {
         [] => None,
@@ -228,7 +240,8 @@ fn curve_from(items: &[Json]) -> Option<Curve>
 }
 
 fn linear(name: &str) -> Option<Curve>
-    ensures { result ≡ linear (Some name.now) }
+    ensures curve { result ≡ linear (Some name.now) }
+    ensures base { IfSome result HasPositiveBase }
 {
     if name == "linear" {
         Some(Curve::Linear)
@@ -238,7 +251,8 @@ fn linear(name: &str) -> Option<Curve>
 }
 
 fn exponential(name: &str, base: &Json) -> Option<Curve>
-    ensures { result ≡ exponential (Some name.now) (tree_of base.now) }
+    ensures curve { result ≡ exponential (Some name.now) (tree_of base.now) }
+    ensures base { IfSome result HasPositiveBase }
 {
     if name != "exponential" {
         return None;
@@ -250,7 +264,8 @@ fn exponential(name: &str, base: &Json) -> Option<Curve>
 }
 
 fn base_of(base: Result<Fixed, NumFault>) -> Option<Curve>
-    ensures { result ≡ base_of base }
+    ensures curve { result ≡ base_of base }
+    ensures base { IfSome result HasPositiveBase }
 {
     match base {
         Ok(base) if base.millionths() > 0 => Some(Curve::Exponential(base)),
@@ -260,7 +275,7 @@ fn base_of(base: Result<Fixed, NumFault>) -> Option<Curve>
 }
 
 fn read_let(alloc: Global, items: &[Json]) -> Result<Result<Operator, SynCode>, AllocError>
-    ensures { IfOk result (λ read. read ≡ let_operator (binding_names (taken is_binder (length items.now) 0 (trees items.now)))) }
+    ensures { IfOk result (λ read. read ≡ let_operator (names_among (length items.now) (trees items.now))) }
 {
     match binding_names(alloc, items)? {
         Some(names) => Ok(Ok(Operator::Let(names))),
@@ -270,7 +285,7 @@ fn read_let(alloc: Global, items: &[Json]) -> Result<Result<Operator, SynCode>, 
 
 #[tactic(auto, using(crate::proofs::InputLaws::after_name))]
 fn binding_names(alloc: Global, items: &[Json]) -> Result<Option<Names>, AllocError>
-    ensures { IfOk result (λ names. names ≡ binding_names (taken is_binder (length items.now) 0 (trees items.now))) }
+    ensures { IfOk result (λ names. names ≡ names_among (length items.now) (trees items.now)) }
 {
     let mut names = Names::new(alloc);
     for (i, item) in items.iter().enumerate() {

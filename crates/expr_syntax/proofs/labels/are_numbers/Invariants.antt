@@ -1,6 +1,6 @@
 use Rattle.std.proofs.Common.{◌≡◌, drop}
 use Rattle.std.specs.List.{list_all}
-use Rattle.expr_syntax.specs.Parts.{is_number}
+use Rattle.expr_syntax.specs.LabelLists.{is_number}
 use Rattle.expr_syntax.proofs.labels.are_numbers.Given as goal
 
 abbrev pub invariant-loop-label : goal.invariant-loop-label
