@@ -8,7 +8,6 @@ use Rattle.decimal_json.specs.Tree.{Tree, number, text, list, object, no_trees, 
 use Rattle.prop_values.specs.Data as values
 use Rattle.expr_syntax.specs.Reading.{Reading, reading}
 use Rattle.expr_syntax.specs.Term.{Term, literal}
-use Rattle.eval_face.specs.Operators.{is_built}
 use Rattle.legacy_filters.specs.Split.{is_legacy}
 
 -- the style, as far as its layout reads it
@@ -57,14 +56,14 @@ layer_of _ = None
 abbrev pub has_no_more : Fields → Bool
 has_no_more fs = not (is_some (field_at (codes "minzoom") fs)) && (not (is_some (field_at (codes "maxzoom") fs)) && (not (is_some (field_at (codes "layout") fs)) && not (is_some (field_at (codes "ref") fs))))
 
--- an expression whose meaning is written down
-abbrev pub built_term : Reading → Option Term
-built_term (Ok (Some t)) = if is_built t then Some t else None
-built_term (Ok None) = None
-built_term (Err fault) = None
+-- an expression that is evaluated
+abbrev pub inside_term : Reading → Option Term
+inside_term (Ok (Some t)) = Some t
+inside_term (Ok None) = None
+inside_term (Err fault) = None
 
 abbrev pub expression_of : Tree → Option Term
-expression_of t = built_term (reading t)
+expression_of t = inside_term (reading t)
 
 -- a filter is an array that is an expression by the split of filters
 abbrev pub filter_term : Tree → Option Term

@@ -4,11 +4,10 @@ ghost use Rattle.std.specs.Prelude.{◌≡◌, IfOk, Some, option_map};
 ghost use Rattle.decimal_json.specs.View.{tree_of};
 ghost use Rattle.expr_syntax.specs.ReadView.{reading_of};
 ghost use Rattle.expr_syntax.specs.TermView.{term_of};
-ghost use Rattle.circle_layer.specs.CircleStyle.{is_word, text_of, built_term, expression_of};
+ghost use Rattle.circle_layer.specs.CircleStyle.{is_word, text_of, inside_term, expression_of};
 ghost use Rattle.circle_layer.specs.StyleView.{tree_at, terms_at};
 
 use decimal_json::{Json, Text};
-use expr_plain::is_built;
 use expr_syntax::{Expr, Reading, SynFault, read_expr};
 use std::alloc::{AllocError, Global};
 
@@ -33,21 +32,15 @@ pub(crate) fn text_of(json: Option<&Json>) -> Option<&Text>
 pub(crate) fn read_expression(alloc: Global, json: &Json) -> Result<Option<Expr>, AllocError>
     ensures { IfOk result (λ read. option_map term_of read ≡ expression_of (tree_of json.now)) }
 {
-    Ok(built(read_expr(alloc, json)?))
+    Ok(inside(read_expr(alloc, json)?))
 }
 
-// An expression whose meaning is written down.
-fn built(read: Result<Reading, SynFault>) -> Option<Expr>
-    ensures { option_map term_of result ≡ built_term (reading_of read) }
+// An expression that is evaluated.
+fn inside(read: Result<Reading, SynFault>) -> Option<Expr>
+    ensures { option_map term_of result ≡ inside_term (reading_of read) }
 {
     match read {
-        Ok(Reading::Inside(expression)) => {
-            if is_built(&expression) {
-                Some(expression)
-            } else {
-                None
-            }
-        }
+        Ok(Reading::Inside(expression)) => Some(expression),
         Ok(Reading::Outside) => None,
         Err(_) => None,
     }

@@ -1,2 +1,6 @@
+pub mod RuleLaws
+pub mod Halts
 pub mod Values
-pub mod Branches
+pub mod BranchLaws
+pub mod FrameLaws
+pub mod NameLaws

@@ -1,26 +1,35 @@
--- How each operator evaluates its arguments, and what a node means by that.
-use Rattle.std.specs.Prelude.{◌≡◌, List, refl}
-use Rattle.prop_values.specs.declared.kinds.Want.{Want}
+-- What the rule of an operator makes of its arguments, part by part.
+use Rattle.std.specs.Prelude.{List, length, Option, None, Err}
+use Rattle.prop_values.specs.Data.{Data}
+use Rattle.prop_values.specs.declared.fault.EvalFault.TheVariants.{WrongType}
 use Rattle.property_tables.specs.Fitting.{fit}
 use Rattle.expr_syntax.specs.declared.expression.Operator.{Operator}
-use Rattle.expr_syntax.specs.declared.expression.Operator.TheVariants.{Number, Case}
+use Rattle.operator_values.specs.Evaluated.{Evaluated, then_value}
 use Rattle.eval_face.specs.World.{World}
-use Rattle.eval_face.specs.Meaning.{Names, Meaning, node_meaning, strict_of, number_of, case_of, then_value}
-use Rattle.expr_plain.specs.declared.operators.Manner.{Manner}
-use Rattle.expr_plain.specs.declared.operators.Manner.TheVariants.{Each, FirstNumber, Branch}
+use Rattle.eval_face.specs.Decisions.{first_of}
+use Rattle.eval_face.specs.Meanings.{Meaning, then_values, values_of}
+use Rattle.eval_face.specs.Rules.{Rule, each, deciding, rule_of}
 
-abbrev pub manner_of : Operator → Manner
-manner_of Number = FirstNumber
-manner_of Case = Branch
-manner_of _ = Each
+-- the parts of a rule; those of another rule are not asked for
+abbrev pub applied_by : Rule → World → List Data → Evaluated
+applied_by (each apply) world ds = apply world ds
+applied_by _ world ds = Err WrongType
 
-abbrev pub meaning_by : Manner → Operator → List Meaning → Meaning
-meaning_by Each op ms want names world = strict_of op ms want names world
-meaning_by FirstNumber op ms want names world = then_value (number_of ms names world) (fit want)
-meaning_by Branch op ms want names world = case_of ms want names world
+abbrev pub decided_by : Rule → Data → Option Data
+decided_by (deciding decides none) d = decides d
+decided_by _ d = None
 
--- a node means what its operator's manner makes of its arguments
-pub node_by_manner : (op : Operator) (ms : List Meaning) (want : Want) (names : Names) (world : World) → node_meaning op ms want names world ≡ meaning_by (manner_of op) op ms want names world
-node_by_manner Number ms want names world = refl
-node_by_manner Case ms want names world = refl
-node_by_manner _ ms want names world = refl
+abbrev pub undecided_by : Rule → Evaluated
+undecided_by (deciding decides none) = none
+undecided_by _ = Err WrongType
+
+-- a node whose operator evaluates all its arguments
+abbrev pub each_of : Operator → List Meaning → Meaning
+each_of op ms want names world =
+    then_values (values_of op (length ms) 0 ms want names world)
+    (λ ds. then_value (applied_by (rule_of op) world ds) (fit want))
+
+-- what the first argument that decides gives, in a node whose operator stops there
+abbrev pub decision_of : Operator → List Meaning → Meaning
+decision_of op ms want names world =
+    first_of (decided_by (rule_of op)) (undecided_by (rule_of op)) op (length ms) 0 ms want names world

@@ -4,7 +4,7 @@ use Rattle.prop_values.specs.Data.{Data, boolean}
 use Rattle.prop_values.specs.View.{value_of}
 use Rattle.prop_values.specs.declared.outcome.Outcome.{Outcome}
 use Rattle.prop_values.specs.declared.outcome.Outcome.TheVariants.{Given, Faulted}
-use Rattle.eval_face.specs.Meaning.{Evaluated}
+use Rattle.operator_values.specs.Evaluated.{Evaluated}
 
 -- A property is its value. After a fault its default stands in, or nothing where it has none, with the fault. Own.
 abbrev pub resolved : Option Data → Evaluated → Outcome

@@ -10,29 +10,29 @@
 //!
 //! What is promised, for all expressions, wants, contexts and tests: `eval_plain` gives exactly the value or the fault that is the
 //! expression's meaning, `mean` of `eval_face`, with no names bound around it, unless memory lacks. `resolved` and `passes`
-//! are the definitions of `specs/Resolved.antt`. `is_built` says exactly whether the meaning of each node is written down so far;
-//! a node of another operator is `WrongType`.
+//! are the definitions of `specs/Resolved.antt`.
 //!
 //! Arguments are evaluated from left to right, each fitted to its want at once, and the first fault ends the evaluation. `case` evaluates
-//! one branch alone, and `number` nothing behind the first number. Texts are shared and not copied; lists and maps of literals and
-//! properties are copied. An operator of one or two arguments takes no memory for them. The recursion is as deep as the
-//! expression.
+//! one output alone, and `number` nothing after the first number. A `match` finds its output in logarithmic time. A binding of a `let`
+//! is evaluated when a `var` first asks for it, and never again. Values are shared and not copied. An operator of one or two arguments
+//! takes no memory for them. The recursion is as deep as the expression.
 //!
-//! A new operator stands in the tables of `operators.rt`, one line each, and has a function of its own there or in the module of
-//! its group. One that chooses among its arguments has a `Manner` of its own and a function in `evaluation.rt`.
+//! A new operator has its row in `expr_syntax` and its rule in `eval_face`. One that evaluates all its arguments has its line in
+//! `applied`, and one that stops at the argument that decides has its line in `decided` and in `undecided`. One whose parts decide has
+//! a variant of `Rule`.
 //!
 //! The text to believe is in `specs/`: `Resolved`.
 #![tactic(auto)]
 
-mod arithmetic;
-mod built;
-mod comparisons;
+mod applying;
+mod branches;
 mod evaluation;
-mod features;
-mod operators;
+mod lookups;
 mod outcome;
-mod world;
+mod rule;
+mod scope;
+mod sections;
+mod surroundings;
 
-pub use built::is_built;
 pub use evaluation::eval_plain;
 pub use outcome::{passes, resolved};

@@ -25,7 +25,7 @@ json_kind_name json.LoneSurrogate = codes "LoneSurrogate"
 abbrev pub no_json : List ℕ → JsonKind → ℕ → Outcome
 no_json what kind at = refused (what ++ (codes " json " ++ (json_kind_name kind ++ (codes " " ++ decimal at))))
 
--- an expression or a style that is none of those that are read so far
+-- a style that is none of those that are read so far
 abbrev pub unbuilt : List ℕ → Outcome
 unbuilt what = refused (what ++ codes " Unbuilt")
 

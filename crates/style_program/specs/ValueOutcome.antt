@@ -1,19 +1,20 @@
 -- The outcome of `value`: the value of an expression, or the fault of its evaluation.
-use Rattle.std.specs.Prelude.{◌≡◌, ℕ, pos, List, [], ◌++◌, codes, Bool, Option, Some, None, Result, Ok, Err, if◌then◌else◌}
+use Rattle.std.specs.Prelude.{◌≡◌, ℕ, pos, List, [], ◌++◌, codes, Bool, Option, Some, None, Result, Ok, Err}
+use Rattle.prop_values.specs.Data.{Data}
 use Rattle.prop_values.specs.Faults.{fault_name}
 use Rattle.prop_values.specs.ValueText.{listed_text}
+use Rattle.prop_values.specs.declared.fault.EvalFault.{EvalFault}
 use Rattle.prop_values.specs.declared.kinds.Want.TheVariants.{Any}
 use Rattle.expr_syntax.specs.Reading.{Reading, reading}
 use Rattle.expr_syntax.specs.Term.{Term}
-use Rattle.eval_face.specs.Meaning.{Evaluated, mean}
-use Rattle.eval_face.specs.Operators.{is_built}
+use Rattle.eval_face.specs.Meaning.{mean}
 use Rattle.eval_face.specs.World.{World, feature_world, no_feature}
 use Rattle.style_program.specs.declared.status.Ending.TheVariants.{Fine, Found}
 use Rattle.style_program.specs.Outcome.{Outcome, line, said}
 use Rattle.style_program.specs.Parsed.{IsParsedOutcome}
-use Rattle.style_program.specs.Refusals.{unbuilt, outside, no_expression}
+use Rattle.style_program.specs.Refusals.{outside, no_expression}
 
-abbrev pub value_outcome : Evaluated → Outcome
+abbrev pub value_outcome : Result Data EvalFault → Outcome
 value_outcome (Ok d) = said (line (listed_text d)) Fine
 value_outcome (Err fault) = said (line (codes "error " ++ fault_name fault)) Found
 
@@ -23,7 +24,7 @@ module _ (images scripts : List ℕ → Bool) where
   value_world = feature_world (pos 0) no_feature [] images scripts
 
   abbrev pub expression_outcome : Reading → Outcome
-  expression_outcome (Ok (Some t)) = if is_built t then value_outcome (mean t Any [] value_world) else unbuilt (codes "expr")
+  expression_outcome (Ok (Some t)) = value_outcome (mean t Any [] value_world)
   expression_outcome (Ok None) = outside
   expression_outcome (Err fault) = no_expression fault
 

@@ -26,7 +26,7 @@ pub fn no_json(alloc: Global, what: &[u8], fault: JsonFault) -> Result<Answer, A
     answer_refused(alloc, line)
 }
 
-/// An expression or a style that is none of those that are read so far.
+/// A style that is none of those that are read so far.
 pub fn unbuilt(alloc: Global, what: &[u8]) -> Result<Answer, AllocError>
     ensures { IfOk result (λ answer. outcome_of answer ≡ unbuilt what.now) }
 {

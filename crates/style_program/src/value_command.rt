@@ -7,11 +7,11 @@ ghost use Rattle.style_program.specs.ValueOutcome.{IsValueOutcome, expression_ou
 ghost use Rattle.style_program.specs.AnswerView.{outcome_of};
 
 use crate::answer::{Answer, answer_out};
-use crate::refusals::{no_expression, no_json, outside, unbuilt};
+use crate::refusals::{no_expression, no_json, outside};
 use crate::status::Ending;
 use decimal_json::parse;
 use eval_face::Context;
-use expr_plain::{eval_plain, is_built};
+use expr_plain::eval_plain;
 use expr_syntax::{Reading, SynFault, read_expr};
 use fixed_num::Fixed;
 use host_ops::HostOp;
@@ -46,9 +46,6 @@ fn answer_expression(
 {
     match read {
         Ok(Reading::Inside(expression)) => {
-            if !is_built(&expression) {
-                return unbuilt(alloc, b"expr");
-            }
             let context = Context {
                 zoom: zero(),
                 feature: None,

@@ -1,0 +1,105 @@
+-- What a look-up finds, and what a `let` binds.
+use Rattle.std.specs.Prelude.{◌≡◌, ℕ, ◌+◌, ◌≤◌, List, [], ◌∷◌, length, Bool, true, false, Option, Some, None, Err, ◌⊎◌, refl, if◌then◌else◌}
+use Rattle.std.proofs.Common.{inl, inr, zero, suc, sym, ap, ◌∙◌, arith, take, drop, get_or}
+use Rattle.prop_values.specs.Equality.{same_text}
+use Rattle.prop_values.specs.declared.fault.EvalFault.TheVariants.{WrongType}
+use Rattle.prop_values.specs.declared.kinds.Want.{Want}
+use Rattle.prop_values.specs.declared.kinds.Want.TheVariants as wants
+use Rattle.expr_syntax.specs.declared.expression.Expr.{Expr}
+use Rattle.expr_syntax.specs.Falls.{weight}
+use Rattle.expr_syntax.specs.Term.{nodes}
+use Rattle.expr_syntax.specs.TermView.{term_of}
+use Rattle.operator_values.specs.Evaluated.{Evaluated}
+use Rattle.eval_face.specs.World.{World}
+use Rattle.eval_face.specs.Names.{Names, bound, last_named, or_outer, named}
+use Rattle.eval_face.specs.Bindings.{outcomes_of, body_of, let_of}
+use Rattle.eval_face.specs.Meaning.{mean}
+use Rattle.expr_plain.specs.Terms.{meanings}
+use Rattle.expr_plain.specs.Frames.{or_last, last_place}
+
+-- Of names and outcomes.
+
+-- the first is not the last of them, or it is
+none_first : (r : Option ℕ) (b : Bool) (i : ℕ) → or_last r (if b then Some i else None) ≡ None → (r ≡ None) × (b ≡ false)
+none_first None false i h = (refl, refl)
+none_first None true i h = absurd (cc)
+none_first (Some j) b i h = absurd (cc)
+
+some_cases : (r : Option ℕ) (b : Bool) (i j : ℕ) → or_last r (if b then Some i else None) ≡ Some j → (r ≡ Some j) ⊎ ((r ≡ None) × (b ≡ true) × (i ≡ j))
+some_cases (Some a) b i j h = inl h
+some_cases None true i j h = inr (refl, refl, cc)
+some_cases None false i j h = absurd (cc)
+
+last_none : (ns : List (List ℕ)) (os : List Evaluated) (x : List ℕ) (i : ℕ) → last_place i ns x ≡ None → last_named (bound ns os) x ≡ None
+last_none [] os x i h = refl
+last_none (n ∷ ns) [] x i h = refl
+last_none (n ∷ ns) (o ∷ os) x i h =
+    let q = none_first (last_place (i + 1) ns x) (same_text n x) i h in
+    let r = last_none ns os x (i + 1) q.0 in
+    rw (r, q.1) refl
+
+last_above : (ns : List (List ℕ)) (x : List ℕ) (i j : ℕ) → last_place i ns x ≡ Some j → i ≤ j
+last_above [] x i j h = absurd (cc)
+last_above (n ∷ ns) x i j h =
+    elim (some_cases (last_place (i + 1) ns x) (same_text n x) i j h) [ inl r ↦ (let q = last_above ns x (i + 1) j r in omega arith) | inr r ↦ omega (arith, r.2) ]
+
+last_some : (ns : List (List ℕ)) (es : List Expr) (x : List ℕ) (i j k : ℕ) (e : Expr) (names : Names) (world : World) → length ns ≡ length es → last_place i ns x ≡ Some j → j ≡ i + k → e ≡ get_or es k e → last_named (bound ns (outcomes_of (meanings es) names world)) x ≡ Some (mean (term_of e) wants.Any names world)
+last_some [] es x i j k e names world l h q g = absurd (cc)
+last_some (n ∷ ns) [] x i j k e names world l h q g = absurd (omega arith)
+last_some (n ∷ ns) (a ∷ es) x i j zero e names world l h q g =
+    elim (some_cases (last_place (i + 1) ns x) (same_text n x) i j h) [ inl r ↦ absurd (let w = last_above ns x (i + 1) j r in omega arith) | inr r ↦ rw (last_none ns (outcomes_of (meanings es) names world) x (i + 1) r.0, r.1) (ap (λ y. Some (mean (term_of y) wants.Any names world)) (sym g)) ]
+last_some (n ∷ ns) (a ∷ es) x i j (suc k) e names world l h q g =
+    elim (some_cases (last_place (i + 1) ns x) (same_text n x) i j h) [ inl r ↦ rw (last_some ns es x (i + 1) j k e names world (omega arith) r (omega arith) g) refl | inr r ↦ absurd (omega (arith, r.2)) ]
+
+-- a name means what its binding means in the outer names
+pub var_found : (ns : List (List ℕ)) (es : List Expr) (x : List ℕ) (k : ℕ) (e : Expr) (names : Names) (world : World) → length ns ≡ length es → last_place 0 ns x ≡ Some k → e ≡ get_or es k e → named (bound ns (outcomes_of (meanings es) names world) ∷ names) x ≡ mean (term_of e) wants.Any names world
+var_found ns es x k e names world l h g = ap (λ o. or_outer o (named names x)) (last_some ns es x 0 k k e names world l h (omega arith) g)
+
+-- or what it means in them
+pub var_later : (ns : List (List ℕ)) (os : List Evaluated) (x : List ℕ) (names : Names) → last_place 0 ns x ≡ None → named (bound ns os ∷ names) x ≡ named names x
+var_later ns os x names h = ap (λ o. or_outer o (named names x)) (last_none ns os x 0 h)
+
+-- The parts of a `let`.
+
+meanings_take : (n : ℕ) (es : List Expr) → take n (meanings es) ≡ meanings (take n es)
+meanings_take zero [] = refl
+meanings_take zero (x ∷ es) = refl
+meanings_take (suc n) [] = refl
+meanings_take (suc n) (x ∷ es) = ap (λ ms. mean (term_of x) ∷ ms) (meanings_take n es)
+
+last_argument : (n : ℕ) (es : List Expr) (e : Expr) → length es ≡ n + 1 → e ≡ get_or es n e → drop n (meanings es) ≡ mean (term_of e) ∷ []
+last_argument zero [] e l g = absurd (omega arith)
+last_argument zero (x ∷ []) e l g = ap (λ y. mean (term_of y) ∷ []) (sym g)
+last_argument zero (x ∷ y ∷ es) e l g = absurd (omega arith)
+last_argument (suc n) [] e l g = absurd (omega arith)
+last_argument (suc n) (x ∷ es) e l g = last_argument n es e (omega arith) g
+
+-- a `let` means its body in the names of its frame
+pub let_body : (ns : List (List ℕ)) (es : List Expr) (e : Expr) (want : Want) (names : Names) (world : World) → length es ≡ length ns + 1 → e ≡ get_or es (length ns) e → let_of ns (meanings es) want names world ≡ mean (term_of e) want (bound ns (outcomes_of (meanings (take (length ns) es)) names world) ∷ names) world
+let_body ns es e want names world l g =
+    ap (λ ms. body_of (drop (length ns) (meanings es)) want (bound ns (outcomes_of ms names world) ∷ names) world) (meanings_take (length ns) es)
+    ∙ ap (λ ms. body_of ms want (bound ns (outcomes_of (meanings (take (length ns) es)) names world) ∷ names) world) (last_argument (length ns) es e l g)
+
+body_misfit : (n : ℕ) (es : List Expr) (want : Want) (names : Names) (world : World) → (length es ≡ n + 1 → ⊥) → body_of (drop n (meanings es)) want names world ≡ Err WrongType
+body_misfit zero [] want names world l = refl
+body_misfit zero (x ∷ []) want names world l = absurd (l (omega arith))
+body_misfit zero (x ∷ y ∷ es) want names world l = refl
+body_misfit (suc n) [] want names world l = refl
+body_misfit (suc n) (x ∷ es) want names world l = body_misfit n es want names world (λ q. l (omega arith))
+
+-- a `let` of too few or too many arguments
+pub let_misfit : (ns : List (List ℕ)) (es : List Expr) (want : Want) (names : Names) (world : World) → (length es ≡ length ns + 1 → ⊥) → let_of ns (meanings es) want names world ≡ Err WrongType
+let_misfit ns es want names world l = body_misfit (length ns) es want _ world l
+
+pub bindings_length : (n : ℕ) (es : List Expr) → length es ≡ n + 1 → n ≡ length (take n es)
+bindings_length zero [] l = refl
+bindings_length zero (x ∷ es) l = refl
+bindings_length (suc n) [] l = absurd (omega arith)
+bindings_length (suc n) (x ∷ es) l = ap suc (bindings_length n es (omega arith))
+
+pub let_weight : (n : ℕ) (es : List Expr) (e : Expr) → length es ≡ n + 1 → e ≡ get_or es n e → weight (take n es) + nodes (term_of e) ≡ weight es
+let_weight zero [] e l g = absurd (omega arith)
+let_weight zero (x ∷ []) e l g = let q = ap (λ y. nodes (term_of y)) g in omega arith
+let_weight zero (x ∷ y ∷ es) e l g = absurd (omega arith)
+let_weight (suc n) [] e l g = absurd (omega arith)
+let_weight (suc n) (x ∷ es) e l g = let r = let_weight n es e (omega arith) g in omega arith

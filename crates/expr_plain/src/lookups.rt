@@ -1,0 +1,152 @@
+//! Operators that look something up.
+
+ghost use Rattle.std.specs.Prelude.{◌≡◌, IfOk, is_some};
+ghost use Rattle.prop_values.specs.Data.{map, pairs_of};
+ghost use Rattle.prop_values.specs.Equality.{at_key};
+ghost use Rattle.prop_values.specs.View.{data_of, values_view, evaluated_of};
+ghost use Rattle.operator_values.specs.Evaluated.{Gives};
+ghost use Rattle.eval_face.specs.World.{state_of};
+ghost use Rattle.eval_face.specs.Lookups.{entry_at, get_of, has_of, state_at, id_value, shape_name, image_of, script_of};
+
+use crate::surroundings::Surroundings;
+use decimal_json::Text;
+use fixed_num::Fixed;
+use operator_values::Halt;
+use prop_values::{Entries, EvalFault, SharedEntries, Value, copy, copy_entries};
+use std::alloc::{AllocError, Global};
+use tile_reader::Shape;
+
+/// `get`: of the properties, or of the object that is the second value.
+pub(crate) fn property(
+    alloc: Global,
+    properties: Option<&Entries>,
+    values: &[Value],
+) -> Result<Value, Halt>
+    ensures { Gives result (get_of (state_of properties.entry) (values_view values.now)) }
+{
+    match values {
+        [Value::Text(key)] => Ok(entry_or_null(alloc, properties, key)?),
+        [Value::Text(key), Value::Map(entries)] => Ok(entry_or_null(
+            alloc,
+            Some(entries.as_entries()),
+            key,
+        )?),
+        _ => Err(Halt::Fault(EvalFault::WrongType)),
+    }
+}
+
+/// `has`.
+pub(crate) fn has_property(
+    properties: Option<&Entries>,
+    values: &[Value],
+) -> Result<Value, EvalFault>
+    ensures { evaluated_of result ≡ has_of (state_of properties.entry) (values_view values.now) }
+{
+    match values {
+        [Value::Text(key)] => Ok(Value::Bool(has_entry(properties, key))),
+        [Value::Text(key), Value::Map(entries)] => Ok(Value::Bool(has_entry(
+            Some(entries.as_entries()),
+            key,
+        ))),
+        _ => Err(EvalFault::WrongType),
+    }
+}
+
+/// `feature-state`.
+pub(crate) fn state_member(
+    alloc: Global,
+    state: Option<&Entries>,
+    values: &[Value],
+) -> Result<Value, Halt>
+    ensures { Gives result (state_at (state_of state.entry) (values_view values.now)) }
+{
+    match values {
+        [Value::Text(key)] => Ok(entry_or_null(alloc, state, key)?),
+        _ => Err(Halt::Fault(EvalFault::WrongType)),
+    }
+}
+
+// The value at a key, and null where there is none.
+fn entry_or_null(alloc: Global, entries: Option<&Entries>, key: &Text) -> Result<Value, AllocError>
+    ensures { IfOk result (λ value. data_of value ≡ entry_at key.now (pairs_of (state_of entries.entry))) }
+{
+    let Some(entries) = entries else {
+        return Ok(Value::Null);
+    };
+    match entries.get(key.as_str()) {
+        Some(value) => copy(value),
+        None => Ok(Value::Null),
+    }
+}
+
+fn has_entry(entries: Option<&Entries>, key: &Text) -> bool
+    ensures { result ≡ is_some (at_key key.now (pairs_of (state_of entries.entry))) }
+{
+    match entries {
+        Some(entries) => entries.get(key.as_str()).is_some(),
+        None => false,
+    }
+}
+
+/// `properties`.
+pub(crate) fn all_properties(
+    alloc: Global,
+    properties: Option<&Entries>,
+) -> Result<Value, AllocError>
+    ensures { IfOk result (λ value. data_of value ≡ map (pairs_of (state_of properties.entry))) }
+{
+    let entries = match properties {
+        Some(entries) => copy_entries(alloc, entries)?,
+        None => Entries::new(alloc),
+    };
+    Ok(Value::Map(SharedEntries::of(alloc, entries)?))
+}
+
+/// `id`.
+pub(crate) fn id_value(id: Option<u64>) -> Value
+    ensures { data_of result ≡ id_value id }
+{
+    match id {
+        Some(id) => match Fixed::from_millionths(i128::from(id) * 1_000_000) {
+            Some(number) => Value::Num(number),
+            None => unreachable!(),
+        },
+        None => Value::Null,
+    }
+}
+
+/// `geometry-type`.
+pub(crate) fn shape_name(shape: Shape) -> &'static str
+    ensures { result.now ≡ shape_name shape }
+{
+    match shape {
+        Shape::Unknown => "Unknown",
+        Shape::Point => "Point",
+        Shape::LineString => "LineString",
+        Shape::Polygon => "Polygon",
+    }
+}
+
+/// `image`: the name itself, or null where there is no such image.
+pub(crate) fn image<W: Surroundings>(world: &W, values: &[Value]) -> Result<Value, Halt>
+    ensures { Gives result (image_of (W.world world.now).has_image (values_view values.now)) }
+{
+    match values {
+        [Value::Text(name)] if world.has_image(name.as_str()) => Ok(Value::Text(name.share()?)),
+        [Value::Text(_)] => Ok(Value::Null),
+        _ => Err(Halt::Fault(EvalFault::WrongType)),
+    }
+}
+
+/// `is-supported-script`.
+pub(crate) fn supported_script<W: Surroundings>(
+    world: &W,
+    values: &[Value],
+) -> Result<Value, EvalFault>
+    ensures { evaluated_of result ≡ script_of (W.world world.now).is_supported (values_view values.now) }
+{
+    match values {
+        [Value::Text(text)] => Ok(Value::Bool(world.is_supported(text.as_str()))),
+        _ => Err(EvalFault::WrongType),
+    }
+}

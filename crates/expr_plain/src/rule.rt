@@ -1,0 +1,50 @@
+//! The rules of operators, with their parts.
+
+ghost use Rattle.std.specs.Prelude.{◌≡◌};
+ghost use Rattle.eval_face.specs.Rules.{rule_of};
+ghost use Rattle.expr_plain.specs.ProgramRules.{rule_in, IsSound};
+
+use decimal_json::Text;
+use expr_syntax::{Labels, Manner, Operator};
+use fixed_num::Fixed;
+use prop_values::Curve;
+
+/// How an operator evaluates its arguments, and what decides between them.
+#[derive(Drop)]
+pub(crate) enum Rule<'a> {
+    /// All of them, and their values decide.
+    Each,
+    /// One after the other, to the first that decides.
+    Deciding,
+    /// `case`.
+    Cases,
+    /// `match`.
+    Labels(&'a Labels),
+    /// `step`.
+    Stops(&'a [Fixed]),
+    /// `interpolate`.
+    Ramp(&'a Curve, &'a [Fixed]),
+    /// `let`.
+    Bindings(&'a [Text]),
+    /// `var`.
+    Variable(&'a Text),
+}
+
+/// The rule of an operator. Where no part decides it is that of the manner in the operator's row.
+pub(crate) fn rule_of<'a>(op: &'a Operator) -> Rule<'a>
+    ensures rule { rule_in op.now result ≡ rule_of op.now }
+    ensures sound { IsSound result }
+{
+    match op {
+        Operator::Case => Rule::Cases,
+        Operator::Match(labels) => Rule::Labels(labels),
+        Operator::Step(inputs) => Rule::Stops(inputs.as_slice()),
+        Operator::Interpolate(ramp) => Rule::Ramp(ramp.curve(), ramp.inputs()),
+        Operator::Let(names) => Rule::Bindings(names.as_slice()),
+        Operator::Var(name) => Rule::Variable(name),
+        _ => match op.row().manner {
+            Manner::Deciding => Rule::Deciding,
+            _ => Rule::Each,
+        },
+    }
+}

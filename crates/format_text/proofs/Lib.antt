@@ -1,0 +1,3 @@
+mod ColorTexts
+mod JsonTrees
+mod SectionTrees

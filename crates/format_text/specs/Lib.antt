@@ -1,0 +1,5 @@
+-- To be believed.
+pub mod Sections
+pub mod ReadText
+-- What only contracts of private functions and proofs use.
+pub mod Reading
