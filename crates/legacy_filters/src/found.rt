@@ -1,0 +1,55 @@
+//! What stands at the key of a test.
+
+ghost use Rattle.std.specs.Prelude.{◌≡◌, option_map};
+ghost use Rattle.prop_values.specs.Data.{number};
+ghost use Rattle.legacy_filters.specs.Found.{found_data};
+ghost use Rattle.legacy_filters.specs.Meaning.{shape_name, id_number, value_at};
+
+use crate::filter::Key;
+use fixed_num::Fixed;
+use prop_values::Value;
+use tile_reader::{Feature, Shape};
+
+// The name of a shape, an id as a number, or a property.
+#[derive(Drop)]
+pub(crate) enum Found<'a> {
+    Shape(&'a str),
+    Id(Fixed),
+    Property(&'a Value),
+}
+
+pub(crate) fn found_at<'a>(key: &Key, feature: &'a Feature) -> Option<Found<'a>>
+    ensures { option_map found_data result ≡ value_at key.now feature.now }
+{
+    match key {
+        Key::Shape => Some(Found::Shape(shape_name(feature.shape))),
+        Key::Id => match feature.id {
+            Some(id) => Some(Found::Id(id_number(id))),
+            None => None,
+        },
+        Key::Property(name) => match feature.properties.get(name.as_str()) {
+            Some(value) => Some(Found::Property(value)),
+            None => None,
+        },
+    }
+}
+
+fn shape_name(shape: Shape) -> &'static str
+    ensures { result.now ≡ shape_name shape }
+{
+    match shape {
+        Shape::Unknown => "Unknown",
+        Shape::Point => "Point",
+        Shape::LineString => "LineString",
+        Shape::Polygon => "Polygon",
+    }
+}
+
+fn id_number(id: u64) -> Fixed
+    ensures { number result ≡ id_number id }
+{
+    match Fixed::from_millionths(i128::from(id) * 1_000_000) {
+        Some(number) => number,
+        None => unreachable!(),
+    }
+}
