@@ -1,4 +1,4 @@
-//! Tests of public calls that no command of the program reaches: the table of operators and
+//! Tests of public calls that no command of the program reaches: the table of operators, labels and
 //! legacy filters.
 //!
 //! A row that a command reaches stands in `worked_rows`, where it costs no proof. Here each call that can lack

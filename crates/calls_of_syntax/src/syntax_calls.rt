@@ -1,7 +1,11 @@
-//! Calls of `expr_syntax`: the table of operators.
+//! Calls of `expr_syntax`: the table of operators, and labels.
 
-use expr_syntax::{Layout, Name, Place, Wanted, Wants, operator_named};
-use prop_values::Want;
+use decimal_json::parse;
+use expr_syntax::{
+    Expr, Layout, Name, Operator, Place, Reading, Wanted, Wants, operator_named, read_expr,
+};
+use prop_values::{Value, Want, from_json};
+use std::alloc::{AllocError, Global};
 
 const NAMES: [(&'static str, Option<Name>); 10] = [
     ("get", Some(Name::Get)),
@@ -145,4 +149,70 @@ fn wants_of_arguments(rt: HostRuntime) {
             "{wants:?} {argument}"
         );
     }
+}
+
+const NUMBERS: &'static str = r#"["match",0,1,"a",[3,-2],"b","c"]"#;
+
+const TEXTS: &'static str = r#"["match","",["x",""],"a","é","b","c"]"#;
+
+// What stands for the output where no label is equal.
+const LAST: usize = 7;
+
+// A `match`, a value, and the number of the output whose label is equal to it.
+const LABELS: [(&'static str, &'static str, usize); 15] = [
+    (NUMBERS, "1", 0),
+    (NUMBERS, "1.00", 0),
+    (NUMBERS, "3", 1),
+    (NUMBERS, "-2", 1),
+    (NUMBERS, "0", LAST),
+    (NUMBERS, "1.5", LAST),
+    (NUMBERS, "\"1\"", LAST),
+    (NUMBERS, "null", LAST),
+    (TEXTS, "\"x\"", 0),
+    (TEXTS, "\"\"", 0),
+    (TEXTS, "\"é\"", 1),
+    (TEXTS, "\"e\"", LAST),
+    (TEXTS, "\"xx\"", LAST),
+    (TEXTS, "1", LAST),
+    (TEXTS, "[\"x\"]", LAST),
+];
+
+fn value_of(alloc: Global, text: &str) -> Result<Option<Value>, AllocError> {
+    match parse(alloc, text.as_bytes())? {
+        Ok(json) => Ok(from_json(alloc, &json)?.ok()),
+        Err(_) => Ok(None),
+    }
+}
+
+// The number of the output that a value chooses, or none where the text is no `match`.
+fn chosen(alloc: Global, text: &str, value: &str) -> Result<Option<usize>, AllocError> {
+    let Ok(json) = parse(alloc, text.as_bytes())? else {
+        return Ok(None);
+    };
+    let Some(value) = value_of(alloc, value)? else {
+        return Ok(None);
+    };
+    let Ok(Reading::Inside(expression)) = read_expr(alloc, &json)? else {
+        return Ok(None);
+    };
+    Ok(output_of(&expression, &value))
+}
+
+// The same of an expression.
+fn output_of(expression: &Expr, value: &Value) -> Option<usize> {
+    match expression {
+        Expr::Node(Operator::Match(labels), _) => Some(labels.output_of(value, LAST)),
+        _ => None,
+    }
+}
+
+#[test]
+fn outputs_of_labels(rt: HostRuntime) -> Result<(), AllocError> {
+    for (text, value, output) in LABELS {
+        assert!(rt;
+            chosen(rt.alloc(), text, value)? == Some(output),
+            "{text} of {value}"
+        );
+    }
+    Ok(())
 }

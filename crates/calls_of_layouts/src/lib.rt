@@ -1,0 +1,14 @@
+//! Tests of public calls that no command of the program reaches: evaluation under wants,
+//! tiles and listings.
+//!
+//! A row that a command reaches stands in `worked_rows`, where it costs no proof. Here each call that can lack
+//! memory is made once with ample memory, and its answer is compared. Rows are constants, since each one in a
+//! function's body costs proof.
+#![tactic(auto)]
+
+#[cfg(test)]
+mod listing_calls;
+#[cfg(test)]
+mod plain_calls;
+#[cfg(test)]
+mod tile_calls;
