@@ -11,4 +11,4 @@
 mod mentioned;
 
 pub use expr_syntax::Mentions;
-pub use mentioned::mentions;
+pub use mentioned::{mentions, of_operator};

@@ -49,9 +49,9 @@ fn either(a: Mentions, b: Mentions) -> Mentions
     }
 }
 
-// What an operator itself reads, with these arguments.
+/// What an operator itself reads, with these arguments.
 #[tactic(auto, using(expr_syntax::specs::Falls::count_terms))]
-fn of_operator(op: &Operator, arguments: &[Expr]) -> Mentions
+pub fn of_operator(op: &Operator, arguments: &[Expr]) -> Mentions
     ensures { result ≡ of_operator op.now (count (terms arguments.now)) }
 {
     reads_of(op.row().reads, arguments.len())

@@ -6,6 +6,8 @@ use Rattle.json_tokens.specs.declared.kind.JsonKind.TheVariants as json
 use Rattle.decimal_json.specs.Place.{path_json}
 use Rattle.expr_syntax.specs.FaultName.{code_name}
 use Rattle.expr_syntax.specs.declared.fault.SynFault.{SynFault}
+use Rattle.expr_types.specs.FaultName.{code_name as type_name}
+use Rattle.expr_types.specs.declared.fault.TypeFault.{TypeFault}
 use Rattle.proto_wire.specs.declared.wire.WireKind.TheVariants as wire
 use Rattle.tile_reader.specs.declared.fault.TileFault.{TileFault}
 use Rattle.tile_reader.specs.declared.fault.TileKind.{TileKind}
@@ -36,6 +38,10 @@ outside = refused (codes "expr Outside")
 -- no expression: the code of its first fault, and the path of its node
 abbrev pub no_expression : SynFault → Outcome
 no_expression fault = refused (codes "expr " ++ (code_name fault.code ++ (codes " " ++ path_json fault.path)))
+
+-- an expression that is not well typed: the code of its first fault, and the path of its node
+abbrev pub no_type : TypeFault → Outcome
+no_type fault = refused (codes "expr " ++ (type_name fault.code ++ (codes " " ++ path_json fault.path)))
 
 abbrev pub style_too_long : Outcome
 style_too_long = refused (codes "style TooLong")

@@ -7,12 +7,16 @@ use Rattle.prop_values.specs.declared.fault.EvalFault.{EvalFault}
 use Rattle.prop_values.specs.declared.kinds.Want.TheVariants.{Any}
 use Rattle.expr_syntax.specs.Reading.{Reading, reading}
 use Rattle.expr_syntax.specs.Term.{Term}
+use Rattle.expr_types.specs.Checked.{checked_free}
+use Rattle.expr_types.specs.Judged.{Judged}
+use Rattle.expr_types.specs.Typing.{Typed}
+use Rattle.expr_types.specs.declared.fault.TypeFault.{TypeFault}
 use Rattle.eval_face.specs.Meaning.{mean}
 use Rattle.eval_face.specs.World.{World, feature_world, no_feature}
 use Rattle.style_program.specs.declared.status.Ending.TheVariants.{Fine, Found}
 use Rattle.style_program.specs.Outcome.{Outcome, line, said}
 use Rattle.style_program.specs.Parsed.{IsParsedOutcome}
-use Rattle.style_program.specs.Refusals.{outside, no_expression}
+use Rattle.style_program.specs.Refusals.{outside, no_expression, no_type}
 
 abbrev pub value_outcome : Result Data EvalFault → Outcome
 value_outcome (Ok d) = said (line (listed_text d)) Fine
@@ -23,11 +27,21 @@ module _ (images scripts : List ℕ → Bool) where
   abbrev pub value_world : World
   value_world = feature_world (pos 0) no_feature [] images scripts
 
+  -- a type fault comes before what the expression gives
+  abbrev pub typed_outcome : Term → Typed → Outcome
+  typed_outcome t (Ok found) = value_outcome (mean t Any [] value_world)
+  typed_outcome t (Err fault) = no_type fault
+
   abbrev pub expression_outcome : Reading → Outcome
-  expression_outcome (Ok (Some t)) = value_outcome (mean t Any [] value_world)
+  expression_outcome (Ok (Some t)) = typed_outcome t (checked_free t)
   expression_outcome (Ok None) = outside
   expression_outcome (Err fault) = no_expression fault
 
   -- the outcome of an expression's text
   abbrev pub IsValueOutcome : List ℕ → Outcome → Type 0
   IsValueOutcome text o = IsParsedOutcome (codes "expr") text (λ t p. p ≡ expression_outcome (reading t)) o
+
+  -- ---- for proofs: the same, by what the check answers
+  abbrev pub judged_outcome : Term → Result Judged TypeFault → Outcome
+  judged_outcome t (Ok pair) = value_outcome (mean t Any [] value_world)
+  judged_outcome t (Err fault) = no_type fault

@@ -1,12 +1,13 @@
 //! The lines on standard error that say why something is refused.
 
 ghost use Rattle.std.specs.Prelude.{◌≡◌, IfOk};
-ghost use Rattle.style_program.specs.Refusals.{json_kind_name, no_json, unbuilt, outside, no_expression, style_too_long, tile_kind_name, tile_too_long, no_tile, unknown_source, too_many_cells, no_zoom};
+ghost use Rattle.style_program.specs.Refusals.{json_kind_name, no_json, unbuilt, outside, no_expression, no_type, style_too_long, tile_kind_name, tile_too_long, no_tile, unknown_source, too_many_cells, no_zoom};
 ghost use Rattle.style_program.specs.AnswerView.{outcome_of};
 
 use crate::answer::{Answer, answer_refused, begin_refusal};
 use decimal_json::{JsonFault, JsonKind, write_path, write_text};
 use expr_syntax::SynFault;
+use expr_types::TypeFault;
 use itoa::Buffer;
 use proto_wire::WireKind;
 use std::alloc::{AllocError, Global};
@@ -48,6 +49,18 @@ pub fn outside(alloc: Global) -> Result<Answer, AllocError>
 /// No expression: the code of its first fault, and the path of its node.
 pub fn no_expression(alloc: Global, fault: &SynFault) -> Result<Answer, AllocError>
     ensures { IfOk result (λ answer. outcome_of answer ≡ no_expression fault.now) }
+{
+    let mut line = begin_refusal(alloc)?;
+    line.extend_from_slice(b"expr ")?;
+    line.extend_from_slice(fault.code.name().as_bytes())?;
+    line.extend_from_slice(b" ")?;
+    write_path(&fault.path, &mut line)?;
+    answer_refused(alloc, line)
+}
+
+/// An expression that is not well typed: the code of its first fault, and the path of its node.
+pub fn no_type(alloc: Global, fault: &TypeFault) -> Result<Answer, AllocError>
+    ensures { IfOk result (λ answer. outcome_of answer ≡ no_type fault.now) }
 {
     let mut line = begin_refusal(alloc)?;
     line.extend_from_slice(b"expr ")?;

@@ -3,16 +3,18 @@
 ghost use Rattle.std.specs.Prelude.{◌≡◌, pos, IfOk};
 ghost use Rattle.prop_values.specs.View.{evaluated_of};
 ghost use Rattle.expr_syntax.specs.ReadView.{reading_of};
-ghost use Rattle.style_program.specs.ValueOutcome.{IsValueOutcome, expression_outcome, value_outcome};
+ghost use Rattle.expr_syntax.specs.TermView.{term_of};
+ghost use Rattle.style_program.specs.ValueOutcome.{IsValueOutcome, expression_outcome, judged_outcome, value_outcome};
 ghost use Rattle.style_program.specs.AnswerView.{outcome_of};
 
 use crate::answer::{Answer, answer_out};
-use crate::refusals::{no_expression, no_json, outside};
+use crate::refusals::{no_expression, no_json, no_type, outside};
 use crate::status::Ending;
 use decimal_json::parse;
 use eval_face::Context;
 use expr_plain::eval_plain;
-use expr_syntax::{Reading, SynFault, read_expr};
+use expr_syntax::{Expr, Reading, SynFault, read_expr};
+use expr_types::{TypeFault, Typed, check_free};
 use fixed_num::Fixed;
 use host_ops::HostOp;
 use prop_values::{EvalFault, Value, Want, write_listed};
@@ -36,6 +38,7 @@ pub fn answer_value(
     }
 }
 
+#[tactic(auto, using(crate::proofs::TypedOutcome::judged_typed))]
 fn answer_expression(
     alloc: Global,
     read: Result<Reading, SynFault>,
@@ -46,16 +49,35 @@ fn answer_expression(
 {
     match read {
         Ok(Reading::Inside(expression)) => {
+            let checked = check_free(alloc, &expression)?;
+            answer_checked(alloc, &expression, checked, images, scripts)
+        }
+        Ok(Reading::Outside) => outside(alloc),
+        Err(fault) => no_expression(alloc, &fault),
+    }
+}
+
+// The answer to an expression that was checked.
+fn answer_checked<'a>(
+    alloc: Global,
+    expression: &'a Expr,
+    checked: Result<Typed<'a>, TypeFault>,
+    images: &dyn HostOp,
+    scripts: &dyn HostOp,
+) -> Result<Answer, AllocError>
+    ensures { IfOk result (λ answer. outcome_of answer ≡ judged_outcome (test images.now) (test scripts.now) (term_of expression.now) checked.entry) }
+{
+    match checked {
+        Ok(_) => {
             let context = Context {
                 zoom: zero(),
                 feature: None,
                 state: None,
             };
-            let evaluated = eval_plain(alloc, &expression, &Want::Any, &context, images, scripts)?;
+            let evaluated = eval_plain(alloc, expression, &Want::Any, &context, images, scripts)?;
             answer_evaluated(alloc, &evaluated)
         }
-        Ok(Reading::Outside) => outside(alloc),
-        Err(fault) => no_expression(alloc, &fault),
+        Err(fault) => no_type(alloc, &fault),
     }
 }
 

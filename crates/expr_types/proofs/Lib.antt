@@ -1,0 +1,10 @@
+mod ArgumentLaws
+mod FoundLaws
+mod ItemLaws
+mod JudgedLaws
+mod KindLaws
+mod LetLaws
+mod NameLaws
+mod PathLaws
+mod StepLaws
+mod VisitLaws

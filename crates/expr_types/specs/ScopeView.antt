@@ -1,0 +1,8 @@
+-- The names around an expression, as definitions see them.
+use Rattle.std.specs.Prelude.{[], ◌∷◌}
+use Rattle.expr_types.specs.Typing.{Scope, frame}
+use Rattle.expr_types.specs.declared.scope.Scope.{Scope as CodeScope, Empty, Inside'}
+
+abbrev pub scope_of : CodeScope → Scope
+scope_of Empty = []
+scope_of (Inside' names kinds p outer) = frame names.now kinds.now ∷ scope_of outer

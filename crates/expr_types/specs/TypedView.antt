@@ -1,0 +1,71 @@
+-- What the check of arguments has found so far, and what the program's own check of an expression is to definitions.
+use Rattle.std.specs.Prelude.{ℕ, List, [], ◌∷◌, ◌++◌, ◌+◌, length, Result, Ok, Err}
+use Rattle.decimal_json.specs.declared.paths.Here.{Here}
+use Rattle.decimal_json.specs.declared.paths.PathPart.{PathPart}
+use Rattle.decimal_json.specs.Place.{path_of}
+use Rattle.prop_values.specs.declared.fault.FaultSet.{FaultSet}
+use Rattle.prop_values.specs.declared.kinds.Kind.{Kind}
+use Rattle.prop_values.specs.declared.kinds.Want.{Want}
+use Rattle.expr_syntax.specs.TermView.{term_of}
+use Rattle.expr_syntax.specs.declared.expression.Expr.{Expr}
+use Rattle.expr_syntax.specs.declared.expression.Operator.{Operator}
+use Rattle.expr_types.specs.LiteralView.{literals_of, typings_of}
+use Rattle.expr_types.specs.ScopeView.{scope_of}
+use Rattle.expr_types.specs.Typing.{Found, Typed, Node, places_of, typed, kinds_in, may_after, places_after, node_typed, founds_of, plain_typed, looked_at, is_sequence_of, argument_want, argument_typed, frame}
+use Rattle.expr_types.specs.declared.checking.ArgumentKinds.{ArgumentKinds}
+use Rattle.expr_types.specs.declared.fault.TypeFault.{TypeFault}
+use Rattle.expr_types.specs.declared.placed.Placed.{Placed}
+use Rattle.expr_types.specs.declared.scope.Scope.{Scope}
+
+abbrev pub typed_of : Expr → Want → Scope → Here → Typed
+typed_of e want scope here = typed (term_of e) want (scope_of scope) (path_of here)
+
+abbrev pub node_of : Operator → List Expr → Want → Scope → Here → Typed
+node_of op es want scope here = node_typed op (literals_of es) (typings_of es) want (scope_of scope) (path_of here)
+
+abbrev pub founds_in : Operator → ℕ → ℕ → List Expr → Want → Scope → Here → Result (List Found) TypeFault
+founds_in op m k es want scope here = founds_of op m k (typings_of es) want (scope_of scope) (path_of here)
+
+abbrev pub plain_of : Operator → List Expr → Want → Scope → Here → Typed
+plain_of op es want scope here = plain_typed op (literals_of es) (typings_of es) want (scope_of scope) (path_of here)
+
+-- an argument at its path, and in its node
+abbrev pub found_at : Operator → ℕ → ℕ → Expr → Want → Scope → List PathPart → Typed
+found_at op m k e want scope path = looked_at (is_sequence_of op k) (typed (term_of e) (argument_want op m k want) (scope_of scope) path) path
+
+abbrev pub argument_found : Operator → ℕ → ℕ → Expr → Want → Scope → Here → Typed
+argument_found op m k e want scope here = argument_typed op m k (typed (term_of e)) want (scope_of scope) (path_of here)
+
+-- the body of a `let`
+abbrev pub body_of : Operator → List (List ℕ) → List Kind → Expr → Want → Scope → Here → Typed
+body_of op names kinds body want scope here =
+    argument_typed op (length names + 1) (length names) (typed (term_of body)) want (frame names kinds ∷ scope_of scope) (path_of here)
+
+-- the root of what was found, and the places that it adds to others
+abbrev pub root_of : Typed → Node
+root_of (Ok found) = Ok found.node
+root_of (Err f) = Err f
+
+abbrev pub added : List Placed → Typed → Result (List Placed) TypeFault
+added places (Ok found) = Ok (places ++ places_of found)
+added places (Err f) = Err f
+
+abbrev pub added_below : List Placed → Typed → Result (List Placed) TypeFault
+added_below places (Ok found) = Ok (places ++ found.below)
+added_below places (Err f) = Err f
+
+-- the kinds and faults of arguments, with those of some before
+abbrev pub Kinds : Type 0
+Kinds = List Kind × FaultSet
+
+abbrev pub kinds_after : List Kind → FaultSet → Result (List Found) TypeFault → Result Kinds TypeFault
+kinds_after ks may (Ok founds) = Ok (ks ++ kinds_in founds, may_after may founds)
+kinds_after ks may (Err f) = Err f
+
+abbrev pub kinds_of : Result ArgumentKinds TypeFault → Result Kinds TypeFault
+kinds_of (Ok a) = Ok (a.kinds.items, a.may)
+kinds_of (Err f) = Err f
+
+abbrev pub all_added : List Placed → Result (List Found) TypeFault → Result (List Placed) TypeFault
+all_added places (Ok founds) = Ok (places_after places founds)
+all_added places (Err f) = Err f

@@ -1,0 +1,92 @@
+//! The first nodes that stand where they may not.
+
+ghost use Rattle.std.specs.Prelude.{◌≡◌, IfOk, option_map};
+ghost use Rattle.decimal_json.specs.Place.{path_of};
+ghost use Rattle.property_tables.specs.RowView.{row_seen};
+ghost use Rattle.expr_types.specs.Allowed.{allowed_by, is_input, first_path, path_if, noted_if, none_noted};
+
+use crate::standing::Standing;
+use decimal_json::{Here, Path, path_to};
+use expr_syntax::Mentions;
+use property_tables::Row;
+use std::alloc::{AllocError, Global};
+
+/// What a walk over the nodes of an expression in document order has found: the first that reads what it may not, the first `zoom`
+/// that stands elsewhere than as the input of the root, or behind another, and whether there was a `zoom`.
+#[derive(Drop)]
+pub(crate) struct Strays {
+    pub(crate) unread: Option<Path>,
+    pub(crate) zoom: Option<Path>,
+    pub(crate) has_zoom: bool,
+}
+
+impl Strays {
+    pub(crate) fn none() -> Strays
+        ensures { result ≡ none_noted }
+    {
+        Strays {
+            unread: None,
+            zoom: None,
+            has_zoom: false,
+        }
+    }
+}
+
+/// Whether a value of a row, or a filter where there is none, may read so much.
+pub(crate) fn allows(row: Option<&Row>, reads: Mentions) -> bool
+    ensures { result ≡ allowed_by (option_map (λ r. row_seen r.now) row.entry) reads }
+{
+    match row {
+        Some(row) => (row.zoom || !reads.zoom)
+            && ((row.feature || !reads.feature) && (row.state || !reads.state)),
+        None => !reads.state,
+    }
+}
+
+fn is_input(standing: Standing) -> bool
+    ensures { result ≡ is_input standing }
+{
+    match standing {
+        Standing::Input => true,
+        _ => false,
+    }
+}
+
+fn first_path(
+    alloc: Global,
+    found: Option<Path>,
+    is_stray: bool,
+    here: &Here<'_>,
+) -> Result<Option<Path>, AllocError>
+    ensures { IfOk result (λ path. path ≡ first_path found (path_if is_stray (path_of here.now))) }
+{
+    match found {
+        Some(path) => Ok(Some(path)),
+        None if is_stray => Ok(Some(path_to(alloc, here)?)),
+        None => Ok(None),
+    }
+}
+
+/// What was found, and one node more.
+pub(crate) fn noted(
+    alloc: Global,
+    strays: Strays,
+    allowed: bool,
+    reads: Mentions,
+    standing: Standing,
+    here: &Here<'_>,
+) -> Result<Strays, AllocError>
+    ensures { IfOk result (λ s. s ≡ noted_if allowed (record { reads = reads; standing = standing; path = path_of here.now }) strays) }
+{
+    let Strays {
+        unread,
+        zoom,
+        has_zoom,
+    } = strays;
+    let is_stray = reads.zoom && (has_zoom || !is_input(standing));
+    Ok(Strays {
+        unread: first_path(alloc, unread, !allowed, here)?,
+        zoom: first_path(alloc, zoom, is_stray, here)?,
+        has_zoom: has_zoom || reads.zoom,
+    })
+}

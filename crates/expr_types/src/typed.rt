@@ -1,0 +1,168 @@
+//! Expressions that are well typed.
+
+ghost use Rattle.std.specs.Prelude.{◌≡◌, ◌<◌, [], length, IfOk, option_map};
+ghost use Rattle.prop_values.specs.declared.kinds.Want.TheVariants as wants;
+ghost use Rattle.property_tables.specs.RowView.{row_seen};
+ghost use Rattle.expr_syntax.specs.TermView.{term_of};
+ghost use Rattle.expr_types.specs.Checked.{checked, checked_free};
+ghost use Rattle.expr_types.specs.Judged.{kind_of, may_of, places_in, want_in, always_in, judged, stray_or};
+ghost use Rattle.expr_types.specs.Typing.{typed};
+
+use crate::checking::check_expression;
+use crate::fault::{TypeCode, TypeFault};
+use crate::placed::{Kinded, Placed};
+use crate::scope::Scope;
+use crate::standing::Standing;
+use crate::strays::Strays;
+use crate::visiting::visit;
+use decimal_json::Here;
+use expr_syntax::Expr;
+use prop_values::{FaultSet, Kind, Want};
+use property_tables::Row;
+use std::alloc::{AllocError, Global};
+use std::marker::Model;
+
+/// An expression that was checked under a want, which clauses see as the two.
+#[derive(Drop)]
+pub struct Typed<'a> {
+    expression: &'a Expr,
+    want: Want,
+    node: Kinded,
+    places: Vec<Placed>,
+}
+
+impl<'a> Model for Typed<'a> {
+    ghost use Rattle.expr_types.specs.Judged.{Judged};
+    ghost use Rattle.expr_types.specs.JudgedCode.{judged_code};
+
+    ghost Value = { Judged };
+
+    ghost coded = { judged_code };
+
+    ghost use Rattle.expr_syntax.specs.TermView.{term_of};
+
+    ghost view = { λ a. (term_of a.expression.now, a.want) };
+
+    ghost use Rattle.std.specs.Prelude.{◌≡◌};
+    ghost use Rattle.expr_types.specs.Judged.{kind_of, may_of, places_in};
+
+    ghost invariant = { λ a. (a.node.kind ≡ kind_of (term_of a.expression.now, a.want)) × ((a.node.may ≡ may_of (term_of a.expression.now, a.want)) × (a.places.items ≡ places_in (term_of a.expression.now, a.want))) };
+}
+
+impl<'a> Typed<'a> {
+    /// The expression that was checked.
+    pub fn expr(&self) -> &'a Expr
+        ensures { term_of result.now ≡ self.now.0 }
+    {
+        self.expression
+    }
+
+    /// The kind of what it gives.
+    pub fn kind(&self) -> Kind
+        ensures { result ≡ kind_of self.now }
+    {
+        self.node.kind
+    }
+
+    /// The faults that it may give.
+    pub fn may(&self) -> FaultSet
+        ensures { result ≡ may_of self.now }
+    {
+        self.node.may
+    }
+
+    /// The want under which a node was checked. Nodes are counted in preorder from 0, literals among them.
+    pub fn want_at(&self, place: usize) -> Want
+        requires { place < length (places_in self.now) }
+        ensures { result ≡ want_in (places_in self.now) place }
+    {
+        self.places[place].want
+    }
+
+    /// Whether what a node gives always fits its want, or it hands its want to its branches.
+    pub fn always_at(&self, place: usize) -> bool
+        requires { place < length (places_in self.now) }
+        ensures { result ≡ always_in (places_in self.now) place }
+    {
+        self.places[place].always
+    }
+}
+
+/// Checks an expression as the value of a property of a row, or as a filter where there is none: the first type fault, else the first
+/// node that reads what may not be read there, else the first `zoom` that stands elsewhere than as the input of the root.
+pub fn check<'a>(
+    alloc: Global,
+    expression: &'a Expr,
+    want: &Want,
+    row: Option<&Row>,
+) -> Result<Result<Typed<'a>, TypeFault>, AllocError>
+    ensures { IfOk result (λ r. r ≡ judged (term_of expression.now, want.now) (checked (term_of expression.now) want.now (option_map (λ r. row_seen r.now) row.entry))) }
+{
+    let typed = match check_under(alloc, expression, want)? {
+        Ok(typed) => typed,
+        Err(fault) => return Ok(Err(fault)),
+    };
+    let strays = visit(
+        alloc,
+        expression,
+        row,
+        Standing::Reached,
+        &Here::Root,
+        Strays::none(),
+    )?;
+    Ok(unless_stray(typed, strays, row.is_some()))
+}
+
+// Where nothing stands where it may not.
+fn unless_stray<'a>(typed: Typed<'a>, strays: Strays, has_row: bool) -> Result<Typed<'a>, TypeFault>
+    ensures { result ≡ stray_or strays.unread strays.zoom has_row typed.entry }
+{
+    let Strays { unread, zoom, .. } = strays;
+    match (unread, zoom) {
+        (Some(path), _) => Err(TypeFault {
+            path,
+            code: TypeCode::Input,
+        }),
+        (None, Some(path)) if has_row => Err(TypeFault {
+            path,
+            code: TypeCode::ZoomPlace,
+        }),
+        (None, _) => Ok(typed),
+    }
+}
+
+/// Checks an expression that stands by itself: it may read everything and give anything.
+pub fn check_free<'a>(
+    alloc: Global,
+    expression: &'a Expr,
+) -> Result<Result<Typed<'a>, TypeFault>, AllocError>
+    ensures { IfOk result (λ r. r ≡ judged (term_of expression.now, wants.Any) (checked_free (term_of expression.now))) }
+{
+    check_under(alloc, expression, &Want::Any)
+}
+
+fn check_under<'a>(
+    alloc: Global,
+    expression: &'a Expr,
+    want: &Want,
+) -> Result<Result<Typed<'a>, TypeFault>, AllocError>
+    ensures { IfOk result (λ r. r ≡ judged (term_of expression.now, want.now) (typed (term_of expression.now) want.now [] [])) }
+{
+    let mut places = Vec::new(alloc);
+    match check_expression(
+        alloc,
+        expression,
+        want,
+        &Scope::Empty,
+        &Here::Root,
+        &mut places,
+    )? {
+        Ok(node) => Ok(Ok(Typed {
+            expression,
+            want: *want,
+            node,
+            places,
+        })),
+        Err(fault) => Ok(Err(fault)),
+    }
+}
