@@ -9,7 +9,7 @@ use Rattle.prop_values.specs.declared.kinds.Item.TheVariants as items
 use Rattle.prop_values.specs.declared.kinds.Want.TheVariants as wants
 use Rattle.fixed_num.specs.declared.color.Color.{Color as FixedColor}
 use Rattle.property_tables.specs.Fitting.{fit, read_as_color}
-use Rattle.expr_syntax.specs.Operators.{piece_wanted, role_want}
+use Rattle.expr_syntax.specs.Operators.{piece_wanted, role_want, want_of}
 use Rattle.expr_syntax.specs.Term.{Term, node, Terms, no_terms, term}
 use Rattle.expr_syntax.specs.declared.expression.Operator.TheVariants.{Concat, Format}
 use Rattle.expr_syntax.specs.declared.parts.Piece.{Piece}
@@ -22,7 +22,7 @@ use Rattle.operator_values.specs.Texts.{joined, concat_of}
 use Rattle.eval_face.specs.Fitted.{each_value_is_fitted}
 use Rattle.eval_face.specs.JoinedContents.{content_first, contents, IsOfContents, FormatsJoinTheirContents}
 use Rattle.eval_face.specs.Meaning.{mean, means}
-use Rattle.eval_face.specs.Meanings.{want_of, then_values, and_values, values_of}
+use Rattle.eval_face.specs.Meanings.{then_values, and_values, values_of}
 use Rattle.eval_face.specs.Names.{Names}
 use Rattle.eval_face.specs.Sections.{Open, add_piece, then_open, add_pieces, closed, format_of}
 use Rattle.eval_face.specs.World.{World}

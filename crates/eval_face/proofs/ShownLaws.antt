@@ -12,7 +12,7 @@ use Rattle.property_tables.specs.Fitting.{fit}
 use Rattle.interpolate_fixed.specs.Places.{place_of, count_not_above}
 use Rattle.interpolate_fixed.specs.Warp.{warp_of}
 use Rattle.expr_syntax.specs.Chosen.{output_of}
-use Rattle.expr_syntax.specs.Operators.{wanted_by, piece_wanted}
+use Rattle.expr_syntax.specs.Operators.{wanted_by, want_of, piece_wanted}
 use Rattle.expr_syntax.specs.Term.{Term, literal, node, Terms, no_terms, term}
 use Rattle.expr_syntax.specs.declared.expression.Operator.{Operator}
 use Rattle.expr_syntax.specs.declared.expression.Operator.TheVariants.{Array, Boolean, Number, String, Object, ToBoolean, ToColor, ToNumber, ToString, TypeOf, Get, Has, Properties, Id, GeometryType, FeatureState, At, In, IndexOf, Length, Slice, Not, Equal, NotEqual, Less, LessOrEqual, Greater, GreaterOrEqual, All, Any, Case, Match, Coalesce, Step, Interpolate, Let, Var, Zoom, Concat, Rgb, Rgba, ToRgba, Add, Multiply, Subtract, Divide, Remainder, Abs, Ceil, Floor, Round, Min, Max, Image, IsSupportedScript, Format}
@@ -24,7 +24,7 @@ use Rattle.eval_face.specs.Bindings.{outcomes_of, body_of}
 use Rattle.eval_face.specs.Branches.{branch, case_of, output_at, with_number, ramp_at}
 use Rattle.eval_face.specs.Decisions.{first_of, or_later}
 use Rattle.eval_face.specs.Meaning.{meaning_by, mean, means}
-use Rattle.eval_face.specs.Meanings.{Meaning, want_of, argument_of, looked_at, is_sequence, then_values, and_values, values_of}
+use Rattle.eval_face.specs.Meanings.{Meaning, argument_of, looked_at, is_sequence, then_values, and_values, values_of}
 use Rattle.eval_face.specs.Names.{Names, named, bound}
 use Rattle.eval_face.specs.Rules.{Rule, each, deciding, cases, labels, stops, ramp, bindings, variable, rule_of}
 use Rattle.eval_face.specs.World.{World}

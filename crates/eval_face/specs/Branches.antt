@@ -14,6 +14,7 @@ use Rattle.interpolate_fixed.specs.declared.place.StopPlace.TheVariants.{First, 
 use Rattle.property_tables.specs.Fitting.{fit}
 use Rattle.expr_syntax.specs.declared.parts.Labelled.{Labelled}
 use Rattle.expr_syntax.specs.Chosen.{output_of}
+use Rattle.expr_syntax.specs.Operators.{ramp_want}
 use Rattle.operator_values.specs.Arithmetic.{then_number}
 use Rattle.operator_values.specs.Evaluated.{Evaluated, then_value}
 use Rattle.operator_values.specs.Ramps.{between_of}
@@ -65,10 +66,6 @@ step_of inputs (value ∷ outputs) want names world =
 
 -- ---- `interpolate`: its curve moves the value between its neighbours. At or below the first input and at or above the last it is one
 -- output, and else what is between two; under Shown the outputs are taken as they are.
-
-abbrev pub ramp_want : Want → Want
-ramp_want wants.Shown = wants.Any
-ramp_want want = want
 
 abbrev pub between_values : ℤ → ℤ → ℤ → Evaluated → Evaluated → Evaluated
 between_values x x0 x1 (Ok d) (Ok e) = between_of x x0 d x1 e

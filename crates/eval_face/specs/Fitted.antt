@@ -14,6 +14,7 @@ use Rattle.expr_syntax.specs.Term.{Term, literal, node, Terms, no_terms, term}
 use Rattle.expr_syntax.specs.declared.expression.Operator.{Operator}
 use Rattle.expr_syntax.specs.declared.parts.Labelled.{Labelled}
 use Rattle.expr_syntax.specs.Chosen.{output_of}
+use Rattle.expr_syntax.specs.Operators.{ramp_want}
 use Rattle.operator_values.specs.Arithmetic.{then_number}
 use Rattle.operator_values.specs.Evaluated.{Evaluated, then_value}
 use Rattle.prop_values.specs.declared.kinds.Want.TheVariants as wants
@@ -21,7 +22,7 @@ use Rattle.eval_face.specs.World.{World}
 use Rattle.eval_face.specs.Names.{Names, named, bound}
 use Rattle.eval_face.specs.Meanings.{Meaning, then_values, values_of}
 use Rattle.eval_face.specs.Bindings.{outcomes_of, body_of}
-use Rattle.eval_face.specs.Branches.{branch, case_of, output_at, match_of, with_number, step_of, ramp_of, ramp_at, ramp_want}
+use Rattle.eval_face.specs.Branches.{branch, case_of, output_at, match_of, with_number, step_of, ramp_of, ramp_at}
 use Rattle.eval_face.specs.Decisions.{first_of}
 use Rattle.eval_face.specs.Rules.{Rule, each, deciding, cases, labels, stops, ramp, bindings, variable, rule_of}
 use Rattle.eval_face.specs.Meaning.{meaning_by, mean, means}

@@ -5,10 +5,8 @@ use Rattle.prop_values.specs.declared.fault.EvalFault.{EvalFault}
 use Rattle.prop_values.specs.declared.fault.EvalFault.TheVariants.{WrongType}
 use Rattle.prop_values.specs.declared.kinds.Want.{Want}
 use Rattle.expr_syntax.specs.declared.expression.Operator.{Operator}
-use Rattle.expr_syntax.specs.declared.rows.Wanted.{Wanted}
-use Rattle.expr_syntax.specs.declared.rows.Wanted.TheVariants.{Own, OfNode}
 use Rattle.expr_syntax.specs.Names.{row}
-use Rattle.expr_syntax.specs.Operators.{operator_name, wanted_by}
+use Rattle.expr_syntax.specs.Operators.{operator_name, wanted_by, want_of}
 use Rattle.operator_values.specs.Evaluated.{Evaluated, then_value}
 use Rattle.eval_face.specs.Names.{Names}
 use Rattle.eval_face.specs.World.{World}
@@ -16,11 +14,6 @@ use Rattle.eval_face.specs.World.{World}
 -- what an expression gives where a value of some form is wanted
 abbrev pub Meaning : Type 0
 Meaning = Want → Names → World → Evaluated
-
--- the want of an argument, in a node under a want
-abbrev pub want_of : Wanted → Want → Want
-want_of (Own own) want = own
-want_of OfNode want = want
 
 -- an argument that has to be a text or a list is looked at at once
 abbrev pub as_sequence : Data → Evaluated

@@ -5,12 +5,12 @@ use Rattle.fixed_num.specs.Number.{absolute, floor_of, ceil_of, round_of}
 use Rattle.prop_values.specs.Data.{Data, null, boolean, number, text, map, pairs_of}
 use Rattle.prop_values.specs.declared.fault.EvalFault.TheVariants.{WrongType, NotColor, NotNumberText}
 use Rattle.prop_values.specs.declared.kinds.Item.{Item}
-use Rattle.prop_values.specs.declared.kinds.Item.TheVariants as items
 use Rattle.prop_values.specs.declared.outcome.Curve.{Curve}
 use Rattle.property_tables.specs.Fitting.{fit_list}
 use Rattle.expr_syntax.specs.declared.expression.Operator.{Operator}
 use Rattle.expr_syntax.specs.declared.expression.Operator.TheVariants.{Array, Boolean, Number, String, Object, ToBoolean, ToColor, ToNumber, ToString, TypeOf, Get, Has, Properties, Id, GeometryType, FeatureState, At, In, IndexOf, Length, Slice, Not, Equal, NotEqual, Less, LessOrEqual, Greater, GreaterOrEqual, All, Any, Case, Match, Coalesce, Step, Interpolate, Let, Var, Zoom, Concat, Rgb, Rgba, ToRgba, Add, Multiply, Subtract, Divide, Remainder, Abs, Ceil, Floor, Round, Min, Max, Image, IsSupportedScript, Format}
 use Rattle.expr_syntax.specs.declared.parts.Labelled.{Labelled}
+use Rattle.expr_syntax.specs.Operators.{item_or_any}
 use Rattle.operator_values.specs.Evaluated.{Evaluated}
 use Rattle.operator_values.specs.Arithmetic.{sum_of, product_of, difference_of, quotient_of, remainder_of, of_number, least_of, greatest_of}
 use Rattle.operator_values.specs.Colors.{rgba_of, parts_of}
@@ -44,10 +44,6 @@ plainly apply = each (λ world ds. apply ds)
 -- one without arguments
 abbrev pub of_none : (World → Data) → Rule
 of_none value = each (λ world ds. Ok (value world))
-
-abbrev pub item_or_any : Option Item → Item
-item_or_any (Some item) = item
-item_or_any None = items.Any
 
 -- `array`: a list of these items, and of so many where a number is given
 abbrev pub array_of : Option Item → Option ℕ → List Data → Evaluated

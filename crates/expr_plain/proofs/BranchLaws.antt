@@ -14,6 +14,7 @@ use Rattle.property_tables.specs.Fitting.{fit}
 use Rattle.expr_syntax.specs.declared.expression.Expr.{Expr}
 use Rattle.expr_syntax.specs.declared.parts.Labelled.{Labelled}
 use Rattle.expr_syntax.specs.Chosen.{output_of}
+use Rattle.expr_syntax.specs.Operators.{ramp_want}
 use Rattle.expr_syntax.specs.TermView.{term_of}
 use Rattle.expr_syntax.specs.Falls.{weight}
 use Rattle.operator_values.specs.declared.halt.Halt.{Halt}
@@ -21,7 +22,7 @@ use Rattle.operator_values.specs.Arithmetic.{then_number}
 use Rattle.operator_values.specs.Evaluated.{Evaluated, Gives, then_value, or_fault}
 use Rattle.eval_face.specs.World.{World}
 use Rattle.eval_face.specs.Names.{Names}
-use Rattle.eval_face.specs.Branches.{branch, case_of, output_at, match_of, with_number, ramp_of, ramp_at, ramp_want}
+use Rattle.eval_face.specs.Branches.{branch, case_of, output_at, match_of, with_number, ramp_of, ramp_at}
 use Rattle.eval_face.specs.Meaning.{mean}
 use Rattle.expr_plain.specs.Terms.{meanings, condition_in, number_in}
 use Rattle.expr_plain.proofs.Values.{meanings_length}

@@ -7,13 +7,13 @@ use Rattle.operator_values.specs.declared.halt.Halt.{Halt}
 use Rattle.operator_values.specs.declared.halt.Halt.TheVariants.{Fault, NoMemory}
 use Rattle.operator_values.specs.Evaluated.{Evaluated, Gives, then_value}
 use Rattle.eval_face.specs.Meanings.{then_values}
-use Rattle.expr_plain.specs.Terms.{GivesAll}
+use Rattle.expr_plain.specs.Terms.{EndsAll}
 
 pub then_halted : (h : Halt) (a : Evaluated) (go : Data → Evaluated) → Gives (Err h) a → Gives (Err h) (then_value a go)
 then_halted (Fault f) a go g = ap (λ x. then_value x go) g
 then_halted NoMemory a go g = tt
 
-pub values_halted : (h : Halt) (a : Result (List Data) EvalFault) (go : List Data → Evaluated) → GivesAll (Err h) a → Gives (Err h) (then_values a go)
+pub values_halted : (h : Halt) (a : Result (List Data) EvalFault) (go : List Data → Evaluated) → EndsAll h a → Gives (Err h) (then_values a go)
 values_halted (Fault f) a go g = ap (λ x. then_values x go) g
 values_halted NoMemory a go g = tt
 

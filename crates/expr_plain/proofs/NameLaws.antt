@@ -1,12 +1,14 @@
 -- What a look-up finds, and what a `let` binds.
-use Rattle.std.specs.Prelude.{◌≡◌, ℕ, ◌+◌, ◌≤◌, List, [], ◌∷◌, length, Bool, true, false, Option, Some, None, Err, ◌⊎◌, refl, if◌then◌else◌}
-use Rattle.std.proofs.Common.{inl, inr, zero, suc, sym, ap, ◌∙◌, arith, take, drop, get_or}
+use Rattle.std.specs.Prelude.{◌≡◌, ℕ, ◌+◌, List, [], ◌∷◌, length, Some, None, Err, refl}
+use Rattle.std.proofs.Common.{inl, inr, zero, suc, sym, ap, ◌∙◌, arith, subst, take, drop, get_or}
 use Rattle.prop_values.specs.Equality.{same_text}
 use Rattle.prop_values.specs.declared.fault.EvalFault.TheVariants.{WrongType}
 use Rattle.prop_values.specs.declared.kinds.Want.{Want}
 use Rattle.prop_values.specs.declared.kinds.Want.TheVariants as wants
 use Rattle.expr_syntax.specs.declared.expression.Expr.{Expr}
+use Rattle.expr_syntax.specs.BoundNames.{last_place}
 use Rattle.expr_syntax.specs.Falls.{weight}
+use Rattle.expr_syntax.specs.LastPlaces.{none_first, some_cases, last_above}
 use Rattle.expr_syntax.specs.Term.{nodes}
 use Rattle.expr_syntax.specs.TermView.{term_of}
 use Rattle.operator_values.specs.Evaluated.{Evaluated}
@@ -15,20 +17,8 @@ use Rattle.eval_face.specs.Names.{Names, bound, last_named, or_outer, named}
 use Rattle.eval_face.specs.Bindings.{outcomes_of, body_of, let_of}
 use Rattle.eval_face.specs.Meaning.{mean}
 use Rattle.expr_plain.specs.Terms.{meanings}
-use Rattle.expr_plain.specs.Frames.{or_last, last_place}
 
 -- Of names and outcomes.
-
--- the first is not the last of them, or it is
-none_first : (r : Option ℕ) (b : Bool) (i : ℕ) → or_last r (if b then Some i else None) ≡ None → (r ≡ None) × (b ≡ false)
-none_first None false i h = (refl, refl)
-none_first None true i h = absurd (cc)
-none_first (Some j) b i h = absurd (cc)
-
-some_cases : (r : Option ℕ) (b : Bool) (i j : ℕ) → or_last r (if b then Some i else None) ≡ Some j → (r ≡ Some j) ⊎ ((r ≡ None) × (b ≡ true) × (i ≡ j))
-some_cases (Some a) b i j h = inl h
-some_cases None true i j h = inr (refl, refl, cc)
-some_cases None false i j h = absurd (cc)
 
 last_none : (ns : List (List ℕ)) (os : List Evaluated) (x : List ℕ) (i : ℕ) → last_place i ns x ≡ None → last_named (bound ns os) x ≡ None
 last_none [] os x i h = refl
@@ -37,11 +27,6 @@ last_none (n ∷ ns) (o ∷ os) x i h =
     let q = none_first (last_place (i + 1) ns x) (same_text n x) i h in
     let r = last_none ns os x (i + 1) q.0 in
     rw (r, q.1) refl
-
-last_above : (ns : List (List ℕ)) (x : List ℕ) (i j : ℕ) → last_place i ns x ≡ Some j → i ≤ j
-last_above [] x i j h = absurd (cc)
-last_above (n ∷ ns) x i j h =
-    elim (some_cases (last_place (i + 1) ns x) (same_text n x) i j h) [ inl r ↦ (let q = last_above ns x (i + 1) j r in omega arith) | inr r ↦ omega (arith, r.2) ]
 
 last_some : (ns : List (List ℕ)) (es : List Expr) (x : List ℕ) (i j k : ℕ) (e : Expr) (names : Names) (world : World) → length ns ≡ length es → last_place i ns x ≡ Some j → j ≡ i + k → e ≡ get_or es k e → last_named (bound ns (outcomes_of (meanings es) names world)) x ≡ Some (mean (term_of e) wants.Any names world)
 last_some [] es x i j k e names world l h q g = absurd (cc)
@@ -75,10 +60,15 @@ last_argument (suc n) [] e l g = absurd (omega arith)
 last_argument (suc n) (x ∷ es) e l g = last_argument n es e (omega arith) g
 
 -- a `let` means its body in the names of its frame
-pub let_body : (ns : List (List ℕ)) (es : List Expr) (e : Expr) (want : Want) (names : Names) (world : World) → length es ≡ length ns + 1 → e ≡ get_or es (length ns) e → let_of ns (meanings es) want names world ≡ mean (term_of e) want (bound ns (outcomes_of (meanings (take (length ns) es)) names world) ∷ names) world
-let_body ns es e want names world l g =
+body_last : (ns : List (List ℕ)) (es : List Expr) (e : Expr) (want : Want) (names : Names) (world : World) → length es ≡ length ns + 1 → e ≡ get_or es (length ns) e → let_of ns (meanings es) want names world ≡ mean (term_of e) want (bound ns (outcomes_of (meanings (take (length ns) es)) names world) ∷ names) world
+body_last ns es e want names world l g =
     ap (λ ms. body_of (drop (length ns) (meanings es)) want (bound ns (outcomes_of ms names world) ∷ names) world) (meanings_take (length ns) es)
     ∙ ap (λ ms. body_of ms want (bound ns (outcomes_of (meanings (take (length ns) es)) names world) ∷ names) world) (last_argument (length ns) es e l g)
+
+pub let_body : (ns : List (List ℕ)) (es : List Expr) (e : Expr) (want : Want) (names : Names) (world : World) (n : ℕ) → n ≡ length ns → length es ≡ n + 1 → e ≡ get_or es n e → let_of ns (meanings es) want names world ≡ mean (term_of e) want (bound ns (outcomes_of (meanings (take n es)) names world) ∷ names) world
+let_body ns es e want names world n count =
+    let P : ℕ → Type 0 = λ m. length es ≡ m + 1 → e ≡ get_or es m e → let_of ns (meanings es) want names world ≡ mean (term_of e) want (bound ns (outcomes_of (meanings (take m es)) names world) ∷ names) world in
+    subst P (sym count) (body_last ns es e want names world)
 
 body_misfit : (n : ℕ) (es : List Expr) (want : Want) (names : Names) (world : World) → (length es ≡ n + 1 → ⊥) → body_of (drop n (meanings es)) want names world ≡ Err WrongType
 body_misfit zero [] want names world l = refl

@@ -17,7 +17,7 @@ use Rattle.eval_face.specs.Meanings.{argument_of, values_of, and_values, then_va
 use Rattle.eval_face.specs.Meaning.{mean}
 use Rattle.eval_face.specs.Rules.{rule_of}
 use Rattle.expr_plain.specs.Manners.{applied_by, decided_by, undecided_by, each_of, decision_of}
-use Rattle.expr_plain.specs.Terms.{meanings, GivesAll}
+use Rattle.expr_plain.specs.Terms.{meanings, EndsAll}
 use Rattle.expr_plain.proofs.Halts.{then_halted, values_halted, second_halted}
 
 pub meanings_length : (es : List Expr) → length (meanings es) ≡ length es
@@ -74,7 +74,7 @@ two_given r op es e f want names world d g p q l a b k =
     (subst (Gives r) (sym (ap (λ x. then_value x (λ y. then_value second (λ z. then_value (applied_by (rule_of op) world (y ∷ z ∷ [])) (fit want)))) a
     ∙ ap (λ x. then_value x (λ z. then_value (applied_by (rule_of op) world (d ∷ z ∷ [])) (fit want))) b)) k)
 
-pub all_halted : (h : Halt) (op : Operator) (es : List Expr) (want : Want) (names : Names) (world : World) → GivesAll (Err h) (values_of op (length es) 0 (meanings es) want names world) → Gives (Err h) (each_of op (meanings es) want names world)
+pub all_halted : (h : Halt) (op : Operator) (es : List Expr) (want : Want) (names : Names) (world : World) → EndsAll h (values_of op (length es) 0 (meanings es) want names world) → Gives (Err h) (each_of op (meanings es) want names world)
 all_halted h op es want names world k =
     subst (Gives (Err h)) (each_all op es want names world)
     (values_halted h (values_of op (length es) 0 (meanings es) want names world) (λ ds. then_value (applied_by (rule_of op) world ds) (fit want)) k)

@@ -1,10 +1,9 @@
 -- The bindings around an expression, and what the slots of those that were asked for hold.
-use Rattle.std.specs.Prelude.{◌≡◌, ℕ, ◌+◌, ◌*◌, List, [], ◌∷◌, ◌++◌, length, Option, Some, None, Ok, if◌then◌else◌}
+use Rattle.std.specs.Prelude.{◌≡◌, ℕ, ◌+◌, ◌*◌, List, [], ◌∷◌, ◌++◌, length, Option, Some, None, Ok}
 use Rattle.std.specs.List.{slice_get}
 use Rattle.prop_values.specs.declared.kinds.Want.{Want}
 use Rattle.prop_values.specs.declared.kinds.Want.TheVariants as wants
 use Rattle.prop_values.specs.Data.{Data}
-use Rattle.prop_values.specs.Equality.{same_text}
 use Rattle.prop_values.specs.View.{data_of}
 use Rattle.expr_syntax.specs.declared.expression.Expr.{Expr}
 use Rattle.expr_syntax.specs.Falls.{weight}
@@ -88,17 +87,6 @@ done_in None = None
 abbrev pub waiting : {A : Type 0} → List A → List Slot
 waiting [] = []
 waiting (x ∷ xs) = Waiting ∷ waiting xs
-
--- a later place counts before an earlier one
-abbrev pub or_last : Option ℕ → Option ℕ → Option ℕ
-or_last (Some place) earlier = Some place
-or_last None earlier = earlier
-
--- the place of the last of the names that is this one, counted from i
-abbrev pub last_place : ℕ → List (List ℕ) → List ℕ → Option ℕ
-last_place i [] asked = None
-last_place i (name ∷ names) asked =
-    or_last (last_place (i + 1) names asked) (if same_text name asked then Some i else None)
 
 -- how far an evaluation in these frames may go
 abbrev pub scope_size : Scope → ℕ

@@ -6,3 +6,4 @@ pub mod OpenSection
 pub mod Manners
 pub mod ProgramRules
 pub mod Frames
+pub mod Stack

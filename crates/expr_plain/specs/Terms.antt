@@ -1,10 +1,6 @@
 -- Slices of expressions and vectors of values, to the meaning.
 use Rattle.std.specs.Prelude.{◌≡◌, ℤ, List, Bool, Result, Ok, Err}
-use Rattle.std.specs.declared.vec.Vec.{Vec}
-use Rattle.std.specs.declared.alloc.Global.{Global}
 use Rattle.prop_values.specs.Data.{Data, boolean, number}
-use Rattle.prop_values.specs.View.{values_view}
-use Rattle.prop_values.specs.declared.value.Value.{Value}
 use Rattle.prop_values.specs.declared.fault.EvalFault.{EvalFault}
 use Rattle.prop_values.specs.declared.fault.EvalFault.TheVariants.{WrongType}
 use Rattle.operator_values.specs.declared.halt.Halt.{Halt}
@@ -18,11 +14,15 @@ use Rattle.eval_face.specs.Meaning.{means}
 abbrev pub meanings : List Expr → List Meaning
 meanings es = means (terms es)
 
--- values that were evaluated are those that are meant, unless memory lacked
-abbrev pub GivesAll : Result (Vec Value Global) Halt → Result (List Data) EvalFault → Type 0
-GivesAll (Ok values) meant = meant ≡ Ok (values_view values.items)
-GivesAll (Err (Fault fault)) meant = meant ≡ Err fault
-GivesAll (Err NoMemory) meant = Unit {0}
+-- values that were to be evaluated have the fault with which the evaluation ended, unless memory lacked
+abbrev pub EndsAll : Halt → Result (List Data) EvalFault → Type 0
+EndsAll (Fault fault) meant = meant ≡ Err fault
+EndsAll NoMemory meant = Unit {0}
+
+-- values that were evaluated are those that are meant
+abbrev pub GivesAll : {A : Type 0} → Result A Halt → List Data → Result (List Data) EvalFault → Type 0
+GivesAll (Ok done) ds meant = meant ≡ Ok ds
+GivesAll (Err halt) ds meant = EndsAll halt meant
 
 -- the truth value or the number that a value is
 abbrev pub condition_in : Data → Result Bool EvalFault

@@ -1,10 +1,10 @@
 //! What the operators that evaluate all their arguments give of the values.
 
-ghost use Rattle.std.specs.Prelude.{◌≡◌, is_none};
+ghost use Rattle.std.specs.Prelude.{◌≡◌, ◌≤◌, drop, is_none, length};
 ghost use Rattle.std.specs.Option.{option_map};
 ghost use Rattle.prop_values.specs.View.{data_of, values_view, evaluated_of};
 ghost use Rattle.property_tables.specs.Fitting.{fit};
-ghost use Rattle.operator_values.specs.Evaluated.{Gives};
+ghost use Rattle.operator_values.specs.Evaluated.{Gives, then_value};
 ghost use Rattle.eval_face.specs.Decisions.{if_boolean, if_number, if_text, if_object, if_color, if_readable, if_false, if_true, if_there};
 ghost use Rattle.eval_face.specs.Rules.{rule_of, array_of};
 ghost use Rattle.expr_plain.specs.Manners.{applied_by, decided_by, undecided_by};
@@ -32,6 +32,37 @@ pub(crate) fn fitted(alloc: Global, value: Value, want: &Want) -> Result<Value, 
     ensures { Gives result (fit want.now (data_of value)) }
 {
     Ok(fit(alloc, value, want)??)
+}
+
+/// What an operator gives of the values of all its arguments, fitted to the want of its node.
+pub(crate) fn node_value<W: Surroundings>(
+    alloc: Global,
+    op: &Operator,
+    values: &[Value],
+    want: &Want,
+    world: &W,
+) -> Result<Value, Halt>
+    ensures { Gives result
+        (then_value (applied_by (rule_of op.now) (W.world world.now) (values_view values.now)) (fit want.now)) }
+{
+    let value = applied(alloc, op, values, world)?;
+    fitted(alloc, value, want)
+}
+
+/// What an operator gives of the values of a stack from a base on.
+pub(crate) fn value_above<W: Surroundings>(
+    alloc: Global,
+    op: &Operator,
+    values: &[Value],
+    base: usize,
+    want: &Want,
+    world: &W,
+) -> Result<Value, Halt>
+    requires { base ≤ length values.now }
+    ensures { Gives result
+        (then_value (applied_by (rule_of op.now) (W.world world.now) (values_view (drop base values.now))) (fit want.now)) }
+{
+    node_value(alloc, op, &values[base..], want, world)
 }
 
 /// What an operator that evaluates all its arguments gives of their values.

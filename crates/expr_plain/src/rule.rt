@@ -5,7 +5,7 @@ ghost use Rattle.eval_face.specs.Rules.{rule_of};
 ghost use Rattle.expr_plain.specs.ProgramRules.{rule_in, IsSound};
 
 use decimal_json::Text;
-use expr_syntax::{Labels, Manner, Operator};
+use expr_syntax::{Labels, Manner, Names, Operator};
 use fixed_num::Fixed;
 use prop_values::Curve;
 
@@ -25,7 +25,7 @@ pub(crate) enum Rule<'a> {
     /// `interpolate`.
     Ramp(&'a Curve, &'a [Fixed]),
     /// `let`.
-    Bindings(&'a [Text]),
+    Bindings(&'a Names),
     /// `var`.
     Variable(&'a Text),
 }
@@ -40,7 +40,7 @@ pub(crate) fn rule_of<'a>(op: &'a Operator) -> Rule<'a>
         Operator::Match(labels) => Rule::Labels(labels),
         Operator::Step(inputs) => Rule::Stops(inputs.as_slice()),
         Operator::Interpolate(ramp) => Rule::Ramp(ramp.curve(), ramp.inputs()),
-        Operator::Let(names) => Rule::Bindings(names.as_slice()),
+        Operator::Let(names) => Rule::Bindings(names),
         Operator::Var(name) => Rule::Variable(name),
         _ => match op.row().manner {
             Manner::Deciding => Rule::Deciding,

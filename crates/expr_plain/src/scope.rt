@@ -1,13 +1,12 @@
 //! The bindings around an expression, and what those that were asked for gave.
 
-ghost use Rattle.std.specs.Prelude.{◌≡◌, ◌+◌, ◌++◌, ◌<◌, length, slice_set, OnOk, IfSome, IfOk, Some, None};
-ghost use Rattle.expr_plain.specs.Frames.{last_place, waiting, done_in};
+ghost use Rattle.std.specs.Prelude.{◌≡◌, ◌+◌, ◌++◌, ◌<◌, length, slice_set, OnOk, IfOk};
+ghost use Rattle.expr_plain.specs.Frames.{waiting, done_in};
 ghost use Rattle.std.specs.Option.{option_map};
 ghost use Rattle.std.specs.List.{slice_get};
 ghost use Rattle.prop_values.specs.View.{data_of};
 
-use decimal_json::Text;
-use expr_syntax::Expr;
+use expr_syntax::{Expr, Names};
 use prop_values::{Value, copy};
 use std::alloc::{AllocError, Global};
 
@@ -16,7 +15,7 @@ use std::alloc::{AllocError, Global};
 #[derive(Drop)]
 pub(crate) enum Scope<'a> {
     Empty,
-    Frame(&'a [Text], &'a [Expr], usize, &'a Scope<'a>, &'a Scope<'a>),
+    Frame(&'a Names, &'a [Expr], usize, &'a Scope<'a>, &'a Scope<'a>),
 }
 
 /// What a binding gave when it was asked for, or nothing yet.
@@ -26,24 +25,11 @@ pub(crate) enum Slot {
     Done(Value),
 }
 
-/// The place of the last of the names that is this one.
-pub(crate) fn last_named(names: &[Text], name: &str) -> Option<usize>
-    ensures value { result ≡ last_place 0 names.now name.now }
-    ensures within { IfSome result (λ k. k < length names.now) }
-{
-    let mut found = None;
-    for (i, bound) in names.iter().enumerate() {
-        if bound.as_str() == name {
-            found = Some(i);
-        }
-    }
-    found
-}
-
 /// A slot for each binding, at the end.
 pub(crate) fn open_slots(slots: &mut Vec<Slot>, bindings: &[Expr]) -> Result<(), AllocError>
     ensures { OnOk result (slots.new.items ≡ slots.old.items ++ waiting bindings.now) }
 {
+    slots.reserve(bindings.len())?;
     for _binding in bindings {
         slots.push(Slot::Waiting)?;
     }

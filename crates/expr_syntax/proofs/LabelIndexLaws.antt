@@ -3,16 +3,11 @@ use Rattle.std.proofs.Common.{◌≡◌, ◌<◌, ◌+◌, List, [], ◌∷◌, 
 use Rattle.std.proofs.lemmas.Bool.{false≢true}
 use Rattle.std.proofs.lemmas.Bool.Decides.{Decides-int_eq}
 use Rattle.std.proofs.lemmas.Slice.Eq.{bytes_eq-Decides}
-use Rattle.std.specs.BTreeMap.{UpdatesBy, get}
-use Rattle.std.specs.Box.{boxed_str_bytes}
-use Rattle.std.specs.Cmp.{eq_by_cmp_equiv}
-use Rattle.std.specs.Cmp.Lexicographic.{slice_cmp, bytes_decides, nat_list_cmp_total, nat_list_eq_equiv}
-use Rattle.std.specs.Map.{lookup, KeepsOthers, IsKeyTest, AreApart}
+use Rattle.std.specs.BTreeMap.{get}
 use Rattle.std.specs.Option.{option_or}
-use Rattle.std.specs.Ordering.{is_eq, nat_cmp, int_cmp, int_eq}
+use Rattle.std.specs.Ordering.{int_cmp, int_eq}
 use Rattle.std.specs.Prelude.{Bool, ◌||◌, Option, Some, None, is_some, if◌then◌else◌}
 use Rattle.std.specs.Str.{bytes_eq}
-use Rattle.std.proofs.lemmas.Map.Text.{is_eq-slice_cmp}
 use Rattle.fixed_num.specs.declared.color.Color.{Color}
 use Rattle.prop_values.specs.Data.{Data, null, boolean, number, text, color, list, map}
 use Rattle.expr_syntax.specs.declared.label_index.LabelIndex.{LabelIndex}
@@ -20,25 +15,9 @@ use Rattle.expr_syntax.specs.declared.parts.Label.{Label}
 use Rattle.expr_syntax.specs.declared.parts.Label.TheVariants.{Text, Number}
 use Rattle.expr_syntax.specs.declared.parts.Labelled.{Labelled}
 use Rattle.expr_syntax.specs.Chosen.{is_equal_to, output_of}
-use Rattle.expr_syntax.specs.LabelIndex.{Texts, text_output, output_at, value_output, listed_output, IsIndexOfLabels, Notes}
+use Rattle.expr_syntax.specs.LabelIndex.{output_at, value_output, listed_output, IsIndexOfLabels, Notes}
 use Rattle.expr_syntax.specs.LabelLists.{same_label, repeats}
-
--- ---- a text in the map of texts: what a change at one key leaves at each other
-
--- a key that equals one text equals no other
-apart : (bs cs ks : List ℕ) → bytes_eq bs cs ≡ false → is_eq (slice_cmp nat_cmp bs ks) ≡ true → is_eq (slice_cmp nat_cmp cs ks) ≡ false
-apart bs cs ks differs same = is_eq-slice_cmp cs ks ∙ nat_list_eq_equiv.symm cs ks ∙ sym (nat_list_eq_equiv.congr bs ks cs (sym (is_eq-slice_cmp bs ks) ∙ same)) ∙ differs
-
-others_stay : {K X : Type 0} (eq : K → K → Bool) (test : K → Bool) (old new : List (K × X)) → KeepsOthers eq test old new → (other : K → Bool) → IsKeyTest eq other → AreApart test other → lookup other new ≡ lookup other old
-unfolding KeepsOthers
-others_stay eq test old new keeps = keeps
-
-noted_at : (bs cs : List ℕ) (m n : Texts) (w : Option ℕ) (t : Bool) → UpdatesBy (λ x y. slice_cmp nat_cmp (boxed_str_bytes x) (boxed_str_bytes y)) (λ k. slice_cmp nat_cmp bs (boxed_str_bytes k)) m n w → bytes_eq bs cs ≡ t → text_output n cs ≡ (if t then w else text_output m cs)
-noted_at bs cs m n w true changed e = subst (λ key. text_output n key ≡ w) ((bytes_decides bs cs).0 e) changed.1
-noted_at bs cs m n w false changed e = others_stay _ _ _ _ changed.3 _ (λ x y. (eq_by_cmp_equiv nat_list_cmp_total).congr cs (boxed_str_bytes x) (boxed_str_bytes y)) (λ k. apart bs cs (boxed_str_bytes k) e)
-
-pub text_noted : (bs : List ℕ) (m n : Texts) (w : Option ℕ) → UpdatesBy (λ x y. slice_cmp nat_cmp (boxed_str_bytes x) (boxed_str_bytes y)) (λ k. slice_cmp nat_cmp bs (boxed_str_bytes k)) m n w → (cs : List ℕ) → text_output n cs ≡ (if bytes_eq bs cs then w else text_output m cs)
-text_noted bs m n w changed cs = noted_at bs cs m n w (bytes_eq bs cs) changed refl
+use Rattle.expr_syntax.specs.TextNumbers.{number_of_text}
 
 -- ---- labels, one after another
 
@@ -76,7 +55,7 @@ repeats_found index l later all output found h =
 
 -- equal labels have one output
 same_none : (index : LabelIndex) (l m : Label) → same_label l m ≡ true → output_at index l ≡ None → output_at index m ≡ None
-same_none index (Text s) (Text t) e none = subst (λ u. text_output index.texts u ≡ None) ((bytes_eq-Decides s t).0 e) none
+same_none index (Text s) (Text t) e none = subst (λ u. number_of_text index.texts u ≡ None) ((bytes_eq-Decides s t).0 e) none
 same_none index (Number y) (Number z) e none = subst (λ u. get int_cmp index.numbers u ≡ None) ((Decides-int_eq y z).0 e) none
 same_none index (Text s) (Number z) e none = absurd (false≢true e)
 same_none index (Number y) (Text t) e none = absurd (false≢true e)

@@ -5,6 +5,7 @@ pub mod LabelLaws
 pub mod OperatorLaws
 pub mod PartLaws
 pub mod StopLaws
+pub mod TextNumberLaws
 pub mod NameIndexLaws
 pub mod LabelIndexLaws
 pub mod CountLaws

@@ -1,30 +1,18 @@
 -- An index of the labels of a `match`.
 use Rattle.std.specs.Prelude.{◌≡◌, ℕ, ℤ, List, [], ◌∷◌, true, false, Option, Some, None, if◌then◌else◌}
-use Rattle.std.specs.BTreeMap.{BTreeMap, get_by, get}
-use Rattle.std.specs.Ordering.{int_cmp, int_eq, nat_cmp}
-use Rattle.std.specs.Str.{bytes_eq}
-use Rattle.std.specs.Cmp.Lexicographic.{slice_cmp}
-use Rattle.std.specs.Box.{boxed_str_bytes}
-use Rattle.std.specs.declared.boxed.BoxedStr.{BoxedStr}
-use Rattle.std.specs.declared.alloc.Global.{Global}
+use Rattle.std.specs.BTreeMap.{BTreeMap, get}
+use Rattle.std.specs.Ordering.{int_cmp, int_eq}
 use Rattle.prop_values.specs.Data.{Data, number, text}
 use Rattle.expr_syntax.specs.declared.label_index.LabelIndex.{LabelIndex}
 use Rattle.expr_syntax.specs.declared.parts.Label.{Label}
 use Rattle.expr_syntax.specs.declared.parts.Label.TheVariants.{Text, Number}
 use Rattle.expr_syntax.specs.declared.parts.Labelled.{Labelled}
 use Rattle.expr_syntax.specs.LabelLists.{same_label, repeats}
-
--- the index of the texts, as contracts see it
-abbrev pub Texts : Type 0
-Texts = BTreeMap (BoxedStr Global) ℕ
-
--- the output that an index has for a text
-abbrev pub text_output : Texts → List ℕ → Option ℕ
-text_output texts s = get_by (λ k. slice_cmp nat_cmp s (boxed_str_bytes k)) texts
+use Rattle.expr_syntax.specs.TextNumbers.{number_of_text}
 
 -- the output that an index has for a label
 abbrev pub output_at : LabelIndex → Label → Option ℕ
-output_at index (Text s) = text_output index.texts s
+output_at index (Text s) = number_of_text index.texts s
 output_at index (Number z) = get int_cmp index.numbers z
 
 -- the output that an index has for a value
@@ -36,9 +24,6 @@ value_output index _ = None
 -- An index as it was and as it is with one label more: that label has its output, each other what it had.
 abbrev pub Notes : Label → ℕ → LabelIndex → LabelIndex → Type 0
 Notes label output old new = (m : Label) → output_at new m ≡ (if same_label label m then Some output else output_at old m)
-
-abbrev pub NotesText : List ℕ → ℕ → Texts → Texts → Type 0
-NotesText name output old new = (s : List ℕ) → text_output new s ≡ (if bytes_eq name s then Some output else text_output old s)
 
 abbrev pub NotesNumber : ℤ → ℕ → BTreeMap ℤ ℕ → BTreeMap ℤ ℕ → Type 0
 NotesNumber y output old new = (z : ℤ) → get int_cmp new z ≡ (if int_eq y z then Some output else get int_cmp old z)

@@ -19,6 +19,10 @@ pub mod Chosen
 pub mod ReadTerms
 -- What only contracts of private functions, models and proofs use.
 pub mod Slots
+pub mod TextNumbers
 pub mod LabelIndex
+pub mod NameIndex
 pub mod TermCode
 pub mod Falls
+-- What only proofs use.
+pub mod LastPlaces

@@ -1,6 +1,7 @@
 -- Operators and their names.
 use Rattle.std.specs.Prelude.{ℕ, Option, Some, None}
 use Rattle.std.specs.List.{slice_get}
+use Rattle.prop_values.specs.declared.kinds.Item.{Item}
 use Rattle.prop_values.specs.declared.kinds.Item.TheVariants as items
 use Rattle.prop_values.specs.declared.kinds.Want.{Want}
 use Rattle.prop_values.specs.declared.kinds.Want.TheVariants as wants
@@ -8,7 +9,7 @@ use Rattle.expr_syntax.specs.declared.parts.Role.{Role}
 use Rattle.expr_syntax.specs.declared.parts.Role.TheVariants as roles
 use Rattle.expr_syntax.specs.declared.parts.Piece.{Piece}
 use Rattle.expr_syntax.specs.declared.rows.Wanted.{Wanted}
-use Rattle.expr_syntax.specs.declared.rows.Wanted.TheVariants.{Own}
+use Rattle.expr_syntax.specs.declared.rows.Wanted.TheVariants.{Own, OfNode}
 use Rattle.expr_syntax.specs.Names.{row}
 use Rattle.expr_syntax.specs.Rows.{wanted}
 use Rattle.expr_syntax.specs.declared.names.Name.{Name}
@@ -143,3 +144,18 @@ piece_wanted None = Own wants.Any
 abbrev pub wanted_by : Operator → ℕ → ℕ → Wanted
 wanted_by (Format pieces) m k = piece_wanted (slice_get pieces k)
 wanted_by op m k = wanted (row (operator_name op)).wants m k
+
+-- the want of an argument, in a node under a want
+abbrev pub want_of : Wanted → Want → Want
+want_of (Own own) want = own
+want_of OfNode want = want
+
+-- Under Shown the outputs of an `interpolate` are taken as they are, and what is between them is shown.
+abbrev pub ramp_want : Want → Want
+ramp_want wants.Shown = wants.Any
+ramp_want want = want
+
+-- the items that `array` asks for
+abbrev pub item_or_any : Option Item → Item
+item_or_any (Some item) = item
+item_or_any None = items.Any

@@ -4,8 +4,9 @@ ghost use Rattle.expr_syntax.specs.Operators.{operator_name, plain_operator, wan
 ghost use Rattle.expr_syntax.specs.Rows.{row_view};
 ghost use Rattle.expr_syntax.specs.TermView.{term_of, terms_view};
 
+use crate::bound_names::Names;
 use crate::names::Name;
-use crate::parts::{Inputs, Labels, Names, Pieces, Ramp};
+use crate::parts::{Inputs, Labels, Pieces, Ramp};
 use crate::rows::{Row, Wanted};
 use decimal_json::Text;
 use prop_values::{Item, Value, Want};

@@ -5,17 +5,15 @@ ghost use Rattle.std.specs.BTreeMap.{get};
 ghost use Rattle.std.specs.Ordering.{int_cmp};
 ghost use Rattle.prop_values.specs.View.{data_of};
 ghost use Rattle.expr_syntax.specs.declared.parts.Label.{Label};
-ghost use Rattle.expr_syntax.specs.LabelIndex.{text_output, output_at, value_output, IsIndexOrNone, Notes, NotesText, NotesNumber};
+ghost use Rattle.expr_syntax.specs.LabelIndex.{output_at, value_output, IsIndexOrNone, Notes, NotesNumber};
 
 use crate::parts::{Label, Labelled};
+use crate::text_numbers::{TextNumbers, note_text, number_of_text};
 use fixed_num::Fixed;
 use prop_values::Value;
 use std::alloc::{AllocError, Global};
-use std::boxed::BoxedStr;
 use std::collections::BTreeMap;
 use std::marker::Model;
-
-type Texts = BTreeMap<BoxedStr, usize>;
 
 /// Labels while they are read, in order.
 #[derive(Drop)]
@@ -60,7 +58,7 @@ impl LabelList {
 /// An index of labels: the number of the output of each.
 #[derive(Drop)]
 pub(crate) struct LabelIndex {
-    texts: Texts,
+    texts: TextNumbers,
     numbers: BTreeMap<i128, usize>,
 }
 
@@ -95,7 +93,7 @@ fn output_at(index: &LabelIndex, label: &Label) -> Option<usize>
     ensures { result ≡ output_at index.now label.now }
 {
     match label {
-        Label::Text(text) => text_output(&index.texts, text.as_str()),
+        Label::Text(text) => number_of_text(&index.texts, text.as_str()),
         Label::Number(number) => number_output(&index.numbers, number),
     }
 }
@@ -105,7 +103,7 @@ pub(crate) fn value_output(index: &LabelIndex, value: &Value) -> Option<usize>
     ensures { result ≡ value_output index.now (data_of value.now) }
 {
     match value {
-        Value::Text(text) => text_output(&index.texts, text.as_str()),
+        Value::Text(text) => number_of_text(&index.texts, text.as_str()),
         Value::Num(number) => number_output(&index.numbers, number),
         _ => None,
     }
@@ -126,26 +124,10 @@ fn note_label(
     }
 }
 
-fn text_output(texts: &Texts, text: &str) -> Option<usize>
-    ensures { result ≡ text_output texts.now text.now }
-{
-    texts.get(text).copied()
-}
-
 fn number_output(numbers: &BTreeMap<i128, usize>, number: &Fixed) -> Option<usize>
     ensures { result ≡ get int_cmp numbers.now number.now }
 {
     numbers.get(&number.millionths()).copied()
-}
-
-fn note_text(alloc: Global, texts: &mut Texts, text: &str, output: usize) -> Result<(), AllocError>
-    ensures { OnOk result (NotesText text.now output texts.old texts.new) }
-{
-    let name = BoxedStr::from_str(alloc, text)?;
-    let Ok(_) = texts.insert(name, output) else {
-        return Err(AllocError);
-    };
-    Ok(())
 }
 
 fn note_number(

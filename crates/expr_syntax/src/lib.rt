@@ -22,11 +22,13 @@
 //! evaluated, and what it reads of the world. An operator without parts has besides a line in each of the two
 //! tables of `expression.rt`; one with parts has a layout of its own.
 //!
-//! Each text of the tree is shared and not copied, but for labels and names of `let`, of which an index has a
-//! copy. Time is linear in the tree, but for the labels of a `match`, which take n log n. The recursion is as
+//! Each text of the tree is shared and not copied, but for labels, and the names of a `let` of more than eight, of
+//! which an index has a copy. Time is linear in the tree, but for the labels of a `match` and the names of a `let`,
+//! which take n log n, and for each `var`, which asks each `let` around it in logarithmic time. The recursion is as
 //! deep as the tree.
 #![tactic(auto)]
 
+mod bound_names;
 mod elements;
 mod expression;
 mod fault;
@@ -40,15 +42,16 @@ mod rows;
 mod scope;
 mod sections;
 mod standing;
-mod text_sets;
+mod text_numbers;
 mod values;
 mod world_parts;
 
+pub use bound_names::Names;
 pub use expression::{Arguments, Expr, Operator};
 pub use fault::{SynCode, SynFault};
 pub use laws::read_terms_are_sound;
 pub use names::{Name, operator_named};
-pub use parts::{Inputs, Label, Labelled, Labels, Names, Piece, Pieces, Ramp, Role};
+pub use parts::{Inputs, Label, Labelled, Labels, Piece, Pieces, Ramp, Role};
 pub use reading::{Reading, read_expr, read_with, uses_globals};
-pub use rows::{Arity, Layout, Manner, Place, Reads, Row, Wanted, Wants};
+pub use rows::{Arity, Layout, Manner, Place, Reads, Row, Wanted, Wants, ramp_want};
 pub use world_parts::Mentions;

@@ -168,45 +168,6 @@ impl Ramp {
     }
 }
 
-/// The names that a `let` binds, in order.
-#[derive(Drop)]
-pub struct Names {
-    names: Vec<Text>,
-}
-
-impl Model for Names {
-    ghost use Rattle.std.specs.Prelude.{ℕ, List};
-
-    ghost Value = { List (List ℕ) };
-
-    ghost view = { λ a. a.names.items };
-}
-
-impl Names {
-    pub fn new(alloc: Global) -> Names
-        ensures { result ≡ [] }
-    {
-        Names {
-            names: Vec::new(alloc),
-        }
-    }
-
-    /// Adds a name at the end.
-    pub fn push(&mut self, name: Text) -> Result<(), AllocError>
-        ensures ok { OnOk result (self.new ≡ self.old ++ name ∷ []) }
-        ensures err { OnErr result (self.new ≡ self.old) }
-    {
-        self.names.push(name)?;
-        Ok(())
-    }
-
-    pub fn as_slice(&self) -> &[Text]
-        ensures { result.now ≡ self.now }
-    {
-        self.names.as_slice()
-    }
-}
-
 /// What an argument of `format` is: a content, or the option of a name.
 #[derive(Clone, Copy, Debug, PartialEq, Eq)]
 pub enum Role {

@@ -20,7 +20,7 @@ use crate::fault::{SynCode, SynFault};
 use crate::names::{Name, operator_named};
 use crate::parts::Role;
 use crate::rows::{Layout, Place};
-use crate::scope::{Frame, Scope, global_at};
+use crate::scope::{Scope, global_at};
 use crate::sections::{Sections, finish_format};
 use crate::standing::{Sought, has_arity, is_format, stands};
 use crate::values::{option_named, read_operator};
@@ -158,8 +158,7 @@ fn read_within<'x>(
 {
     match op {
         Operator::Let(names) => {
-            let frame = Frame::of(alloc, names)?;
-            let inner = Scope::Inside(&frame, &*scope);
+            let inner = Scope::Inside(names, &*scope);
             read_arguments(alloc, layout, items, &inner, &*scope, here)
         }
         _ => read_arguments(alloc, layout, items, &*scope, &*scope, here),

@@ -1,6 +1,7 @@
 //! What a row of the table of operators says.
 
 ghost use Rattle.std.specs.Prelude.{◌≡◌, ◌<◌, ◌^◌};
+ghost use Rattle.expr_syntax.specs.Operators.{want_of, ramp_want};
 ghost use Rattle.expr_syntax.specs.Rows.{allows, element_place, wanted, is_input, is_label, is_binder};
 
 use prop_values::Want;
@@ -194,6 +195,28 @@ impl Wants {
             Wants::Bindings if is_last => Wanted::OfNode,
             Wants::Bindings => Wanted::Own(Want::Any),
         }
+    }
+}
+
+impl Wanted {
+    /// The want of an argument, in a node under a want.
+    pub fn under(self, want: &Want) -> Want
+        ensures { result ≡ want_of self want.now }
+    {
+        match self {
+            Wanted::Own(own) => own,
+            Wanted::OfNode => *want,
+        }
+    }
+}
+
+/// The want of the outputs of an `interpolate`, in a node under a want.
+pub fn ramp_want(want: &Want) -> Want
+    ensures { result ≡ ramp_want want.now }
+{
+    match want {
+        Want::Shown => Want::Any,
+        want => *want,
     }
 }
 

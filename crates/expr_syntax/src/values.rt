@@ -14,12 +14,13 @@ ghost use Rattle.expr_syntax.specs.Parts.{whole_units, length_in, length_of, ste
 ghost use Rattle.expr_syntax.specs.Parts.{value_in, steps_up, base_of, curve_of, curve_from, linear, exponential, curve_in};
 ghost use Rattle.expr_syntax.specs.Parts.{is_name_byte, is_binding_name, names_among, let_operator, var_operator};
 
+use crate::bound_names::Names;
 use crate::elements::{after_head, second, second_text, text_in};
 use crate::expression::{Operator, plain_operator};
 use crate::fault::SynCode;
 use crate::labels::read_match;
 use crate::names::Name;
-use crate::parts::{Inputs, Names, Ramp, Role};
+use crate::parts::{Inputs, Ramp, Role};
 use crate::rows::{Layout, is_binder, is_input};
 use crate::scope::{Scope, knows};
 use decimal_json::Json;
@@ -287,7 +288,7 @@ fn read_let(alloc: Global, items: &[Json]) -> Result<Result<Operator, SynCode>, 
 fn binding_names(alloc: Global, items: &[Json]) -> Result<Option<Names>, AllocError>
     ensures { IfOk result (λ names. names ≡ names_among (length items.now) (trees items.now)) }
 {
-    let mut names = Names::new(alloc);
+    let mut names = Vec::new(alloc);
     for (i, item) in items.iter().enumerate() {
         if is_binder(items.len(), i) {
             match item {
@@ -298,7 +299,7 @@ fn binding_names(alloc: Global, items: &[Json]) -> Result<Option<Names>, AllocEr
             }
         }
     }
-    Ok(Some(names))
+    Ok(Some(Names::of(alloc, names)?))
 }
 
 fn is_binding_name(name: &[u8]) -> bool

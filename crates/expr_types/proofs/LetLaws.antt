@@ -1,6 +1,7 @@
 -- A `let`: its bindings, and its body in their names.
 use Rattle.std.specs.Prelude.{List, [], ◌∷◌, ◌++◌, Option, Some, None, Result, Ok, Err, IfOk, take, true}
-use Rattle.std.proofs.Common.{◌≡◌, ℕ, ◌+◌, ◌<◌, ◌∙◌, length, drop, append_assoc, ap, sym, refl, arith}
+use Rattle.std.proofs.Common.{◌≡◌, ℕ, zero, suc, ◌+◌, ◌<◌, ◌∙◌, length, drop, append_assoc, ap, sym, refl, arith}
+use Rattle.std.proofs.lemmas.List.{length-map}
 use Rattle.decimal_json.specs.declared.paths.PathPart.{PathPart}
 use Rattle.prop_values.specs.Faults.{no_faults, union}
 use Rattle.prop_values.specs.declared.fault.FaultSet.{FaultSet}
@@ -8,10 +9,11 @@ use Rattle.prop_values.specs.declared.kinds.Kind.{Kind}
 use Rattle.prop_values.specs.declared.kinds.Want.{Want}
 use Rattle.expr_syntax.specs.TermView.{term_of}
 use Rattle.expr_syntax.specs.declared.expression.Expr.{Expr}
+use Rattle.expr_syntax.specs.declared.expression.Operator.{Operator}
 use Rattle.expr_syntax.specs.declared.expression.Operator.TheVariants.{Let}
 use Rattle.expr_types.specs.Fits.{branch_kind}
 use Rattle.expr_types.specs.LiteralView.{typings_of}
-use Rattle.expr_types.specs.Typing.{Found, Typed, Typing, Scope, Node, fault, kinded, places_of, typed, founds_of, then_found, kinds_in, all_may, may_after, all_places, places_after, frame, argument_typed, with_bindings, body_typed, let_typed}
+use Rattle.expr_types.specs.Typing.{Found, Typed, Typing, Scope, Node, fault, kinded, places_of, typed, founds_of, and_found, then_found, kinds_in, all_may, may_after, all_places, places_after, frame, argument_typed, with_bindings, body_typed, let_typed}
 use Rattle.expr_types.specs.TypedView.{root_of, added, added_below, kinds_after, all_added}
 use Rattle.expr_types.specs.declared.fault.TypeCode.TheVariants as codes
 use Rattle.expr_types.specs.declared.fault.TypeFault.{TypeFault}
@@ -102,3 +104,32 @@ let_places names es want scope path first others body ks may k old new last is a
     there : {Q : Type 0} (r : Node) → Ok k ≡ r → IfOk r (λ x. Q) → Q
     there (Ok x) same holds = holds
     there (Err e) same holds = absurd (cc)
+
+-- each binding of a `let` with a body has its kind
+abbrev Counts : ℕ → Result (List Found) TypeFault → Type 0
+Counts n (Ok fs) = length fs ≡ n
+Counts n (Err f) = Unit {0}
+
+one_more : (n : ℕ) (t : Typed) (later : Result (List Found) TypeFault) → Counts n later → Counts (suc n) (and_found t later)
+one_more n (Ok found) (Ok fs) h = ap suc h
+one_more n (Ok found) (Err f) h = tt
+one_more n (Err f) later h = tt
+
+founds_count : (op : Operator) (m k : ℕ) (ts : List Typing) (want : Want) (scope : Scope) (path : List PathPart) → Counts (length ts) (founds_of op m k ts want scope path)
+founds_count op m k [] want scope path = refl
+founds_count op m k (t ∷ ts) want scope path = one_more (length ts) (argument_typed op m k t want scope path) (founds_of op m (k + 1) ts want scope path) (founds_count op m (k + 1) ts want scope path)
+
+counted : (n : ℕ) (founds : Result (List Found) TypeFault) (ks : List Kind) (may : FaultSet) → Counts n founds → Ok (ks, may) ≡ kinds_after [] no_faults founds → length ks ≡ n
+counted n (Ok fs) ks may h is = ap length (kinds_are fs ks may is) ∙ (length-map fs (λ (found : Found). found.node.kind) ∙ h)
+counted n (Err f) ks may h is = absurd (cc)
+
+all_taken : (n : ℕ) (es : List Expr) → 0 < length (drop n es) → length (take n es) ≡ n
+all_taken zero [] some = refl
+all_taken zero (e ∷ es) some = refl
+all_taken (suc n) [] some = absurd (omega (arith, some))
+all_taken (suc n) (e ∷ es) some = ap suc (all_taken n es some)
+
+pub each_has_kind : (op : Operator) (m n : ℕ) (es first others : List Expr) (want : Want) (scope : Scope) (path : List PathPart) (ks : List Kind) (may : FaultSet) → first ≡ take n es → others ≡ drop n es → 0 < length others → Ok (ks, may) ≡ kinds_after [] no_faults (founds_of op m 0 (typings_of first) want scope path) → n ≡ length ks
+each_has_kind op m n es first others want scope path ks may is also some found =
+    let whole : length first ≡ n = ap length is ∙ all_taken n es (omega (arith, ap length also, some)) in
+    sym (counted (length (typings_of first)) (founds_of op m 0 (typings_of first) want scope path) ks may (founds_count op m 0 (typings_of first) want scope path) found ∙ (typings_length first ∙ whole))

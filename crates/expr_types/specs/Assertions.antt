@@ -4,7 +4,6 @@ use Rattle.std.specs.Prelude.{ℕ, List, [], ◌∷◌, Bool, true, false, not, 
 use Rattle.prop_values.specs.Data.{Data, text}
 use Rattle.prop_values.specs.declared.fault.EvalFault.TheVariants.{WrongType, NotColor, NotNumberText}
 use Rattle.prop_values.specs.declared.kinds.Item.{Item}
-use Rattle.prop_values.specs.declared.kinds.Item.TheVariants as items
 use Rattle.prop_values.specs.declared.kinds.Kind.{Kind}
 use Rattle.prop_values.specs.declared.kinds.Kind.TheVariants as kinds
 use Rattle.prop_values.specs.declared.kinds.Want.TheVariants as wants
@@ -12,10 +11,6 @@ use Rattle.color_values.specs.ColorOf.{color_of}
 use Rattle.expr_types.specs.Fits.{fits, is_always}
 use Rattle.expr_types.specs.Own.{owns, faults_if, some_kind}
 use Rattle.expr_types.specs.declared.own.Own.{Own}
-
-abbrev pub item_or_any : Option Item → Item
-item_or_any (Some i) = i
-item_or_any None = items.Any
 
 -- `array`
 abbrev pub own_array : Item → Option ℕ → Kind → Own

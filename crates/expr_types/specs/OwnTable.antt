@@ -10,13 +10,14 @@ use Rattle.prop_values.specs.declared.kinds.Kind.TheVariants as kinds
 use Rattle.prop_values.specs.declared.kinds.Want.{Want}
 use Rattle.expr_syntax.specs.declared.expression.Operator.{Operator}
 use Rattle.expr_syntax.specs.declared.expression.Operator.TheVariants.{Array, Boolean, Number, String, Object, ToBoolean, ToColor, ToNumber, ToString, TypeOf, Get, Has, Properties, Id, GeometryType, FeatureState, At, In, IndexOf, Length, Slice, Not, Equal, NotEqual, Less, LessOrEqual, Greater, GreaterOrEqual, All, Any, Case, Match, Coalesce, Step, Interpolate, Let, Var, Zoom, Concat, Rgb, Rgba, ToRgba, Add, Multiply, Subtract, Divide, Remainder, Abs, Ceil, Floor, Round, Min, Max, Image, IsSupportedScript, Format}
+use Rattle.expr_syntax.specs.Operators.{item_or_any}
 use Rattle.expr_syntax.specs.Rows.{is_last, is_even}
 use Rattle.expr_syntax.specs.declared.parts.Labelled.{Labelled}
 use Rattle.expr_syntax.specs.declared.parts.Piece.{Piece}
 use Rattle.expr_syntax.specs.declared.parts.Role.{Role}
 use Rattle.expr_syntax.specs.declared.parts.Role.TheVariants.{Content, Scale, Font, Color}
 use Rattle.expr_types.specs.Arithmetics.{own_subtract, own_divide, own_remainder}
-use Rattle.expr_types.specs.Assertions.{item_or_any, own_array, own_asserted, own_to_color, own_to_number}
+use Rattle.expr_types.specs.Assertions.{own_array, own_asserted, own_to_color, own_to_number}
 use Rattle.expr_types.specs.Comparing.{own_equal, own_ordered, has_such_labels, unless_comparable}
 use Rattle.expr_types.specs.Literals.{count_of}
 use Rattle.expr_types.specs.Own.{owns, misfit, one_own, two_own, common_kind}

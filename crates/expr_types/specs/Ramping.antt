@@ -13,6 +13,7 @@ use Rattle.prop_values.specs.declared.outcome.Curve.{Curve}
 use Rattle.prop_values.specs.declared.outcome.Curve.TheVariants.{Linear, Exponential}
 use Rattle.interpolate_fixed.specs.Linear.{farthest}
 use Rattle.property_tables.specs.Fitting.{fit}
+use Rattle.expr_syntax.specs.Operators.{ramp_want}
 use Rattle.expr_types.specs.Fits.{same_kind}
 use Rattle.expr_types.specs.Literals.{is_value}
 use Rattle.expr_types.specs.Own.{common_kind, faults_if}
@@ -87,11 +88,6 @@ may_pass curve inputs want ls k = not (is_linear curve && (same_kind k kinds.Col
 
 abbrev pub unless_interpolable : Bool → Option TypeCode
 unless_interpolable b = if b then None else Some codes.NotInterpolable
-
--- Under Shown the outputs are taken as they are, and what is between them is shown.
-abbrev pub ramp_want : Want → Want
-ramp_want wants.Shown = wants.Any
-ramp_want want = want
 
 -- by the literals and the kinds of all arguments, the input first
 abbrev pub own_ramp : Curve → List ℤ → Want → List (Option Data) → List Kind → Own

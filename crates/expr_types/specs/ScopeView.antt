@@ -5,4 +5,4 @@ use Rattle.expr_types.specs.declared.scope.Scope.{Scope as CodeScope, Empty, Ins
 
 abbrev pub scope_of : CodeScope → Scope
 scope_of Empty = []
-scope_of (Inside' names kinds p outer) = frame names.now kinds.now ∷ scope_of outer
+scope_of (Inside' bound p outer) = frame bound.names.now bound.kinds.now ∷ scope_of outer

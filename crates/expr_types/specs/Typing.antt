@@ -12,17 +12,14 @@ use Rattle.prop_values.specs.declared.kinds.Kind.TheVariants as kinds
 use Rattle.prop_values.specs.declared.kinds.Want.{Want}
 use Rattle.expr_syntax.specs.declared.expression.Operator.{Operator}
 use Rattle.expr_syntax.specs.declared.expression.Operator.TheVariants.{Case, Match, Step, Interpolate, Let, Var}
-use Rattle.expr_syntax.specs.declared.rows.Wanted.{Wanted}
-use Rattle.expr_syntax.specs.declared.rows.Wanted.TheVariants.{Own as OwnWant, OfNode}
 use Rattle.expr_syntax.specs.Names.{row}
-use Rattle.expr_syntax.specs.Operators.{operator_name, wanted_by}
+use Rattle.expr_syntax.specs.Operators.{operator_name, wanted_by, want_of, ramp_want}
 use Rattle.expr_syntax.specs.Term.{Term, literal, node, Terms, no_terms, term}
 use Rattle.expr_types.specs.ArgumentPaths.{argument_path}
 use Rattle.expr_types.specs.Fits.{fits, is_always, kind_under, branch_kind, fit_faults}
 use Rattle.expr_types.specs.Literals.{literal_kind, surely_fits}
 use Rattle.expr_types.specs.Own.{owns, misfit}
 use Rattle.expr_types.specs.OwnTable.{own}
-use Rattle.expr_types.specs.Ramping.{ramp_want}
 use Rattle.expr_types.specs.Sequences.{sequence_fit}
 use Rattle.expr_types.specs.declared.fault.TypeCode.{TypeCode}
 use Rattle.expr_types.specs.declared.fault.TypeCode.TheVariants as codes
@@ -94,10 +91,6 @@ with_below below (Err f) = Err f
 abbrev pub handed : Operator → Want → Want
 handed (Interpolate r) want = ramp_want want
 handed op want = want
-
-abbrev pub want_of : Wanted → Want → Want
-want_of (OwnWant own) want = own
-want_of OfNode want = want
 
 abbrev pub argument_want : Operator → ℕ → ℕ → Want → Want
 argument_want op m k want = want_of (wanted_by op m k) (handed op want)
@@ -248,12 +241,3 @@ abbrev mutual
   pub typings : Terms → List Typing
   typings no_terms = []
   typings (term t ts) = typed t ∷ typings ts
-
--- ---- for proofs: what was found of the names so far, beside those to come
-abbrev pub or_later : Option Kind → Option Kind → Option Kind
-or_later (Some k) found = Some k
-or_later None found = found
-
-abbrev pub noted : Option Kind → Bool → Option Kind → Option Kind
-noted found is_named (Some k) = if is_named then Some k else found
-noted found is_named None = found

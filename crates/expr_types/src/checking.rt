@@ -10,6 +10,7 @@ ghost use Rattle.prop_values.specs.Faults.{no_faults};
 ghost use Rattle.expr_types.specs.TypedView.{typed_of, node_of, founds_in, root_of, added, added_below, kinds_after, kinds_of, all_added, plain_of, body_of, argument_found, found_at};
 
 use crate::argument_paths::{element_at, key_at};
+use crate::bindings::Bound;
 use crate::fault::{TypeCode, TypeFault};
 use crate::nodes::{
     as_sequence, branched, count, fitted, is_branching, literal_node, refused, settle,
@@ -17,11 +18,10 @@ use crate::nodes::{
 };
 use crate::own::Own;
 use crate::placed::{Kinded, Placed};
-use crate::ramping::ramp_want;
 use crate::scope::{Scope, own_named};
 use crate::table::own;
-use decimal_json::{Here, Text};
-use expr_syntax::{Expr, Operator, Wanted};
+use decimal_json::Here;
+use expr_syntax::{Expr, Names, Operator, ramp_want};
 use prop_values::{FaultSet, Kind, Want};
 use std::alloc::{AllocError, Global};
 
@@ -109,16 +109,7 @@ fn check_inside<'x>(
     ensures places { IfOk result (λ r. IfOk r (λ _. Ok places.new.items ≡ added_below places.old.items (node_of op.now arguments.now want.now scope.now here.now))) }
 {
     match op {
-        Operator::Let(names) => check_let(
-            alloc,
-            op,
-            names.as_slice(),
-            arguments,
-            want,
-            scope,
-            here,
-            places,
-        ),
+        Operator::Let(names) => check_let(alloc, op, names, arguments, want, scope, here, places),
         Operator::Var(name) => fitted(
             alloc,
             want,
@@ -184,7 +175,7 @@ fn finished(
 fn check_let<'x>(
     alloc: Global,
     op: &'x Operator,
-    names: &'x [Text],
+    names: &'x Names,
     arguments: &'x [Expr],
     want: &Want,
     scope: &'x Scope<'x>,
@@ -195,7 +186,7 @@ fn check_let<'x>(
     ensures node { IfOk result (λ r. r ≡ root_of (let_typed names.now (typings_of arguments.now) want.now (scope_of scope.now) (path_of here.now))) }
     ensures places { IfOk result (λ r. IfOk r (λ _. Ok places.new.items ≡ added_below places.old.items (let_typed names.now (typings_of arguments.now) want.now (scope_of scope.now) (path_of here.now)))) }
 {
-    let (bindings, rest) = cut(arguments, names.len());
+    let (bindings, rest) = cut(arguments, names);
     match check_arguments(
         alloc,
         op,
@@ -229,11 +220,12 @@ fn check_let<'x>(
     }
 }
 
-// So many of the first arguments, as far as there are so many, and the others.
-fn cut(arguments: &[Expr], count: usize) -> (&[Expr], &[Expr])
-    ensures first { result.0.now ≡ take count arguments.now }
-    ensures others { result.1.now ≡ drop count arguments.now }
+// As many of the first arguments as there are names, as far as there are so many, and the others.
+fn cut<'x>(arguments: &'x [Expr], names: &Names) -> (&'x [Expr], &'x [Expr])
+    ensures first { result.0.now ≡ take (length names.now) arguments.now }
+    ensures others { result.1.now ≡ drop (length names.now) arguments.now }
 {
+    let count = names.len();
     if count <= arguments.len() {
         arguments.split_at(count)
     } else {
@@ -247,7 +239,7 @@ fn cut(arguments: &[Expr], count: usize) -> (&[Expr], &[Expr])
 fn check_body<'x>(
     alloc: Global,
     op: &'x Operator,
-    names: &'x [Text],
+    names: &'x Names,
     kinds: &'x [Kind],
     body: &'x Expr,
     want: &Want,
@@ -255,16 +247,17 @@ fn check_body<'x>(
     here: &Here<'_>,
     places: &mut Vec<Placed>,
 ) -> Result<Result<Kinded, TypeFault>, AllocError>
-    requires short { length names.now < 2 ^ 60 }
+    requires each { length names.now ≡ length kinds.now }
     ensures node { IfOk result (λ r. r ≡ root_of (body_of op.now names.now kinds.now body.now want.now scope.now here.now)) }
     ensures places { IfOk result (λ r. IfOk r (λ _. Ok places.new.items ≡ added places.old.items (body_of op.now names.now kinds.now body.now want.now scope.now here.now))) }
 {
-    let inside = Scope::Inside(names, kinds, &*scope);
+    let count = names.len();
+    let inside = Scope::Inside(Bound { names, kinds }, &*scope);
     check_argument(
         alloc,
         op,
-        names.len() + 1,
-        names.len(),
+        count + 1,
+        count,
         body,
         want,
         &inside,
@@ -396,8 +389,5 @@ fn argument_want(op: &Operator, count: usize, place: usize, want: &Want) -> Want
     requires { place < 2 ^ 60 }
     ensures { result ≡ argument_want op.now count place want.now }
 {
-    match op.wanted(count, place) {
-        Wanted::Own(own) => own,
-        Wanted::OfNode => handed(op, want),
-    }
+    op.wanted(count, place).under(&handed(op, want))
 }

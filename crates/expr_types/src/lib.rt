@@ -28,6 +28,7 @@
 mod argument_paths;
 mod arithmetic;
 mod assertions;
+mod bindings;
 mod checking;
 mod comparing;
 mod fault;

@@ -2,14 +2,14 @@
 
 ghost use Rattle.std.specs.Prelude.{◌≡◌, ◌-ℤ◌, unsigned_abs, IfOk, option_map};
 ghost use Rattle.prop_values.specs.View.{data_of, items};
-ghost use Rattle.expr_types.specs.Ramping.{is_ramp_kind, is_interpolable, is_near, is_item_near, are_items_near, are_near, is_fitting, are_next_near, first_near, next_from, steps_are_near, may_pass, unless_interpolable, ramp_want, own_ramp};
+ghost use Rattle.expr_types.specs.Ramping.{is_ramp_kind, is_interpolable, is_near, is_item_near, are_items_near, are_near, is_fitting, are_next_near, first_near, next_from, steps_are_near, may_pass, unless_interpolable, own_ramp};
 ghost use Rattle.expr_types.specs.LiteralView.{literals_of};
 
 use crate::fault::TypeCode;
 use crate::fits::same_kind;
 use crate::literals::{fits_value, literal_of};
 use crate::own::{Own, common_kind, faults_if};
-use expr_syntax::{Expr, Ramp};
+use expr_syntax::{Expr, Ramp, ramp_want};
 use fixed_num::Fixed;
 use prop_values::{Curve, EvalFault, Item, Kind, Value, Want};
 use std::alloc::{AllocError, Global};
@@ -157,16 +157,6 @@ fn are_first_near(x0: Fixed, x1: Fixed, outputs: &[Expr]) -> bool
     match outputs {
         [from, to, ..] => are_next_near(x0, literal_of(from), x1, literal_of(to)),
         _ => true,
-    }
-}
-
-/// Under which want the outputs are taken.
-pub(crate) fn ramp_want(want: &Want) -> Want
-    ensures { result ≡ ramp_want want.now }
-{
-    match *want {
-        Want::Shown => Want::Any,
-        other => other,
     }
 }
 

@@ -1,8 +1,9 @@
 use Rattle.std.specs.Prelude.{Ok, Err, IfOk, true, slice_set}
-use Rattle.std.proofs.Common.{◌≡◌, ◌+◌, ◌++◌, ◌∷◌, ap, sym, ◌∙◌, subst, length, drop, [], arith}
+use Rattle.std.proofs.Common.{◌≡◌, ◌<◌, ◌+◌, ◌*◌, ◌++◌, ◌∷◌, ap, sym, ◌∙◌, subst, length, drop, [], arith, rules}
 use Rattle.decimal_json.specs.Place.{path_of}
 use Rattle.prop_values.specs.Faults.{no_faults, union}
 use Rattle.expr_syntax.specs.Falls.{weight}
+use Rattle.expr_syntax.specs.Term.{nodes}
 use Rattle.expr_syntax.specs.TermView.{term_of}
 use Rattle.expr_syntax.specs.declared.expression.Operator.TheVariants.{Let}
 use Rattle.expr_types.specs.LiteralView.{literals_of, typings_of}
@@ -14,7 +15,7 @@ use Rattle.expr_types.specs.declared.fault.TypeCode.TheVariants as codes
 use Rattle.expr_types.specs.declared.placed.Kinded.{Kinded}
 use Rattle.expr_types.proofs.ArgumentLaws.{key_path, next_found, first_weight, only_weight, only_is, typings_length}
 use Rattle.expr_types.proofs.FoundLaws.{if_ok_is, if_ok_all, ok_of, found_kinds, found_places, found_fault, settled, plain_root, plain_fault, plain_places, looked_root, looked_places}
-use Rattle.expr_types.proofs.LetLaws.{body_in, let_fault, bodiless, let_root, let_body_fault, let_places}
+use Rattle.expr_types.proofs.LetLaws.{body_in, let_fault, bodiless, let_root, let_body_fault, let_places, each_has_kind}
 use Rattle.expr_types.proofs.checking.+checking.Goals as goal
 
 pub check_argument-returns-in-Some-clause-node : goal.check_argument-returns-in-Some-clause-node
@@ -76,7 +77,15 @@ pub check_let-check_arguments-requires : goal.check_let-check_arguments-requires
 check_let-check_arguments-requires t c = omega (arith, ap weight c.cut.ensures.first, first_weight (length c.args.names.now) c.args.arguments.now)
 
 pub check_let-check_body-requires : goal.check_let-check_body-requires
-check_let-check_body-requires t c = omega (arith, only_weight c.args.arguments.now (length c.args.names.now) c.cut.result.1.now c.index-rest-0.result c.cut.ensures.others (omega (arith, c.if-rest-ne1.false)) c.index-rest-0.is)
+check_let-check_body-requires t c =
+    let some : 0 < length c.cut.result.1.now = omega (arith, c.if-rest-ne1.false) in
+    let d = c.decreases in
+    let w = only_weight c.args.arguments.now (length c.args.names.now) c.cut.result.1.now c.index-rest-0.result c.cut.ensures.others some c.index-rest-0.is in
+    let smaller : 8 * nodes (term_of c.index-rest-0.result) + 3 < t = omega arith in
+    let each : length c.args.names.now ≡ length c.as_slice.result.now =
+    each_has_kind c.args.op.now (length c.args.arguments.now) (length c.args.names.now) c.args.arguments.now c.cut.result.0.now c.cut.result.1.now c.args.want.now (scope_of c.args.scope.now) (path_of c.args.here.now) c.in-Ok.found.kinds.items c.in-Ok.found.may c.cut.ensures.first c.cut.ensures.others some (sym (ap kinds_of c.in-Ok.is) ∙ c.in_ok-found.ensures.kinds)
+    ∙ ap length (sym c.as_slice.ensures.value) in
+    search (rules, smaller, each)
 
 pub check_let-returns-in-Ok-2-clause-node : goal.check_let-returns-in-Ok-2-clause-node
 check_let-returns-in-Ok-2-clause-node t c =

@@ -1,0 +1,100 @@
+//! The names that a `let` binds.
+
+ghost use Rattle.std.specs.Prelude.{◌≡◌, ◌<◌, ◌^◌, IfOk, IfSome, length};
+ghost use Rattle.expr_syntax.specs.BoundNames.{last_place};
+ghost use Rattle.expr_syntax.specs.NameIndex.{ArePlacesOf, IsIndexOf};
+
+use crate::text_numbers::{TextNumbers, note_text, number_of_text};
+use decimal_json::Text;
+use std::alloc::{AllocError, Global};
+use std::collections::BTreeMap;
+use std::marker::Model;
+
+// How many names are looked through one by one, and stand in no index.
+const FIRST: usize = 8;
+
+/// The names that a `let` binds, in order. Up to eight are looked through one by one; of more an index has the last
+/// place of each.
+#[derive(Drop)]
+pub struct Names {
+    names: Vec<Text>,
+    places: TextNumbers,
+}
+
+impl Model for Names {
+    ghost use Rattle.std.specs.Prelude.{ℕ, List};
+    ghost use Rattle.expr_syntax.specs.NameIndex.{IsIndexOf};
+
+    ghost Value = { List (List ℕ) };
+
+    ghost view = { λ a. a.names.items };
+
+    ghost invariant = { λ a. IsIndexOf a.places a.names.items };
+}
+
+impl Names {
+    pub(crate) fn of(alloc: Global, names: Vec<Text>) -> Result<Names, AllocError>
+        ensures { IfOk result (λ made. made ≡ names.items) }
+    {
+        let places = index_of(alloc, names.as_slice())?;
+        Ok(Names { names, places })
+    }
+
+    /// How many names there are.
+    pub fn len(&self) -> usize
+        ensures count { result ≡ length self.now }
+        ensures short { result < 2 ^ 60 }
+    {
+        self.names.as_slice().len()
+    }
+
+    pub fn as_slice(&self) -> &[Text]
+        ensures { result.now ≡ self.now }
+    {
+        self.names.as_slice()
+    }
+
+    /// The place of the last of the names that is this one, in logarithmic time. It takes no memory.
+    pub fn last_place(&self, name: &str) -> Option<usize>
+        ensures value { result ≡ last_place 0 self.now name.now }
+        ensures within { IfSome result (λ place. place < length self.now) }
+    {
+        if self.names.len() <= FIRST {
+            walked_place(self.names.as_slice(), name)
+        } else {
+            number_of_text(&self.places, name)
+        }
+    }
+}
+
+fn index_of(alloc: Global, names: &[Text]) -> Result<TextNumbers, AllocError>
+    ensures { IfOk result (λ places. IsIndexOf places names.now) }
+{
+    if names.len() <= FIRST {
+        return Ok(BTreeMap::new(alloc));
+    }
+    places_of(alloc, names)
+}
+
+fn places_of(alloc: Global, names: &[Text]) -> Result<TextNumbers, AllocError>
+    ensures { IfOk result (λ places. ArePlacesOf places names.now) }
+{
+    let mut places = BTreeMap::new(alloc);
+    for (place, name) in names.iter().enumerate() {
+        note_text(alloc, &mut places, name.as_str(), place)?;
+    }
+    Ok(places)
+}
+
+// The place of the last of the names that is this one, looked for in one after the other.
+fn walked_place(names: &[Text], name: &str) -> Option<usize>
+    ensures { result ≡ last_place 0 names.now name.now }
+{
+    let mut found = None;
+    for (place, bound) in names.iter().enumerate() {
+        if bound.as_str() == name {
+            found = Some(place);
+        }
+    }
+    found
+}
