@@ -1,0 +1,3 @@
+-- To be believed.
+pub mod OfKind
+pub mod TypingLaws
