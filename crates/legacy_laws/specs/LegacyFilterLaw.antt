@@ -1,0 +1,87 @@
+-- A legacy filter and its expression say the same. Source: own.
+use Rattle.std.specs.Prelude.{◌≡◌, ℕ, ℤ, List, [], Bool, false, true, ◌||◌, Some, None, Ok, Err, if◌then◌else◌}
+use Rattle.decimal_json.specs.Tree.{Tree}
+use Rattle.prop_values.specs.Data.{Data, boolean}
+use Rattle.prop_values.specs.declared.fault.EvalFault.TheVariants.{NotOrdered}
+use Rattle.prop_values.specs.declared.kinds.Kind.TheVariants as kinds
+use Rattle.prop_values.specs.declared.kinds.Want.TheVariants as wants
+use Rattle.tile_reader.specs.declared.tile.Feature.{Feature}
+use Rattle.expr_syntax.specs.Reading.{reading_with}
+use Rattle.expr_syntax.specs.Term.{Term}
+use Rattle.expr_types.specs.Checked.{checked}
+use Rattle.expr_types.specs.Own.{faults_if}
+use Rattle.expr_types.specs.Typing.{Found}
+use Rattle.eval_face.specs.Meaning.{mean}
+use Rattle.eval_face.specs.World.{feature_world}
+use Rattle.legacy_filters.specs.declared.filter.Test.{Test}
+use Rattle.legacy_filters.specs.declared.filter.Test.TheVariants.{Ordered}
+use Rattle.legacy_filters.specs.declared.scalars.Scalar.{Scalar}
+use Rattle.legacy_filters.specs.declared.scalars.Scalar.TheVariants.{Flag, Number, Text}
+use Rattle.legacy_filters.specs.Filter.{Filter, flag, test, group, Filters, no_filters, filter}
+use Rattle.legacy_filters.specs.Form as legacy
+use Rattle.legacy_filters.specs.Meaning.{passes}
+use Rattle.legacy_filters.specs.Split.{is_legacy}
+use Rattle.legacy_filters.specs.ToExpression.{expression}
+
+-- Whatever the zoom, the state and the two tests are, an expression gives of every feature under Boolean whether it passes
+-- a filter.
+abbrev pub SaysTheSame : Term → Filter → Type 0
+SaysTheSame e f =
+    (zoom : ℤ) (feature : Feature) (state : List (List ℕ × Data)) (images scripts : List ℕ → Bool) →
+    mean e wants.Boolean [] (feature_world zoom feature state images scripts)
+    ≡ Ok (boolean (passes f feature))
+
+-- The expression of a filter that was read is inside and reads without a fault, whatever the values of the global state
+-- are, and says the same as the filter. So it never ends with a fault.
+abbrev pub ExpressionsMeanTheirFilters : Type 0
+ExpressionsMeanTheirFilters =
+    (t : Tree) (f : Filter) → legacy.reading t ≡ Ok f →
+    (e : Term) × ((values : List (List ℕ × Data)) → reading_with (expression f) values ≡ Ok (Some e))
+    × SaysTheSame e f
+
+-- ---- types
+
+-- an order with a number or a text; nothing is ordered with a boolean, so that the expression is `false`
+abbrev pub is_order_of : Scalar → Bool
+is_order_of (Flag b) = false
+is_order_of (Number n z) = true
+is_order_of (Text s) = true
+
+abbrev pub is_order : Test → Bool
+is_order (Ordered order v) = is_order_of v
+is_order t = false
+
+-- whether such an order stands in a filter
+abbrev mutual
+  pub has_order : Filter → Bool
+  has_order (flag b) = false
+  has_order (test key t) = is_order t
+  has_order (group g fs) = some_order fs
+
+  pub some_order : Filters → Bool
+  some_order no_filters = false
+  some_order (filter f fs) = has_order f || some_order fs
+
+-- The expression of a filter that was read is well typed as a filter: there is no type fault, and no node reads what a
+-- filter may not read. Its kind is Boolean. The only fault that may be listed is NotOrdered, and it is listed exactly
+-- where the filter has an order: `typeof` stands before the order, so that the fault never comes, but kinds do not tell.
+abbrev pub MigratedFiltersAreTyped : Type 0
+MigratedFiltersAreTyped =
+    (t : Tree) (f : Filter) → legacy.reading t ≡ Ok f →
+    (e : Term) (values : List (List ℕ × Data)) → reading_with (expression f) values ≡ Ok (Some e) →
+    (found : Found) × (checked e wants.Boolean None ≡ Ok found) × (found.node.kind ≡ kinds.Boolean)
+    × (found.node.may ≡ faults_if (has_order f) NotOrdered)
+
+-- ---- migrating again
+
+abbrev pub expression_or_itself : legacy.Read → Tree → Tree
+expression_or_itself (Ok f) t = expression f
+expression_or_itself (Err fault) t = t
+
+-- A filter after it was migrated: the expression of a legacy filter. A filter that is an expression stays, and so does
+-- one that is ill-formed.
+abbrev pub migrated_filter : Tree → Tree
+migrated_filter t = if is_legacy t then expression_or_itself (legacy.reading t) t else t
+
+abbrev pub MigratedFiltersStay : Type 0
+MigratedFiltersStay = (t : Tree) → migrated_filter (migrated_filter t) ≡ migrated_filter t
