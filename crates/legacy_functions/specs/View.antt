@@ -1,0 +1,66 @@
+-- Which function a value of the program is.
+use Rattle.std.specs.Prelude.{◌≡◌, map, Option, Some, None, option_map, Result, Ok, Err}
+use Rattle.property_tables.specs.RowView.{row_seen}
+use Rattle.property_tables.specs.Rows.{RowData}
+use Rattle.property_tables.specs.declared.property_row.Row.{Row}
+use Rattle.legacy_functions.specs.declared.function.Body.{Body as BodyValue}
+use Rattle.legacy_functions.specs.declared.function.Body.TheVariants as bodies
+use Rattle.legacy_functions.specs.declared.function.Function.{Function as FunctionValue}
+use Rattle.legacy_functions.specs.declared.function.FunctionFault.{FunctionFault}
+use Rattle.legacy_functions.specs.declared.function.FunctionReading.{FunctionReading}
+use Rattle.legacy_functions.specs.declared.function.FunctionReading.TheVariants.{Inside, Outside}
+use Rattle.legacy_functions.specs.declared.function.Rule.{Rule as RuleValue}
+use Rattle.legacy_functions.specs.declared.function.Rule.TheVariants as rules
+use Rattle.legacy_functions.specs.declared.function.Way.{Way as WayValue}
+use Rattle.legacy_functions.specs.declared.function.Way.TheVariants as ways
+use Rattle.legacy_functions.specs.declared.function.ZoomRule.{ZoomRule}
+use Rattle.legacy_functions.specs.Form.{Target}
+use Rattle.legacy_functions.specs.Function.{Spelled, Way, even, curved, stepped, Rule, numeric, categorical, Body, plain, zoomed, identity, Function}
+use Rattle.legacy_functions.specs.Parts.{spelled_seen, output_seen, stop_seen, category_seen}
+
+abbrev pub way_seen : WayValue → Way
+way_seen ways.Even = even
+way_seen (ways.Curved n) = curved (spelled_seen n)
+way_seen ways.Stepped = stepped
+
+-- a rule of a function that goes over numbers in this way
+abbrev pub rule_seen : Way → RuleValue → Rule
+rule_seen way (rules.Numeric stops) = numeric way (map stop_seen stops)
+rule_seen way (rules.Categorical stops) = categorical (map category_seen stops)
+
+abbrev pub zoom_rule_seen : Way → ZoomRule → Spelled × Rule
+zoom_rule_seen way r = (spelled_seen r.zoom, rule_seen way r.rule)
+
+abbrev pub body_seen : Way → BodyValue → Body
+body_seen way (bodies.Plain rule) = plain (rule_seen way rule)
+body_seen way (bodies.Zoomed zs) = zoomed (map (zoom_rule_seen way) zs)
+body_seen way bodies.Identity = identity
+
+-- The function of a value. Source: own.
+abbrev pub function_of : FunctionValue → Function
+function_of f = record {
+  property = f.property;
+  fallback = option_map output_seen f.fallback;
+  body = body_seen (way_seen f.way) f.body;
+}
+
+-- what reading sees of a row
+abbrev pub target_seen : Row → Target
+target_seen r = record { row = row_seen r; takes_tokens = r.tokens }
+
+-- The row that it was read for.
+abbrev pub row_of : FunctionValue → RowData
+row_of f = row_seen f.row
+
+-- what was read, as definitions see it
+abbrev pub inside_seen : FunctionReading → Option Function
+inside_seen (Inside f) = Some (function_of f)
+inside_seen Outside = None
+
+abbrev pub reading_seen : Result FunctionReading FunctionFault → Option (Option Function)
+reading_seen (Ok reading) = Some (inside_seen reading)
+reading_seen (Err fault) = None
+
+abbrev pub IsOfRow : RowData → FunctionReading → Type 0
+IsOfRow row (Inside f) = row_of f ≡ row
+IsOfRow row Outside = Unit {0}

@@ -1,0 +1,454 @@
+//! The expression that means what a legacy function means.
+
+ghost use Rattle.std.specs.Prelude.{◌≡◌, ◌<◌, ◌++◌, ◌∷◌, [], length, map, codes, IfOk, OnOk};
+ghost use Rattle.std.specs.Str.{IsAscii};
+ghost use Rattle.fixed_num.specs.NumberText.{number_text};
+ghost use Rattle.decimal_json.specs.Tree.{text as text_tree, number as number_tree};
+ghost use Rattle.decimal_json.specs.View.{tree_of};
+ghost use Rattle.property_tables.specs.RowView.{fallback_seen};
+ghost use Rattle.property_tables.specs.Rows.{zeros, fonts};
+ghost use Rattle.legacy_functions.specs.Function.{even};
+ghost use Rattle.legacy_functions.specs.FunctionView.{default_tree, property_tree, rule_in, rules_in, branches_in};
+ghost use Rattle.legacy_functions.specs.Meaning.{zoom_way};
+ghost use Rattle.legacy_functions.specs.Parts.{input_seen, output_seen, category_seen};
+ghost use Rattle.legacy_functions.specs.ToExpression.{function_expression, as_literal, output_expression, written_tree, branch_elements, step_expression, way_expression, kind_case, input_tree, category_elements, rule_expression, zoom_expression, zoom_rule_expression, rule_branches, form_name, identity_expression};
+ghost use Rattle.legacy_functions.specs.Tokens.{call};
+ghost use Rattle.legacy_functions.specs.View.{function_of, row_of, way_seen};
+
+use crate::categories::Categories;
+use crate::function::{Body, Category, Function, Input, NumberStop, Output, Rule, Way, ZoomRule};
+use crate::stops::{NumberStops, ZoomRules};
+use crate::tokens::{property_expression, token_expr};
+use decimal_json::{Items, Json, NumText, Text, copy};
+use fixed_num::Fixed;
+use prop_values::Want;
+use property_tables::Fallback;
+use std::alloc::{AllocError, Global};
+
+impl Function {
+    /// The expression that means the same. Texts and numbers stand in it as they stood, and the row's default as the table writes
+    /// it.
+    pub fn to_expr(&self, alloc: Global) -> Result<Json, AllocError>
+        ensures { IfOk result (λ made. tree_of made ≡ function_expression (row_of self.now) (function_of self.now)) }
+    {
+        match &self.body {
+            Body::Plain(rule) => match &self.property {
+                Some(_) => rule_expression(alloc, self, rule),
+                None => zoom_rule_expression(alloc, self, rule),
+            },
+            Body::Zoomed(rules) => zoomed_expression(alloc, self, rules),
+            Body::Identity => identity_expression(alloc, self),
+        }
+    }
+}
+
+// ---- calls
+
+fn call(alloc: Global, name: &str) -> Result<Items, AllocError>
+    ensures { IfOk result (λ items. items ≡ text_tree name.now ∷ []) }
+{
+    let mut items = Items::new(alloc);
+    items.push(text(alloc, name)?)?;
+    Ok(items)
+}
+
+fn text(alloc: Global, name: &str) -> Result<Json, AllocError>
+    ensures { IfOk result (λ made. tree_of made ≡ text_tree name.now) }
+{
+    Ok(Json::Text(Text::copy_of(alloc, name)?))
+}
+
+fn call_one(alloc: Global, name: &str, element: Json) -> Result<Json, AllocError>
+    ensures { IfOk result (λ made. tree_of made ≡ call name.now (tree_of element ∷ [])) }
+{
+    let mut items = call(alloc, name)?;
+    items.push(element)?;
+    Ok(Json::List(items))
+}
+
+fn call_two(alloc: Global, name: &str, first: Json, second: Json) -> Result<Json, AllocError>
+    ensures { IfOk result (λ made. tree_of made ≡ call name.now (tree_of first ∷ tree_of second ∷ [])) }
+{
+    let mut items = call(alloc, name)?;
+    items.push(first)?;
+    items.push(second)?;
+    Ok(Json::List(items))
+}
+
+fn zoom_json(alloc: Global) -> Result<Json, AllocError>
+    ensures { IfOk result (λ made. tree_of made ≡ zoom_expression) }
+{
+    Ok(Json::List(call(alloc, "zoom")?))
+}
+
+// ---- outputs and defaults
+
+// An array stands in `literal`.
+fn as_literal(alloc: Global, json: Json) -> Result<Json, AllocError>
+    ensures { IfOk result (λ made. tree_of made ≡ as_literal (tree_of json)) }
+{
+    match json {
+        Json::List(items) => call_one(alloc, "literal", Json::List(items)),
+        json => Ok(json),
+    }
+}
+
+fn output_expression(alloc: Global, output: &Output) -> Result<Json, AllocError>
+    ensures { IfOk result (λ made. tree_of made ≡ output_expression (output_seen output.now)) }
+{
+    match output {
+        Output::Literal(json, _) => {
+            let json = copy(alloc, json)?;
+            as_literal(alloc, json)
+        }
+        Output::Tokens(text) => token_expr(alloc, text.as_str()),
+    }
+}
+
+// The function's default, else the row's, else null.
+fn default_expression(alloc: Global, function: &Function) -> Result<Json, AllocError>
+    ensures { IfOk result (λ made. tree_of made ≡ default_tree function.now) }
+{
+    match &function.fallback {
+        Some(output) => output_expression(alloc, output),
+        None => {
+            let written = written_json(alloc, &function.row.fallback)?;
+            as_literal(alloc, written)
+        }
+    }
+}
+
+fn written_json(alloc: Global, fallback: &Fallback) -> Result<Json, AllocError>
+    ensures { IfOk result (λ made. tree_of made ≡ written_tree (fallback_seen fallback.now)) }
+{
+    match fallback {
+        Fallback::Absent => Ok(Json::Null),
+        Fallback::Flag(flag) => Ok(Json::Bool(*flag)),
+        Fallback::Number(number) => number_json(alloc, *number),
+        Fallback::Word(word) => text(alloc, word),
+        Fallback::Zeros(count) => zeros_json(alloc, *count),
+        Fallback::Fonts => fonts_json(alloc),
+    }
+}
+
+fn number_json(alloc: Global, number: Fixed) -> Result<Json, AllocError>
+    ensures { IfOk result (λ made. tree_of made ≡ number_tree (number_text number)) }
+{
+    let mut out = [0; 48];
+    let length = number.write(&mut out);
+    Ok(Json::Num(NumText::copy_of(alloc, ascii_text(&out[..length]))?))
+}
+
+fn ascii_text(bytes: &[u8]) -> &str
+    requires { IsAscii bytes.now }
+    ensures { result.now ≡ bytes.now }
+{
+    // ASCII is UTF-8, so the second arm is never taken.
+    match str::from_utf8(bytes) {
+        Ok(text) => text,
+        Err(_) => "",
+    }
+}
+
+fn zeros_json(alloc: Global, count: u32) -> Result<Json, AllocError>
+    ensures { IfOk result (λ made. tree_of made ≡ written_tree (zeros count)) }
+{
+    let mut items = Items::new(alloc);
+    for _ in 0..count {
+        items.push(zero_json(alloc)?)?;
+    }
+    Ok(Json::List(items))
+}
+
+fn zero_json(alloc: Global) -> Result<Json, AllocError>
+    ensures { IfOk result (λ made. tree_of made ≡ number_tree (codes "0")) }
+{
+    Ok(Json::Num(NumText::copy_of(alloc, "0")?))
+}
+
+fn fonts_json(alloc: Global) -> Result<Json, AllocError>
+    ensures { IfOk result (λ made. tree_of made ≡ written_tree fonts) }
+{
+    let mut items = Items::new(alloc);
+    items.push(text(alloc, "Open Sans Regular")?)?;
+    items.push(text(alloc, "Arial Unicode MS Regular")?)?;
+    Ok(Json::List(items))
+}
+
+// ---- stops over numbers
+
+// Stops over an expression of a number.
+fn way_expression(
+    alloc: Global,
+    way: &Way,
+    input: Json,
+    stops: &NumberStops,
+) -> Result<Json, AllocError>
+    ensures { IfOk result (λ made. tree_of made ≡ way_expression (way_seen way.now) (tree_of input) (branches_in stops.now)) }
+{
+    match way {
+        Way::Stepped => step_expression(alloc, input, stops.as_slice()),
+        Way::Even => {
+            let curve = Json::List(call(alloc, "linear")?);
+            ramp_expression(alloc, curve, input, stops.as_slice())
+        }
+        Way::Curved(base) => {
+            let curve = call_one(alloc, "exponential", Json::Num(base.spelled().share()?))?;
+            ramp_expression(alloc, curve, input, stops.as_slice())
+        }
+    }
+}
+
+fn ramp_expression(
+    alloc: Global,
+    curve: Json,
+    input: Json,
+    stops: &[NumberStop],
+) -> Result<Json, AllocError>
+    ensures { IfOk result (λ made. tree_of made
+        ≡ call (codes "interpolate") (tree_of curve ∷ tree_of input ∷ branch_elements (branches_in stops.now))) }
+{
+    let mut items = call(alloc, "interpolate")?;
+    items.push(curve)?;
+    items.push(input)?;
+    push_stops(alloc, &mut items, stops)?;
+    Ok(Json::List(items))
+}
+
+// The first output has no input, and stands alone where it is the only one.
+#[tactic(auto, using(crate::proofs::ExpressionLaws::step_one, crate::proofs::ExpressionLaws::step_more))]
+fn step_expression(alloc: Global, input: Json, stops: &[NumberStop]) -> Result<Json, AllocError>
+    requires { 0 < length stops.now }
+    ensures { IfOk result (λ made. tree_of made ≡ step_expression (tree_of input) (branches_in stops.now)) }
+{
+    let first = output_expression(alloc, &stops[0].output)?;
+    if stops.len() == 1 {
+        return Ok(first);
+    }
+    let mut items = call(alloc, "step")?;
+    items.push(input)?;
+    items.push(first)?;
+    push_stops(alloc, &mut items, &stops[1..])?;
+    Ok(Json::List(items))
+}
+
+// Adds inputs with their outputs.
+fn push_stops(alloc: Global, items: &mut Items, stops: &[NumberStop]) -> Result<(), AllocError>
+    ensures { OnOk result (items.new ≡ items.old ++ branch_elements (branches_in stops.now)) }
+{
+    for stop in stops {
+        let output = output_expression(alloc, &stop.output)?;
+        push_branch(items, &stop.input.spelled, output)?;
+    }
+    Ok(())
+}
+
+fn push_branch(items: &mut Items, number: &NumText, output: Json) -> Result<(), AllocError>
+    ensures { OnOk result (items.new ≡ items.old ++ number_tree number.now ∷ tree_of output ∷ []) }
+{
+    items.push(Json::Num(number.share()?))?;
+    items.push(output)?;
+    Ok(())
+}
+
+// ---- rules
+
+fn property_json(alloc: Global, function: &Function) -> Result<Json, AllocError>
+    ensures { IfOk result (λ made. tree_of made ≡ property_tree function.now) }
+{
+    match &function.property {
+        Some(name) => property_expression(alloc, name),
+        None => Ok(Json::Null),
+    }
+}
+
+// An expression where the property is of a kind, else the default.
+fn kind_case(
+    alloc: Global,
+    function: &Function,
+    kind: &str,
+    expression: Json,
+) -> Result<Json, AllocError>
+    ensures { IfOk result (λ made. tree_of made
+        ≡ kind_case kind.now (property_tree function.now) (tree_of expression) (default_tree function.now)) }
+{
+    let property = property_json(alloc, function)?;
+    let found = call_one(alloc, "typeof", property)?;
+    let wanted = text(alloc, kind)?;
+    let test = call_two(alloc, "==", found, wanted)?;
+    let mut items = call(alloc, "case")?;
+    items.push(test)?;
+    items.push(expression)?;
+    items.push(default_expression(alloc, function)?)?;
+    Ok(Json::List(items))
+}
+
+// A rule by the property.
+fn rule_expression(alloc: Global, function: &Function, rule: &Rule) -> Result<Json, AllocError>
+    ensures { IfOk result (λ made. tree_of made
+        ≡ rule_expression (property_tree function.now) (default_tree function.now) (rule_in function.now rule.now)) }
+{
+    match rule {
+        Rule::Numeric(stops) => {
+            let input = property_json(alloc, function)?;
+            let expression = way_expression(alloc, &function.way, input, stops)?;
+            kind_case(alloc, function, "number", expression)
+        }
+        Rule::Categorical(stops) => categories_expression(alloc, function, stops.as_slice()),
+    }
+}
+
+fn categories_expression(
+    alloc: Global,
+    function: &Function,
+    stops: &[Category],
+) -> Result<Json, AllocError>
+    ensures { IfOk result (λ made. tree_of made ≡ call (codes "case")
+        (category_elements (property_tree function.now) (map category_seen stops.now) ++ default_tree function.now ∷ [])) }
+{
+    let mut items = call(alloc, "case")?;
+    for stop in stops {
+        push_category(alloc, &mut items, function, stop)?;
+    }
+    items.push(default_expression(alloc, function)?)?;
+    Ok(Json::List(items))
+}
+
+// Adds the test of an input, and its output.
+fn push_category(
+    alloc: Global,
+    items: &mut Items,
+    function: &Function,
+    stop: &Category,
+) -> Result<(), AllocError>
+    ensures { OnOk result (items.new
+        ≡ items.old ++ category_elements (property_tree function.now) (category_seen stop.now ∷ [])) }
+{
+    let property = property_json(alloc, function)?;
+    let input = input_json(&stop.input)?;
+    items.push(call_two(alloc, "==", property, input)?)?;
+    items.push(output_expression(alloc, &stop.output)?)?;
+    Ok(())
+}
+
+fn input_json(input: &Input) -> Result<Json, AllocError>
+    ensures { IfOk result (λ made. tree_of made ≡ input_tree (input_seen input.now)) }
+{
+    match input {
+        Input::Flag(flag) => Ok(Json::Bool(*flag)),
+        Input::Number(number) => Ok(Json::Num(number.spelled.share()?)),
+        Input::Word(text) => Ok(Json::Text(text.share()?)),
+    }
+}
+
+// A rule by the zoom.
+fn zoom_rule_expression(alloc: Global, function: &Function, rule: &Rule) -> Result<Json, AllocError>
+    ensures { IfOk result (λ made. tree_of made ≡ zoom_rule_expression (default_tree function.now) (rule_in function.now rule.now)) }
+{
+    match rule {
+        Rule::Numeric(stops) => {
+            let input = zoom_json(alloc)?;
+            way_expression(alloc, &function.way, input, stops)
+        }
+        Rule::Categorical(_) => default_expression(alloc, function),
+    }
+}
+
+// ---- rules of zooms
+
+fn zoomed_expression(
+    alloc: Global,
+    function: &Function,
+    rules: &ZoomRules,
+) -> Result<Json, AllocError>
+    ensures { IfOk result (λ made. tree_of made ≡ way_expression (zoom_way (row_of function.now)) zoom_expression
+        (rule_branches (property_tree function.now) (default_tree function.now) (rules_in function.now rules.now))) }
+{
+    if function.row.ramps {
+        zoom_ramp_expression(alloc, function, rules.as_slice())
+    } else {
+        zoom_step_expression(alloc, function, rules.as_slice())
+    }
+}
+
+fn zoom_ramp_expression(
+    alloc: Global,
+    function: &Function,
+    rules: &[ZoomRule],
+) -> Result<Json, AllocError>
+    ensures { IfOk result (λ made. tree_of made ≡ way_expression even zoom_expression
+        (rule_branches (property_tree function.now) (default_tree function.now) (rules_in function.now rules.now))) }
+{
+    let mut items = call(alloc, "interpolate")?;
+    items.push(Json::List(call(alloc, "linear")?))?;
+    items.push(zoom_json(alloc)?)?;
+    push_rules(alloc, &mut items, function, rules)?;
+    Ok(Json::List(items))
+}
+
+#[tactic(auto, using(crate::proofs::ExpressionLaws::zoom_one, crate::proofs::ExpressionLaws::zoom_more))]
+fn zoom_step_expression(
+    alloc: Global,
+    function: &Function,
+    rules: &[ZoomRule],
+) -> Result<Json, AllocError>
+    requires { 0 < length rules.now }
+    ensures { IfOk result (λ made. tree_of made ≡ step_expression zoom_expression
+        (rule_branches (property_tree function.now) (default_tree function.now) (rules_in function.now rules.now))) }
+{
+    let first = rule_expression(alloc, function, &rules[0].rule)?;
+    if rules.len() == 1 {
+        return Ok(first);
+    }
+    let mut items = call(alloc, "step")?;
+    items.push(zoom_json(alloc)?)?;
+    items.push(first)?;
+    push_rules(alloc, &mut items, function, &rules[1..])?;
+    Ok(Json::List(items))
+}
+
+// Adds zooms with their rules.
+fn push_rules(
+    alloc: Global,
+    items: &mut Items,
+    function: &Function,
+    rules: &[ZoomRule],
+) -> Result<(), AllocError>
+    ensures { OnOk result (items.new ≡ items.old ++ branch_elements
+        (rule_branches (property_tree function.now) (default_tree function.now) (rules_in function.now rules.now))) }
+{
+    for rule in rules {
+        let output = rule_expression(alloc, function, &rule.rule)?;
+        push_branch(items, &rule.zoom.spelled, output)?;
+    }
+    Ok(())
+}
+
+// ---- identity
+
+fn identity_expression(alloc: Global, function: &Function) -> Result<Json, AllocError>
+    ensures { IfOk result (λ made. tree_of made
+        ≡ identity_expression (row_of function.now).want (property_tree function.now) (default_tree function.now)) }
+{
+    let property = property_json(alloc, function)?;
+    match &function.row.want {
+        Want::Shown => {
+            let default = default_expression(alloc, function)?;
+            call_two(alloc, "coalesce", property, default)
+        }
+        want => kind_case(alloc, function, form_name(want), property),
+    }
+}
+
+// What `typeof` says of a value that has the row's form.
+fn form_name(want: &Want) -> &'static str
+    ensures { result.now ≡ form_name want.now }
+{
+    match want {
+        Want::Number => "number",
+        Want::Boolean => "boolean",
+        Want::List(_, _) => "array",
+        Want::EnumList(_) => "array",
+        _ => "string",
+    }
+}

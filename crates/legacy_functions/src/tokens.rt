@@ -1,0 +1,215 @@
+//! Token texts, whose tokens stand for properties.
+
+ghost use Rattle.std.specs.Prelude.{◌≡◌, ◌++◌, ◌∷◌, ◌+◌, ◌<◌, ◌≤◌, List, length, IfOk, OnOk};
+ghost use Rattle.std.specs.String.{string_bytes};
+ghost use Rattle.decimal_json.specs.View.{tree_of};
+ghost use Rattle.legacy_functions.specs.TokenSize.{token_size, plain_size, size_of, begins_token, any_token};
+ghost use Rattle.legacy_functions.specs.Tokens.{before_brace, token_name, has_tokens, pieces, property_text, piece_expression, property_expression, token_text, token_expression, call};
+
+use decimal_json::{Items, Json, Text};
+use prop_values::to_text;
+use std::alloc::{AllocError, Global};
+use tile_reader::Feature;
+
+/// A part of a token text: text that stands for itself, or the name of the property that a token stands for.
+#[derive(Drop)]
+pub(crate) enum Piece {
+    Plain(Text),
+    Token(Text),
+}
+
+/// Whether a text has a token: `{`, one or more characters other than braces, and `}`.
+#[tactic(auto, using(crate::proofs::TokenLaws::tokens_anywhere))]
+pub fn has_tokens(text: &str) -> bool
+    ensures { result ≡ has_tokens text.now }
+{
+    any_token(text.as_bytes())
+}
+
+#[tactic(auto, using(crate::proofs::TokenLaws::any_from))]
+fn any_token(bytes: &[u8]) -> bool
+    ensures { result ≡ any_token bytes.now }
+{
+    for i in 0..bytes.len() {
+        if begins_token(bytes.split_at(i).1) {
+            return true;
+        }
+    }
+    false
+}
+
+/// The text on a feature: each token is replaced by the text of that property, which is empty where it is missing.
+pub fn token_text(alloc: Global, text: &str, feature: &Feature) -> Result<Text, AllocError>
+    ensures { IfOk result (λ made. made ≡ token_text text.now feature.now) }
+{
+    let mut made = String::new(alloc);
+    let mut rest = text;
+    while rest.len() > 0 {
+        rest = push_first(alloc, &mut made, rest, feature)?;
+    }
+    Text::of(made)
+}
+
+// Adds the text of the first piece of a text, and gives the text after it.
+fn push_first<'a>(
+    alloc: Global,
+    made: &mut String,
+    rest: &'a str,
+    feature: &Feature,
+) -> Result<&'a str, AllocError>
+    requires { 0 < length rest.now }
+    ensures text { IfOk result (λ later. string_bytes made.new ++ token_text later.now feature.now
+        ≡ string_bytes made.old ++ token_text rest.now feature.now) }
+    ensures shorter { IfOk result (λ later. length later.now < length rest.now) }
+{
+    let size = token_length(rest.as_bytes());
+    if size > 0 {
+        push_property(alloc, made, &rest[1..size - 1], feature)?;
+        Ok(&rest[size..])
+    } else {
+        let size = plain_length(rest.as_bytes());
+        made.push_str(&rest[..size])?;
+        Ok(&rest[size..])
+    }
+}
+
+// Adds the text of a property.
+fn push_property(
+    alloc: Global,
+    made: &mut String,
+    name: &str,
+    feature: &Feature,
+) -> Result<(), AllocError>
+    ensures { OnOk result (string_bytes made.new ≡ string_bytes made.old ++ property_text name.now feature.now) }
+{
+    match feature.properties.get(name) {
+        Some(value) => {
+            let text = to_text(alloc, value)?;
+            made.push_str(text.as_str())
+        }
+        None => Ok(()),
+    }
+}
+
+/// The expression that means the same: `concat` of the pieces in order, a token as `get` of its property.
+pub fn token_expr(alloc: Global, text: &str) -> Result<Json, AllocError>
+    ensures { IfOk result (λ made. tree_of made ≡ token_expression text.now) }
+{
+    let pieces = pieces_of(alloc, text)?;
+    let mut items = Items::new(alloc);
+    items.push(Json::Text(Text::copy_of(alloc, "concat")?))?;
+    for piece in pieces.as_slice() {
+        items.push(piece_expression(alloc, piece)?)?;
+    }
+    Ok(Json::List(items))
+}
+
+fn piece_expression(alloc: Global, piece: &Piece) -> Result<Json, AllocError>
+    ensures { IfOk result (λ made. tree_of made ≡ piece_expression piece.now) }
+{
+    match piece {
+        Piece::Plain(part) => Ok(Json::Text(part.share()?)),
+        Piece::Token(name) => property_expression(alloc, name),
+    }
+}
+
+/// `get` of a property.
+pub(crate) fn property_expression(alloc: Global, name: &Text) -> Result<Json, AllocError>
+    ensures { IfOk result (λ made. tree_of made ≡ property_expression name.now) }
+{
+    let mut items = Items::new(alloc);
+    items.push(Json::Text(Text::copy_of(alloc, "get")?))?;
+    items.push(Json::Text(name.share()?))?;
+    Ok(Json::List(items))
+}
+
+// The pieces of a text from the left.
+fn pieces_of(alloc: Global, text: &str) -> Result<Vec<Piece>, AllocError>
+    ensures { IfOk result (λ made. made.items ≡ pieces text.now) }
+{
+    let mut made = Vec::new(alloc);
+    let mut rest = text;
+    while rest.len() > 0 {
+        rest = push_piece(alloc, &mut made, rest)?;
+    }
+    Ok(made)
+}
+
+// Adds the first piece of a text, and gives the text after it.
+fn push_piece<'a>(
+    alloc: Global,
+    made: &mut Vec<Piece>,
+    rest: &'a str,
+) -> Result<&'a str, AllocError>
+    requires { 0 < length rest.now }
+    ensures pieces { IfOk result (λ later. made.new.items ++ pieces later.now ≡ made.old.items ++ pieces rest.now) }
+    ensures shorter { IfOk result (λ later. length later.now < length rest.now) }
+{
+    let size = token_length(rest.as_bytes());
+    if size > 0 {
+        made.push(Piece::Token(Text::copy_of(alloc, &rest[1..size - 1])?))?;
+        Ok(&rest[size..])
+    } else {
+        let size = plain_length(rest.as_bytes());
+        made.push(Piece::Plain(Text::copy_of(alloc, &rest[..size])?))?;
+        Ok(&rest[size..])
+    }
+}
+
+// How many bytes stand before the first token.
+#[tactic(auto, using(crate::proofs::TokenLaws::plain_from))]
+fn plain_length(bytes: &[u8]) -> usize
+    ensures count { result ≡ plain_size bytes.now }
+    ensures within { result ≤ length bytes.now }
+{
+    for i in 0..bytes.len() {
+        if begins_token(bytes.split_at(i).1) {
+            return i;
+        }
+    }
+    bytes.len()
+}
+
+#[tactic(auto, using(crate::proofs::TokenLaws::size_begins))]
+fn begins_token(bytes: &[u8]) -> bool
+    ensures { result ≡ begins_token bytes.now }
+{
+    token_length(bytes) > 0
+}
+
+// How many bytes the token has that bytes begin with, and 0 where they begin with none.
+fn token_length(bytes: &[u8]) -> usize
+    ensures size { result ≡ token_size bytes.now }
+    ensures within { result ≤ length bytes.now }
+{
+    match bytes {
+        [b'{', later @ ..] => closed_length(later),
+        _ => 0,
+    }
+}
+
+// How many bytes the token has whose `{` stands before these.
+fn closed_length(later: &[u8]) -> usize
+    ensures size { result ≡ size_of (token_name later.now) }
+    ensures within { result ≤ length later.now + 1 }
+{
+    let count = name_length(later);
+    if count > 0 && count < later.len() && later[count] == b'}' {
+        count + 2
+    } else {
+        0
+    }
+}
+
+// How many bytes stand before the first brace.
+fn name_length(bytes: &[u8]) -> usize
+    ensures count { result ≡ length (before_brace bytes.now) }
+    ensures within { result ≤ length bytes.now }
+{
+    for (i, byte) in bytes.iter().enumerate() {
+        if *byte == b'{' || *byte == b'}' {
+            return i;
+        }
+    }
+    bytes.len()
+}
