@@ -1,5 +1,6 @@
 pub mod Counts
-pub mod Answered
 pub mod OneOutcome
-pub mod Fronts
+pub mod Answered
+pub mod Moved
+pub mod ListedFaults
 mod TypedOutcome

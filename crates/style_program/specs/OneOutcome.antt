@@ -1,11 +1,10 @@
 -- No words have two outcomes.
 use Rattle.std.specs.Prelude.{◌≡◌, ℕ, List, Bool, Option}
-use Rattle.style_program.specs.Outcome.{Outcome}
-use Rattle.style_program.specs.Replies.{IsOutcome, AreTold}
-use Rattle.style_program.specs.Words.{asked}
+use Rattle.program_runs.specs.Outcome.{Outcome}
+use Rattle.program_runs.specs.Runs.{HasOutcome, AreTold}
+use Rattle.style_program.specs.Commands.{run_of}
 
--- Two outcomes of the same words are one, where the files that they ask for are told.
--- `style_program.proofs.OneOutcome.one_outcome` has it.
+-- Two outcomes of the same words are one, where the files that their run comes to read are told.
 abbrev pub EachHasOneOutcome : Type 0
 EachHasOneOutcome = (files : List ℕ → Option (List ℕ)) (images scripts : List ℕ → Bool) (ws : List (List ℕ)) (o p : Outcome) →
-    AreTold files (asked ws) → IsOutcome files images scripts ws o → IsOutcome files images scripts ws p → o ≡ p
+    AreTold files (run_of images scripts ws) → HasOutcome files (run_of images scripts ws) o → HasOutcome files (run_of images scripts ws) p → o ≡ p

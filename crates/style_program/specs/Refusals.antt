@@ -1,8 +1,6 @@
 -- The lines on standard error that say why something is refused.
 use Rattle.std.specs.Prelude.{ℕ, List, ◌++◌, codes, decimal}
 use Rattle.decimal_json.specs.JsonText.{text_json}
-use Rattle.json_tokens.specs.declared.kind.JsonKind.{JsonKind}
-use Rattle.json_tokens.specs.declared.kind.JsonKind.TheVariants as json
 use Rattle.decimal_json.specs.Place.{path_json}
 use Rattle.expr_syntax.specs.FaultName.{code_name}
 use Rattle.expr_syntax.specs.declared.fault.SynFault.{SynFault}
@@ -12,20 +10,8 @@ use Rattle.proto_wire.specs.declared.wire.WireKind.TheVariants as wire
 use Rattle.tile_reader.specs.declared.fault.TileFault.{TileFault}
 use Rattle.tile_reader.specs.declared.fault.TileKind.{TileKind}
 use Rattle.tile_reader.specs.declared.fault.TileKind.TheVariants as tiles
-use Rattle.style_program.specs.Outcome.{Outcome, refused}
-
--- the kinds of faults of JSON
-abbrev pub json_kind_name : JsonKind → List ℕ
-json_kind_name json.Syntax = codes "Syntax"
-json_kind_name json.Utf8 = codes "Utf8"
-json_kind_name json.DuplicateKey = codes "DuplicateKey"
-json_kind_name json.Depth = codes "Depth"
-json_kind_name json.NumberLength = codes "NumberLength"
-json_kind_name json.LoneSurrogate = codes "LoneSurrogate"
-
--- no JSON text: what it should have been, the kind of the fault, and its place in bytes from the beginning
-abbrev pub no_json : List ℕ → JsonKind → ℕ → Outcome
-no_json what kind at = refused (what ++ (codes " json " ++ (json_kind_name kind ++ (codes " " ++ decimal at))))
+use Rattle.program_runs.specs.Outcome.{Outcome, refused}
+use Rattle.program_runs.specs.Refusals.{tile_text}
 
 -- a style that is none of those that are read so far
 abbrev pub unbuilt : List ℕ → Outcome
@@ -42,9 +28,6 @@ no_expression fault = refused (codes "expr " ++ (code_name fault.code ++ (codes 
 -- an expression that is not well typed: the code of its first fault, and the path of its node
 abbrev pub no_type : TypeFault → Outcome
 no_type fault = refused (codes "expr " ++ (type_name fault.code ++ (codes " " ++ path_json fault.path)))
-
-abbrev pub style_too_long : Outcome
-style_too_long = refused (codes "style TooLong")
 
 -- the kinds of faults of tiles
 abbrev pub tile_kind_name : TileKind → List ℕ
@@ -64,13 +47,9 @@ tile_kind_name tiles.Utf8 = codes "Utf8"
 tile_kind_name tiles.FieldType = codes "FieldType"
 tile_kind_name tiles.GeometryType = codes "GeometryType"
 
--- the tile of a source is longer than a tile may be
-abbrev pub tile_too_long : List ℕ → Outcome
-tile_too_long source = refused (codes "tile " ++ (text_json source ++ codes " TooLong"))
-
 -- the tile of a source is none: the kind of the fault, and its place
 abbrev pub no_tile : List ℕ → TileFault → Outcome
-no_tile source fault = refused (codes "tile " ++ (text_json source ++ (codes " " ++ (tile_kind_name fault.kind ++ (codes " " ++ decimal fault.at)))))
+no_tile source fault = refused (tile_text source ++ (codes " " ++ (tile_kind_name fault.kind ++ (codes " " ++ decimal fault.at))))
 
 -- the style has no source of this name
 abbrev pub unknown_source : List ℕ → Outcome

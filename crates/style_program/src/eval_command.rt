@@ -1,29 +1,25 @@
 //! `eval`: what a style shows over a tile.
 
-ghost use Rattle.std.specs.Prelude.{◌≡◌, OnOk, IfOk, IfErr, Some};
+ghost use Rattle.std.specs.Prelude.{◌≡◌, ℕ, List, Option, OnOk, IfOk, IfErr};
+ghost use Rattle.decimal_json.specs.View.{tree_of};
+ghost use Rattle.circle_layer.specs.CircleStyle.{circle_style};
 ghost use Rattle.circle_layer.specs.StyleView.{form_of};
 ghost use Rattle.tile_reader.specs.Tile.{tile_of};
-ghost use Rattle.style_program.specs.AnswerView.{outcome_of, IsReadStop, IsStop};
-ghost use Rattle.style_program.specs.EvalOutcome.{IsEvalOutcome, IsStyleOutcome, tile_outcome, features_outcome, is_zoom};
-ghost use Rattle.style_program.specs.Run.{NoneFailed};
-ghost use Rattle.style_program.specs.Words.{Eval};
+ghost use Rattle.program_runs.specs.FailedReads.{NoneFailed};
+ghost use Rattle.program_runs.specs.Progress.{outcome_of, GoesOn, Halts, HaltsAt};
+ghost use Rattle.program_runs.specs.Runs.{HasOutcome};
+ghost use Rattle.style_program.specs.EvalRun.{eval_run, style_or, style_part, tile_outcome, features_outcome, is_zoom};
 ghost use Rattle.style_program.specs.WordsView.{eval_words};
-ghost use Rattle.style_program.specs.StyleRead.{IsStyleRead};
 
-use crate::answer::{Answer, Stop, answer_out};
-use crate::files::read_file;
-use crate::refusals::{
-    no_json, no_tile, no_zoom, style_too_long, tile_too_long, too_many_cells, unbuilt,
-    unknown_source,
-};
-use crate::status::Ending;
+use crate::refusals::{no_tile, no_zoom, too_many_cells, unbuilt, unknown_source};
 use crate::words::EvalRequest;
 use circle_layer::{CircleStyle, cell_count, features_named, layout, read_style};
-use decimal_json::parse;
+use decimal_json::Json;
 use fixed_num::Fixed;
 use host_ops::HostOp;
 use listing_text::write_layout;
 use outside_io::Files;
+use program_runs::{Answer, Ending, Halt, Subject, answer_out, read_file, read_json};
 use std::alloc::{AllocError, Global};
 use tile_reader::{Feature, read_tile};
 
@@ -41,61 +37,47 @@ pub fn answer_eval<'a, F: Files>(
     files: &mut F,
     images: &dyn HostOp,
     scripts: &dyn HostOp,
-) -> Result<Answer, Stop<'a>>
+) -> Result<Answer, Halt<'a>>
     ensures told { F.told files.new ≡ F.told files.old }
-    ensures reads { OnOk result (NoneFailed (F.faults files.old) (F.faults files.new) (F.failed files.old) (F.failed files.new)) }
-    ensures answer { IfOk result (λ answer. IsEvalOutcome (eval_words request.now) (test images.now) (test scripts.now) (F.told files.old) (outcome_of answer)) }
-    ensures stop { IfErr result (λ stop. IsStop (F.told files.old) (Eval (eval_words request.now)) (F.faults files.old) (F.faults files.new) (F.failed files.old) (F.failed files.new) stop) }
+    ensures failed { OnOk result (NoneFailed (F.faults files.old) (F.faults files.new) (F.failed files.old) (F.failed files.new)) }
+    ensures answer { IfOk result (λ answer.
+        HasOutcome (F.told files.old) (eval_run (eval_words request.now) (test images.now) (test scripts.now)) (outcome_of answer)) }
+    ensures halt { IfErr result (λ halt.
+        HaltsAt (F.told files.old) (eval_run (eval_words request.now) (test images.now) (test scripts.now))
+        (F.faults files.old) (F.faults files.new) (F.failed files.old) (F.failed files.new) halt) }
 {
-    let bytes = match read_file(alloc, request.style, STYLE_LIMIT, files) {
-        Ok(Some(bytes)) => bytes,
-        Ok(None) => return Ok(style_too_long(alloc)?),
-        Err(stop) => return Err(stop),
-    };
-    match style_in(alloc, bytes.as_slice())? {
-        Ok(style) => answer_style(alloc, request, &style, files, images, scripts),
-        Err(refusal) => Ok(refusal),
-    }
+    let style = read_circle(alloc, request.style, files)?;
+    let what = Subject::Tile(request.source);
+    let bytes = read_file(alloc, &what, request.tile, TILE_LIMIT, files)?;
+    Ok(answer_tile(alloc, request, &style, bytes.as_slice(), images, scripts)?)
 }
 
-// The style that these bytes are, or the answer that refuses them.
-fn style_in(alloc: Global, bytes: &[u8]) -> Result<Result<CircleStyle, Answer>, AllocError>
-    ensures { IfOk result (λ read. IsStyleRead bytes.now read) }
-{
-    let json = match parse(alloc, bytes)? {
-        Ok(json) => json,
-        Err(fault) => return Ok(Err(no_json(alloc, b"style", fault)?)),
-    };
-    match read_style(alloc, &json)? {
-        Some(style) => Ok(Ok(style)),
-        None => Ok(Err(unbuilt(alloc, b"style")?)),
-    }
-}
-
-fn answer_style<'a, F: Files>(
+// The style in a file.
+fn read_circle<'a, F: Files>(
     alloc: Global,
-    request: &EvalRequest<'a>,
-    style: &CircleStyle,
+    name: &'a str,
     files: &mut F,
-    images: &dyn HostOp,
-    scripts: &dyn HostOp,
-) -> Result<Answer, Stop<'a>>
+) -> Result<CircleStyle, Halt<'a>>
     ensures told { F.told files.new ≡ F.told files.old }
-    ensures reads { OnOk result (NoneFailed (F.faults files.old) (F.faults files.new) (F.failed files.old) (F.failed files.new)) }
-    ensures answer { IfOk result (λ answer. IsStyleOutcome (eval_words request.now) (test images.now) (test scripts.now) (F.told files.old request.now.tile.now) (Some (form_of style.now)) (outcome_of answer)) }
-    ensures stop { IfErr result (λ stop. IsReadStop (F.faults files.old) (F.faults files.new) (F.failed files.old) (F.failed files.new) request.now.tile.now stop) }
+    ensures failed { OnOk result (NoneFailed (F.faults files.old) (F.faults files.new) (F.failed files.old) (F.failed files.new)) }
+    ensures on { IfOk result (λ style. GoesOn (F.told files.old) (style_part name.now) (form_of style)) }
+    ensures halt { IfErr result (λ halt. Halts (F.told files.old) (style_part name.now)
+        (F.faults files.old) (F.faults files.new) (F.failed files.old) (F.failed files.new) halt) }
 {
-    match read_file(alloc, request.tile, TILE_LIMIT, files) {
-        Ok(Some(bytes)) => Ok(answer_tile(
-            alloc,
-            request,
-            style,
-            bytes.as_slice(),
-            images,
-            scripts,
-        )?),
-        Ok(None) => Ok(tile_too_long(alloc, request.source)?),
-        Err(stop) => Err(stop),
+    let json = read_json(alloc, &Subject::Style, name, STYLE_LIMIT, files)?;
+    style_in(alloc, &json)
+}
+
+// The style that this document is.
+fn style_in<'a>(alloc: Global, json: &Json) -> Result<CircleStyle, Halt<'a>>
+    ensures on { (files : List ℕ → Option (List ℕ)) →
+        IfOk result (λ style. GoesOn files (λ k. style_or k (circle_style (tree_of json.now))) (form_of style)) }
+    ensures halt { (files : List ℕ → Option (List ℕ)) (count : ℕ) (failed : Option (List ℕ)) →
+        IfErr result (λ halt. Halts files (λ k. style_or k (circle_style (tree_of json.now))) count count failed failed halt) }
+{
+    match read_style(alloc, json)? {
+        Some(style) => Ok(style),
+        None => Err(Halt::Refused(unbuilt(alloc, b"style")?)),
     }
 }
 

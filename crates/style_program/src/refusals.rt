@@ -1,31 +1,17 @@
 //! The lines on standard error that say why something is refused.
 
 ghost use Rattle.std.specs.Prelude.{◌≡◌, IfOk};
-ghost use Rattle.style_program.specs.Refusals.{json_kind_name, no_json, unbuilt, outside, no_expression, no_type, style_too_long, tile_kind_name, tile_too_long, no_tile, unknown_source, too_many_cells, no_zoom};
-ghost use Rattle.style_program.specs.AnswerView.{outcome_of};
+ghost use Rattle.style_program.specs.Refusals.{unbuilt, outside, no_expression, no_type, tile_kind_name, no_tile, unknown_source, too_many_cells, no_zoom};
+ghost use Rattle.program_runs.specs.Progress.{outcome_of};
 
-use crate::answer::{Answer, answer_refused, begin_refusal};
-use decimal_json::{JsonFault, JsonKind, write_path, write_text};
+use decimal_json::{write_path, write_text};
 use expr_syntax::SynFault;
 use expr_types::TypeFault;
 use itoa::Buffer;
+use program_runs::{Answer, Subject, answer_refused, begin_refusal, write_subject};
 use proto_wire::WireKind;
 use std::alloc::{AllocError, Global};
 use tile_reader::{TileFault, TileKind};
-
-/// No JSON text, where `what` should be one.
-pub fn no_json(alloc: Global, what: &[u8], fault: JsonFault) -> Result<Answer, AllocError>
-    ensures { IfOk result (λ answer. outcome_of answer ≡ no_json what.now fault.kind fault.at) }
-{
-    let mut at = Buffer::new();
-    let mut line = begin_refusal(alloc)?;
-    line.extend_from_slice(what)?;
-    line.extend_from_slice(b" json ")?;
-    line.extend_from_slice(json_kind_name(fault.kind))?;
-    line.extend_from_slice(b" ")?;
-    line.extend_from_slice(at.format(fault.at).as_bytes())?;
-    answer_refused(alloc, line)
-}
 
 /// A style that is none of those that are read so far.
 pub fn unbuilt(alloc: Global, what: &[u8]) -> Result<Answer, AllocError>
@@ -70,34 +56,13 @@ pub fn no_type(alloc: Global, fault: &TypeFault) -> Result<Answer, AllocError>
     answer_refused(alloc, line)
 }
 
-/// A style that is longer than one may be.
-pub fn style_too_long(alloc: Global) -> Result<Answer, AllocError>
-    ensures { IfOk result (λ answer. outcome_of answer ≡ style_too_long) }
-{
-    let mut line = begin_refusal(alloc)?;
-    line.extend_from_slice(b"style TooLong")?;
-    answer_refused(alloc, line)
-}
-
-/// A tile that is longer than one may be.
-pub fn tile_too_long(alloc: Global, source: &str) -> Result<Answer, AllocError>
-    ensures { IfOk result (λ answer. outcome_of answer ≡ tile_too_long source.now) }
-{
-    let mut line = begin_refusal(alloc)?;
-    line.extend_from_slice(b"tile ")?;
-    write_text(source, &mut line)?;
-    line.extend_from_slice(b" TooLong")?;
-    answer_refused(alloc, line)
-}
-
 /// Bytes that are no tile.
 pub fn no_tile(alloc: Global, source: &str, fault: TileFault) -> Result<Answer, AllocError>
     ensures { IfOk result (λ answer. outcome_of answer ≡ no_tile source.now fault) }
 {
     let mut at = Buffer::new();
     let mut line = begin_refusal(alloc)?;
-    line.extend_from_slice(b"tile ")?;
-    write_text(source, &mut line)?;
+    write_subject(&Subject::Tile(source), &mut line)?;
     line.extend_from_slice(b" ")?;
     line.extend_from_slice(tile_kind_name(fault.kind))?;
     line.extend_from_slice(b" ")?;
@@ -133,19 +98,6 @@ pub fn no_zoom(alloc: Global) -> Result<Answer, AllocError>
     let mut line = begin_refusal(alloc)?;
     line.extend_from_slice(b"open ZoomRange")?;
     answer_refused(alloc, line)
-}
-
-fn json_kind_name(kind: JsonKind) -> &'static [u8]
-    ensures { result.now ≡ json_kind_name kind }
-{
-    match kind {
-        JsonKind::Syntax => b"Syntax",
-        JsonKind::Utf8 => b"Utf8",
-        JsonKind::DuplicateKey => b"DuplicateKey",
-        JsonKind::Depth => b"Depth",
-        JsonKind::NumberLength => b"NumberLength",
-        JsonKind::LoneSurrogate => b"LoneSurrogate",
-    }
 }
 
 fn tile_kind_name(kind: TileKind) -> &'static [u8]

@@ -1,15 +1,16 @@
 ghost use Rattle.std.specs.Prelude.{◌≡◌, OnOk, IfOk, IfErr};
-ghost use Rattle.style_program.specs.AnswerView.{outcome_of, IsStop};
-ghost use Rattle.style_program.specs.Replies.{IsReply, IsFileless};
-ghost use Rattle.style_program.specs.Run.{NoneFailed};
+ghost use Rattle.program_runs.specs.FailedReads.{NoneFailed};
+ghost use Rattle.program_runs.specs.Progress.{outcome_of, HaltsAt};
+ghost use Rattle.program_runs.specs.Runs.{HasOutcome, IsFileless};
+ghost use Rattle.style_program.specs.Commands.{asked_run};
 ghost use Rattle.style_program.specs.WordsView.{asked_by};
 
-use crate::answer::{Answer, Stop, answer_said, answer_usage};
 use crate::eval_command::answer_eval;
 use crate::value_command::answer_value;
 use crate::words::Request;
 use host_ops::HostOp;
 use outside_io::Files;
+use program_runs::{Answer, Halt, answer_said, answer_usage};
 use std::alloc::Global;
 
 const HELP: &[u8] =
@@ -28,15 +29,18 @@ pub fn answer_to<'a, F: Files>(
     files: &mut F,
     images: &dyn HostOp,
     scripts: &dyn HostOp,
-) -> Result<Answer, Stop<'a>>
+) -> Result<Answer, Halt<'a>>
     ensures told { F.told files.new ≡ F.told files.old }
-    ensures reads { OnOk result (NoneFailed (F.faults files.old) (F.faults files.new) (F.failed files.old) (F.failed files.new)) }
-    ensures fileless { IsFileless (asked_by request.now) → files.new ≡ files.old }
-    ensures answer { IfOk result (λ answer. IsReply (F.told files.old) (test images.now) (test scripts.now) (asked_by request.now) (outcome_of answer)) }
-    ensures stop { IfErr result (λ stop. IsStop (F.told files.old) (asked_by request.now) (F.faults files.old) (F.faults files.new) (F.failed files.old) (F.failed files.new) stop) }
+    ensures failed { OnOk result (NoneFailed (F.faults files.old) (F.faults files.new) (F.failed files.old) (F.failed files.new)) }
+    ensures fileless { IsFileless (asked_run (test images.now) (test scripts.now) (asked_by request.now)) → files.new ≡ files.old }
+    ensures answer { IfOk result (λ answer.
+        HasOutcome (F.told files.old) (asked_run (test images.now) (test scripts.now) (asked_by request.now)) (outcome_of answer)) }
+    ensures halt { IfErr result (λ halt.
+        HaltsAt (F.told files.old) (asked_run (test images.now) (test scripts.now) (asked_by request.now))
+        (F.faults files.old) (F.faults files.new) (F.failed files.old) (F.failed files.new) halt) }
 {
     match request {
-        Request::Value(expression) => Ok(answer_value(alloc, expression, images, scripts)?),
+        Request::Value(expression) => answer_value(alloc, expression, images, scripts),
         Request::Eval(request) => answer_eval(alloc, request, files, images, scripts),
         Request::Help => Ok(answer_said(alloc, HELP)?),
         Request::Version => Ok(answer_said(alloc, VERSION)?),

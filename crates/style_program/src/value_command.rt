@@ -1,41 +1,39 @@
 //! `value`: the value of an expression.
 
-ghost use Rattle.std.specs.Prelude.{◌≡◌, pos, IfOk};
+ghost use Rattle.std.specs.Prelude.{◌≡◌, ℕ, pos, List, Option, IfOk, IfErr};
 ghost use Rattle.prop_values.specs.View.{evaluated_of};
 ghost use Rattle.expr_syntax.specs.ReadView.{reading_of};
 ghost use Rattle.expr_syntax.specs.TermView.{term_of};
-ghost use Rattle.style_program.specs.ValueOutcome.{IsValueOutcome, expression_outcome, judged_outcome, value_outcome};
-ghost use Rattle.style_program.specs.AnswerView.{outcome_of};
+ghost use Rattle.program_runs.specs.Progress.{outcome_of, HaltsAt};
+ghost use Rattle.program_runs.specs.Runs.{HasOutcome};
+ghost use Rattle.style_program.specs.ValueRun.{value_run, expression_outcome, judged_outcome, value_outcome};
 
-use crate::answer::{Answer, answer_out};
-use crate::refusals::{no_expression, no_json, no_type, outside};
-use crate::status::Ending;
-use decimal_json::parse;
+use crate::refusals::{no_expression, no_type, outside};
 use eval_face::Context;
 use expr_plain::eval_plain;
 use expr_syntax::{Expr, Reading, SynFault, read_expr};
 use expr_types::{TypeFault, Typed, check_free};
 use fixed_num::Fixed;
 use host_ops::HostOp;
+use program_runs::{Answer, Ending, Halt, Subject, answer_out, parse_json};
 use prop_values::{EvalFault, Value, Want, write_listed};
 use std::alloc::{AllocError, Global};
 
 /// The answer to an expression's text.
-pub fn answer_value(
+pub fn answer_value<'a>(
     alloc: Global,
-    text: &str,
+    text: &'a str,
     images: &dyn HostOp,
     scripts: &dyn HostOp,
-) -> Result<Answer, AllocError>
-    ensures { IfOk result (λ answer. IsValueOutcome (test images.now) (test scripts.now) text.now (outcome_of answer)) }
+) -> Result<Answer, Halt<'a>>
+    ensures answer { (files : List ℕ → Option (List ℕ)) → IfOk result (λ answer.
+        HasOutcome files (value_run (test images.now) (test scripts.now) text.now) (outcome_of answer)) }
+    ensures halt { (files : List ℕ → Option (List ℕ)) (count : ℕ) (failed : Option (List ℕ)) → IfErr result (λ halt.
+        HaltsAt files (value_run (test images.now) (test scripts.now) text.now) count count failed failed halt) }
 {
-    match parse(alloc, text.as_bytes())? {
-        Ok(json) => {
-            let read = read_expr(alloc, &json)?;
-            answer_expression(alloc, read, images, scripts)
-        }
-        Err(fault) => no_json(alloc, b"expr", fault),
-    }
+    let json = parse_json(alloc, &Subject::Expression, text.as_bytes())?;
+    let read = read_expr(alloc, &json)?;
+    Ok(answer_expression(alloc, read, images, scripts)?)
 }
 
 #[tactic(auto, using(crate::proofs::TypedOutcome::judged_typed))]

@@ -1,10 +1,26 @@
-use Rattle.std.proofs.Common.{subst}
-use Rattle.decimal_json.specs.Parses.{Parses}
-use Rattle.style_program.proofs.Answered.{value_answered, value_refused}
+use Rattle.std.proofs.Common.{ℕ, List, Option, codes, ap, ◌∙◌}
+use Rattle.decimal_json.specs.Tree.{Tree}
+use Rattle.decimal_json.specs.View.{tree_of}
+use Rattle.expr_syntax.specs.Reading.{reading}
+use Rattle.program_runs.specs.Outcome.{Outcome}
+use Rattle.program_runs.specs.Progress.{HaltsAt, outcome_of}
+use Rattle.program_runs.specs.Runs.{Run, HasOutcome, ends, parses}
+use Rattle.program_runs.proofs.Going.{at_residual}
+use Rattle.style_program.specs.ValueRun.{value_run, expression_outcome}
+use Rattle.style_program.proofs.Answered.{of_text, halt_of_text}
 use Rattle.style_program.proofs.value_command.answer_value.Goals as goal
 
-pub returns-in_ok-read-in-Ok : goal.returns-in_ok-read-in-Ok
-returns-in_ok-read-in-Ok g c = value_answered _ _ c.args.text.now c.as_bytes.result.now c.in-Ok.json _ c.answer_expression.result c.as_bytes.ensures.value (subst (Parses c.as_bytes.result.now) c.in-Ok.is c.in_ok-json.ensures) c.in_ok-read-in-Ok.ensures c.answer_expression.ensures
+pub returns-clause-answer : goal.returns-clause-answer
+returns-clause-answer g c = λ files.
+    let images = (goal.HostOp-dyn g c.args.images.now).test c.args.images.now.1 in let scripts = (goal.HostOp-dyn g c.args.scripts.now).test c.args.scripts.now.1 in
+    let after : Tree → Run = λ t. ends (expression_outcome images scripts (reading t)) in
+    let o = outcome_of c.in_ok-answer_expression.field-0 in
+    let made : HasOutcome files (after (tree_of c.in_ok-json.json)) o = c.in_ok-answer_expression.ensures ∙ ap (expression_outcome images scripts) c.in_ok-read.ensures in
+    of_text files images scripts c.args.text.now c.as_bytes.result.now o c.as_bytes.ensures.value ((c.in_ok-json.ensures.on files after).outcomes o made)
 
-pub returns-in-Err : goal.returns-in-Err
-returns-in-Err g c = value_refused _ _ c.args.text.now c.as_bytes.result.now c.in-Err.fault c.no_json.result c.as_bytes.ensures.value (subst (Parses c.as_bytes.result.now) c.in-Err.is c.in_ok-json.ensures) c.no_json.ensures
+pub returns-in_err-json-clause-halt : goal.returns-in_err-json-clause-halt
+returns-in_err-json-clause-halt g c = λ files count failed.
+    let images = (goal.HostOp-dyn g c.args.images.now).test c.args.images.now.1 in let scripts = (goal.HostOp-dyn g c.args.scripts.now).test c.args.scripts.now.1 in
+    let after : Tree → Run = λ t. ends (expression_outcome images scripts (reading t)) in
+    at_residual (λ h. HaltsAt files (value_run images scripts c.args.text.now) count count failed failed h) c.in_err-json.field-0.0 c.from_residual.result c.from_residual.ensures.1
+    (halt_of_text files images scripts c.args.text.now c.as_bytes.result.now count failed c.in_err-json.field-0.0 c.as_bytes.ensures.value (c.in_err-json.ensures.halt files count failed after))

@@ -1,4 +1,4 @@
--- The outcome of `value`: the value of an expression, or the fault of its evaluation.
+-- The run of `value`: the value of an expression, or the fault of its evaluation.
 use Rattle.std.specs.Prelude.{◌≡◌, ℕ, pos, List, [], ◌++◌, codes, Bool, Option, Some, None, Result, Ok, Err}
 use Rattle.prop_values.specs.Data.{Data}
 use Rattle.prop_values.specs.Faults.{fault_name}
@@ -13,9 +13,9 @@ use Rattle.expr_types.specs.Typing.{Typed}
 use Rattle.expr_types.specs.declared.fault.TypeFault.{TypeFault}
 use Rattle.eval_face.specs.Meaning.{mean}
 use Rattle.eval_face.specs.World.{World, feature_world, no_feature}
-use Rattle.style_program.specs.declared.status.Ending.TheVariants.{Fine, Found}
-use Rattle.style_program.specs.Outcome.{Outcome, line, said}
-use Rattle.style_program.specs.Parsed.{IsParsedOutcome}
+use Rattle.program_runs.specs.declared.status.Ending.TheVariants.{Fine, Found}
+use Rattle.program_runs.specs.Outcome.{Outcome, line, said}
+use Rattle.program_runs.specs.Runs.{Run, ends, parses}
 use Rattle.style_program.specs.Refusals.{outside, no_expression, no_type}
 
 abbrev pub value_outcome : Result Data EvalFault → Outcome
@@ -37,9 +37,9 @@ module _ (images scripts : List ℕ → Bool) where
   expression_outcome (Ok None) = outside
   expression_outcome (Err fault) = no_expression fault
 
-  -- the outcome of an expression's text
-  abbrev pub IsValueOutcome : List ℕ → Outcome → Type 0
-  IsValueOutcome text o = IsParsedOutcome (codes "expr") text (λ t p. p ≡ expression_outcome (reading t)) o
+  -- the word is JSON text
+  abbrev pub value_run : List ℕ → Run
+  value_run text = parses (codes "expr") text (λ t. ends (expression_outcome (reading t)))
 
   -- ---- for proofs: the same, by what the check answers
   abbrev pub judged_outcome : Term → Result Judged TypeFault → Outcome

@@ -1,7 +1,7 @@
 -- What a run writes and how it ends.
 use Rattle.std.specs.Prelude.{ℕ, List, [], ◌∷◌, ◌++◌, codes}
-use Rattle.style_program.specs.declared.status.Ending.{Ending}
-use Rattle.style_program.specs.declared.status.Ending.TheVariants.{Refused}
+use Rattle.program_runs.specs.declared.status.Ending.{Ending}
+use Rattle.program_runs.specs.declared.status.Ending.TheVariants.{Refused}
 
 pub record Outcome : Type 0 where
   -- the bytes for standard output

@@ -1,5 +1,5 @@
 ghost use Rattle.std.specs.Prelude.{◌≡◌};
-ghost use Rattle.style_program.specs.Ending.{status_of, code_of};
+ghost use Rattle.program_runs.specs.Ending.{status_of, code_of};
 
 /// How a run ended.
 #[derive(Clone, Copy, Debug, PartialEq, Eq)]

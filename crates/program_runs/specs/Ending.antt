@@ -1,9 +1,9 @@
 -- How a run ends, its status, and the number that the program ends with.
 use Rattle.std.specs.Prelude.{ℕ}
-use Rattle.style_program.specs.declared.status.Status.{Status}
-use Rattle.style_program.specs.declared.status.Status.TheVariants as status
-use Rattle.style_program.specs.declared.status.Ending.{Ending}
-use Rattle.style_program.specs.declared.status.Ending.TheVariants.{Fine, Found, Usage, Refused}
+use Rattle.program_runs.specs.declared.status.Status.{Status}
+use Rattle.program_runs.specs.declared.status.Status.TheVariants as status
+use Rattle.program_runs.specs.declared.status.Ending.{Ending}
+use Rattle.program_runs.specs.declared.status.Ending.TheVariants.{Fine, Found, Usage, Refused}
 
 abbrev pub status_of : Ending → Status
 status_of Fine = status.Fine

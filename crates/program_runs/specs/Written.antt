@@ -1,14 +1,14 @@
 -- What a run does to files and to its two sinks.
-use Rattle.std.specs.Prelude.{◌≡◌, ℕ, ◌<◌, List, ◌++◌, codes, length, Bool, Option, Some, ◌⊎◌}
+use Rattle.std.specs.Prelude.{◌≡◌, ℕ, ◌<◌, List, ◌++◌, codes, length, Option, ◌⊎◌}
 use Rattle.outside_io.specs.Counts.{raised}
 use Rattle.outside_io.specs.Writing.{Gains, GainsPrefix}
 use Rattle.decimal_json.specs.JsonText.{text_json}
-use Rattle.style_program.specs.declared.status.Status.{Status}
-use Rattle.style_program.specs.declared.status.Status.TheVariants as status
-use Rattle.style_program.specs.Ending.{status_of}
-use Rattle.style_program.specs.Outcome.{Outcome, line}
-use Rattle.style_program.specs.Replies.{IsOutcome, AreTold, IsReached}
-use Rattle.style_program.specs.Words.{Asked, asked}
+use Rattle.program_runs.specs.declared.status.Status.{Status}
+use Rattle.program_runs.specs.declared.status.Status.TheVariants as status
+use Rattle.program_runs.specs.Ending.{status_of}
+use Rattle.program_runs.specs.Outcome.{Outcome, line}
+use Rattle.program_runs.specs.FailedReads.{NoneFailed, ReadFails}
+use Rattle.program_runs.specs.Runs.{Run, HasOutcome, AreTold}
 
 -- the line of a file that could not be read
 abbrev pub unread_line : List ℕ → List ℕ
@@ -22,10 +22,6 @@ EndsUnread status.WriteFault err_old err_new faults_old faults_new name = faults
 EndsUnread status.NoMemory err_old err_new faults_old faults_new name = faults_new ≡ faults_old
 EndsUnread _ err_old err_new faults_old faults_new name = ⊥
 
--- no read failed: the count of faults and the name of the last read that failed are as they were
-abbrev pub NoneFailed : (old new : ℕ) → (failed_old failed_new : Option (List ℕ)) → Type 0
-NoneFailed old new failed_old failed_new = (new ≡ old) × (failed_new ≡ failed_old)
-
 -- the answers that come without an outcome
 abbrev pub HasNoOutcome : Status → Type 0
 HasNoOutcome status.ReadFault = Unit {0}
@@ -37,41 +33,35 @@ HasNoOutcome _ = ⊥
 abbrev pub EndsAtFailedRead : Status → (old new : ℕ) → (failed_old failed_new : Option (List ℕ)) → Type 0
 EndsAtFailedRead answer old new failed_old failed_new = NoneFailed old new failed_old failed_new ⊎ ((new ≡ raised old) × HasNoOutcome answer)
 
--- One read failed: the count of faults was raised by one, the name of the read that failed is this, and the run came to read that file.
-pub record ReadFails (files : List ℕ → Option (List ℕ)) (ask : Asked) (old new : ℕ) (failed : Option (List ℕ)) (name : List ℕ) : Type 0 where
-  pub counted : new ≡ raised old
-  pub noted : failed ≡ Some name
-  pub reached : IsReached files ask name
-
-module _ (files : List ℕ → Option (List ℕ)) (images scripts : List ℕ → Bool) (ws : List (List ℕ)) where
-  -- the words have an outcome, both its texts were written whole, and the status is its own
+module _ (files : List ℕ → Option (List ℕ)) (run : Run) where
+  -- the run has an outcome, both its texts were written whole, and the status is its own
   pub record Completes (answer : Status) (out_old out_new err_old err_new : Option (List ℕ)) : Type 0 where
     pub outcome : Outcome
-    pub defined : IsOutcome files images scripts ws outcome
+    pub defined : HasOutcome files run outcome
     pub status : answer ≡ status_of outcome.ending
     pub out : Gains out_old out_new outcome.out
     pub err : Gains err_old err_new outcome.err
 
   -- what out holds more is a prefix of the out text, where files are told
   pub record OutFront (old new : Option (List ℕ)) : Type 0 where
-    pub front : (o : Outcome) → AreTold files (asked ws) → IsOutcome files images scripts ws o → GainsPrefix old new o.out
+    pub front : (o : Outcome) → AreTold files run → HasOutcome files run o → GainsPrefix old new o.out
 
   -- What err holds more is a prefix of the err text, where files are told; or, where a read failed, of the line that tells so. The first
   -- three arguments are the count of failed reads before and after, and the name of the last of them.
   pub record ErrFront (reads_old reads_new : ℕ) (failed : Option (List ℕ)) (old new : Option (List ℕ)) : Type 0 where
     pub front :
-        ((o : Outcome) → AreTold files (asked ws) → IsOutcome files images scripts ws o → GainsPrefix old new o.err)
-        ⊎ ((name : List ℕ) × ReadFails files (asked ws) reads_old reads_new failed name × GainsPrefix old new (unread_line name))
+        ((o : Outcome) → AreTold files run → HasOutcome files run o → GainsPrefix old new o.err)
+        ⊎ ((name : List ℕ) × ReadFails files run reads_old reads_new failed name × GainsPrefix old new (unread_line name))
 
-  -- an out text is due: the words have an outcome with one
+  -- an out text is due: the run has an outcome with one
   abbrev pub OutTextIsDue : Type 0
-  OutTextIsDue = (o : Outcome) × IsOutcome files images scripts ws o × (0 < length o.out)
+  OutTextIsDue = (o : Outcome) × HasOutcome files run o × (0 < length o.out)
 
-  -- an err line is due: the words have an outcome with one, or a read failed
+  -- an err line is due: the run has an outcome with one, or a read failed
   abbrev pub ErrLineIsDue : ℕ → ℕ → Option (List ℕ) → Type 0
   ErrLineIsDue reads_old reads_new failed =
-      ((o : Outcome) × IsOutcome files images scripts ws o × (0 < length o.err))
-      ⊎ ((name : List ℕ) × ReadFails files (asked ws) reads_old reads_new failed name)
+      ((o : Outcome) × HasOutcome files run o × (0 < length o.err))
+      ⊎ ((name : List ℕ) × ReadFails files run reads_old reads_new failed name)
 
   -- One write failed: of out while an out text was due, or of err while an err line was due. Its count of faults was raised by one, and
   -- that of the other is as it was.

@@ -1,8 +1,8 @@
 //! Both texts of a run, and how it ends.
 
 ghost use Rattle.std.specs.Prelude.{◌≡◌, [], ◌∷◌, ◌++◌, codes, IfOk};
-ghost use Rattle.style_program.specs.Outcome.{said, told};
-ghost use Rattle.style_program.specs.AnswerView.{outcome_of};
+ghost use Rattle.program_runs.specs.Outcome.{said, told};
+ghost use Rattle.program_runs.specs.Progress.{outcome_of};
 
 use crate::status::Ending;
 use std::alloc::{AllocError, Global};
@@ -13,25 +13,6 @@ pub struct Answer {
     pub out: Vec<u8>,
     pub err: Vec<u8>,
     pub ending: Ending,
-}
-
-/// Why a run has no answer.
-#[derive(Clone, Copy, Debug)]
-pub enum Stop<'a> {
-    NoMemory,
-    /// The file of this name could not be read.
-    Unread(&'a str),
-}
-
-impl From<AllocError> for Stop<'_> {
-    ghost use Rattle.std.specs.Prelude.{◌≡◌};
-    ghost use Rattle.style_program.specs.declared.answer.Stop.TheVariants.{NoMemory};
-
-    ghost from_gives = { λ _ stop. stop ≡ NoMemory };
-
-    fn from(_: AllocError) -> Self {
-        Stop::NoMemory
-    }
 }
 
 /// A text for standard output alone.

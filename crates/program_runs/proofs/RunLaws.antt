@@ -1,0 +1,41 @@
+-- No run has two outcomes, by recursion over runs.
+use Rattle.std.specs.Prelude.{◌≡◌, ℕ, ◌≤◌, List, length, Bool, true, is_some, Option, Some, None}
+use Rattle.std.proofs.Common.{refl, sym, ap, subst, ◌∙◌, inl, inr, arith}
+use Rattle.outside_io.specs.Reading.{IsContent, IsLongerIfTold}
+use Rattle.json_tokens.specs.Rules.{all_rules}
+use Rattle.json_tokens.specs.declared.kind.JsonKind.{JsonKind}
+use Rattle.decimal_json.proofs.OneFault.{one_fault}
+use Rattle.decimal_json.proofs.OneTree.{one_tree}
+use Rattle.decimal_json.specs.Parses.{IsPlace, IsKind}
+use Rattle.program_runs.specs.Laws.{EachRunHasOneOutcome}
+use Rattle.program_runs.specs.Outcome.{Outcome}
+use Rattle.program_runs.specs.Refusals.{too_long, no_json}
+use Rattle.program_runs.specs.Runs.{Run, ends, reads, parses, HasOutcome, AreTold}
+
+one_refusal : (what text : List ℕ) (kind other : JsonKind) (at place : ℕ) → IsPlace text at → IsKind kind text at → IsPlace text place → IsKind other text place → no_json what kind at ≡ no_json what other place
+one_refusal what text kind other at place at_first first at_second second =
+    let same = one_fault text at place kind other at_first at_second first second in
+    ap (λ n. no_json what kind n) same.0 ∙ ap (λ k. no_json what k place) same.1
+
+-- a told file is no longer than it may be and longer
+not_both : (file : Option (List ℕ)) (limit : ℕ) (bytes : List ℕ) → is_some file ≡ true → IsLongerIfTold file limit → IsContent file bytes → length bytes ≤ limit → ⊥
+not_both None limit bytes told longer is within = cc
+not_both (Some b) limit bytes told longer is within = let e = ap length is in omega arith
+
+one_content : (file : Option (List ℕ)) (a b : List ℕ) → is_some file ≡ true → IsContent file a → IsContent file b → a ≡ b
+one_content None a b told p q = absurd (cc)
+one_content (Some c) a b told p q = p ∙ sym q
+
+pub one_outcome : EachRunHasOneOutcome
+one_outcome files (ends made) told o p d e = d ∙ sym e
+one_outcome files (reads what name limit after) told o p (inl a) (inl b) = a.1 ∙ sym b.1
+one_outcome files (reads what name limit after) told o p (inl a) (inr (bytes, is, e)) = absurd (not_both (files name) limit bytes told.0 a.0 is.0 is.1)
+one_outcome files (reads what name limit after) told o p (inr (bytes, is, d)) (inl b) = absurd (not_both (files name) limit bytes told.0 b.0 is.0 is.1)
+one_outcome files (reads what name limit after) told o p (inr (bytes, is, d)) (inr (others, are, e)) =
+    one_outcome files (after bytes) (told.1 bytes is) o p d (subst (λ x. HasOutcome files (after x) p) (one_content (files name) others bytes told.0 are.0 is.0) e)
+one_outcome files (parses what bytes after) told o p (inl (s, spells, d)) (inl (t, also, e)) =
+    one_outcome files (after s) (told s spells) o p d (subst (λ x. HasOutcome files (after x) p) (one_tree all_rules bytes t s also spells) e)
+one_outcome files (parses what bytes after) told o p (inl (s, spells, d)) (inr (kind, at, none, place, cause, e)) = absurd (none (s, spells))
+one_outcome files (parses what bytes after) told o p (inr (kind, at, none, place, cause, d)) (inl (t, also, e)) = absurd (none (t, also))
+one_outcome files (parses what bytes after) told o p (inr (kind, at, none, place, cause, d)) (inr (other, there, neither, also, reason, e)) =
+    d ∙ (one_refusal what bytes kind other at there place cause also reason ∙ sym e)

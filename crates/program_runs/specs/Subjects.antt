@@ -1,0 +1,10 @@
+-- What is read, as the lines on standard error name it.
+use Rattle.std.specs.Prelude.{ℕ, List, codes}
+use Rattle.program_runs.specs.declared.subject.Subject.{Subject}
+use Rattle.program_runs.specs.declared.subject.Subject.TheVariants.{Expression, Style, Tile}
+use Rattle.program_runs.specs.Refusals.{tile_text}
+
+abbrev pub subject_text : Subject → List ℕ
+subject_text Expression = codes "expr"
+subject_text Style = codes "style"
+subject_text (Tile source) = tile_text source.now

@@ -1,0 +1,70 @@
+//! Parts of runs that read something, and hand it on or halt the run.
+
+ghost use Rattle.std.specs.Prelude.{◌≡◌, ℕ, List, Option, OnOk, IfOk, IfErr};
+ghost use Rattle.decimal_json.specs.View.{tree_of};
+ghost use Rattle.program_runs.specs.Parts.{json_part};
+ghost use Rattle.program_runs.specs.FailedReads.{NoneFailed};
+ghost use Rattle.program_runs.specs.Progress.{GoesOn, Halts};
+ghost use Rattle.program_runs.specs.Runs.{reads, parses};
+ghost use Rattle.program_runs.specs.Subjects.{subject_text};
+
+use crate::halt::Halt;
+use crate::refusals::{no_json, too_long};
+use crate::subject::Subject;
+use decimal_json::{Json, parse};
+use outside_io::{Files, ReadAnswer};
+use std::alloc::Global;
+
+/// The bytes of a file, of which there may be at most so many.
+pub fn read_file<'a, F: Files>(
+    alloc: Global,
+    what: &Subject<'_>,
+    name: &'a str,
+    at_most: usize,
+    files: &mut F,
+) -> Result<Vec<u8>, Halt<'a>>
+    ensures told { F.told files.new ≡ F.told files.old }
+    ensures failed { OnOk result (NoneFailed (F.faults files.old) (F.faults files.new) (F.failed files.old) (F.failed files.new)) }
+    ensures on { IfOk result (λ bytes. GoesOn (F.told files.old) (reads (subject_text what.now) name.now at_most) bytes.items) }
+    ensures halt { IfErr result (λ halt. Halts (F.told files.old) (reads (subject_text what.now) name.now at_most)
+        (F.faults files.old) (F.faults files.new) (F.failed files.old) (F.failed files.new) halt) }
+{
+    let mut bytes = Vec::new(alloc);
+    match files.read(alloc, name, at_most, &mut bytes) {
+        ReadAnswer::Done => Ok(bytes),
+        ReadAnswer::TooLong => Err(Halt::Refused(too_long(alloc, what)?)),
+        ReadAnswer::Failed => Err(Halt::Unread(name)),
+        ReadAnswer::NoMemory => Err(Halt::NoMemory),
+    }
+}
+
+/// The JSON text that these bytes are.
+pub fn parse_json<'a>(alloc: Global, what: &Subject<'_>, bytes: &[u8]) -> Result<Json, Halt<'a>>
+    ensures on { (files : List ℕ → Option (List ℕ)) →
+        IfOk result (λ json. GoesOn files (parses (subject_text what.now) bytes.now) (tree_of json)) }
+    ensures halt { (files : List ℕ → Option (List ℕ)) (count : ℕ) (failed : Option (List ℕ)) →
+        IfErr result (λ halt. Halts files (parses (subject_text what.now) bytes.now) count count failed failed halt) }
+{
+    match parse(alloc, bytes)? {
+        Ok(json) => Ok(json),
+        Err(fault) => Err(Halt::Refused(no_json(alloc, what, fault)?)),
+    }
+}
+
+/// The JSON text in a file of at most so many bytes.
+pub fn read_json<'a, F: Files>(
+    alloc: Global,
+    what: &Subject<'_>,
+    name: &'a str,
+    at_most: usize,
+    files: &mut F,
+) -> Result<Json, Halt<'a>>
+    ensures told { F.told files.new ≡ F.told files.old }
+    ensures failed { OnOk result (NoneFailed (F.faults files.old) (F.faults files.new) (F.failed files.old) (F.failed files.new)) }
+    ensures on { IfOk result (λ json. GoesOn (F.told files.old) (json_part (subject_text what.now) name.now at_most) (tree_of json)) }
+    ensures halt { IfErr result (λ halt. Halts (F.told files.old) (json_part (subject_text what.now) name.now at_most)
+        (F.faults files.old) (F.faults files.new) (F.failed files.old) (F.failed files.new) halt) }
+{
+    let bytes = read_file(alloc, what, name, at_most, files)?;
+    parse_json(alloc, what, bytes.as_slice())
+}
