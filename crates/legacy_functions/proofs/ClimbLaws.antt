@@ -76,11 +76,11 @@ stops_climb before ((word s, o) ∷ ss) h = stops_climb before ss h
 
 -- ---- zooms that never descend
 
-abbrev group_zooms : List Group → List ℤ
+abbrev pub group_zooms : List Group → List ℤ
 group_zooms gs = map (λ (g : Group). g.0.value) gs
 
 -- the first is not below the number before, and each later one is above the one before it
-abbrev Rises : Option ℤ → List ℤ → Type 0
+abbrev pub Rises : Option ℤ → List ℤ → Type 0
 Rises before [] = Unit {0}
 Rises before (z ∷ zs) = (is_not_below before z ≡ true) × Climbs (Some z) zs
 
@@ -92,7 +92,7 @@ with_group_rises before s (g ∷ gs) h c = group_if (int_eq s.0.value g.0.value)
     group_if true e = (h, subst (λ z. Climbs (Some z) (group_zooms gs)) (sym ((Decides-int_eq s.0.value g.0.value).0 e)) c.1)
     group_if false e = (h, (above (Some s.0.value) g.0.value c.0 e, c.1))
 
-zooms_rise : (before : Option ℤ) (ss : List Zoomed) → zooms_never_descend before ss ≡ true → Rises before (group_zooms (by_zoom ss))
+pub zooms_rise : (before : Option ℤ) (ss : List Zoomed) → zooms_never_descend before ss ≡ true → Rises before (group_zooms (by_zoom ss))
 zooms_rise before [] h = tt
 zooms_rise before (s ∷ ss) h =
     with_group_rises before s (by_zoom ss) (left_true (is_not_below before s.0.value) (zooms_never_descend (Some s.0.value) ss) h)
@@ -103,7 +103,7 @@ rise_ascends [] c = ascends None [] tt
 rise_ascends (z ∷ zs) c = ascends None (z ∷ zs) (tt, c.1)
 
 -- rules keep the zooms of their groups
-abbrev ZoomsAre : Option (List (Spelled × Rule)) → List ℤ → Type 0
+abbrev pub ZoomsAre : Option (List (Spelled × Rule)) → List ℤ → Type 0
 ZoomsAre (Some rs) zs = rule_zooms rs ≡ zs
 ZoomsAre None zs = Unit {0}
 
@@ -112,7 +112,7 @@ and_rule_zooms zoom (Some rule) (Some rs) zs h = ap (λ ys. zoom.value ∷ ys) h
 and_rule_zooms zoom (Some rule) None zs h = tt
 and_rule_zooms zoom None later zs h = tt
 
-rules_zooms : (way : Option Way) (gs : List Group) → ZoomsAre (rules_form way gs) (group_zooms gs)
+pub rules_zooms : (way : Option Way) (gs : List Group) → ZoomsAre (rules_form way gs) (group_zooms gs)
 rules_zooms way [] = refl
 rules_zooms way (g ∷ gs) = and_rule_zooms g.0 (rule_form way g.1) (rules_form way gs) (group_zooms gs) (rules_zooms way gs)
 

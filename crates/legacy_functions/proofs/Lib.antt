@@ -5,3 +5,6 @@ pub mod ClimbLaws
 pub mod GroupLaws
 pub mod MeaningLaws
 pub mod ExpressionLaws
+pub mod PieceViews
+pub mod SoundRules
+pub mod SoundFunctions

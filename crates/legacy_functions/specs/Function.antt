@@ -1,5 +1,5 @@
 -- What a legacy function is to a clause. Source: own.
-use Rattle.std.specs.Prelude.{ℕ, ℤ, List, Bool, Option}
+use Rattle.std.specs.Prelude.{ℕ, ℤ, List, Bool, true, false, ◌||◌, Option, is_none}
 use Rattle.decimal_json.specs.Tree.{Tree}
 use Rattle.prop_values.specs.Data.{Data}
 
@@ -40,3 +40,12 @@ pub record Function : Type 0 where
   pub property : Option (List ℕ)
   pub fallback : Option Output
   pub body : Body
+
+-- The stops of a function are over the zoom where it has no property, or where each is a rule for a zoom.
+abbrev pub has_zoomed_stops : Body → Bool
+has_zoomed_stops (plain rule) = false
+has_zoomed_stops (zoomed rules) = true
+has_zoomed_stops identity = false
+
+abbrev pub has_zooms : Function → Bool
+has_zooms f = is_none f.property || has_zoomed_stops f.body

@@ -1,5 +1,9 @@
 //! Legacy functions as they are read.
 
+ghost use Rattle.std.specs.Prelude.{◌≡◌, is_some};
+ghost use Rattle.legacy_functions.specs.Function.{has_zooms};
+ghost use Rattle.legacy_functions.specs.View.{function_of};
+
 use crate::categories::Categories;
 use crate::stops::{Base, NumberStops, ZoomRules};
 use decimal_json::{Json, NumText, Text};
@@ -97,3 +101,22 @@ pub enum FunctionReading {
 /// That a tree has not the form of a legacy function of the row.
 #[derive(Clone, Copy, Debug, PartialEq, Eq)]
 pub struct FunctionFault;
+
+impl Function {
+    /// Whether its stops are over the zoom.
+    pub fn has_zooms(&self) -> bool
+        ensures { result ≡ has_zooms (function_of self.now) }
+    {
+        match &self.body {
+            Body::Zoomed(_) => true,
+            _ => self.property.is_none(),
+        }
+    }
+
+    /// Whether it goes by a property of the feature.
+    pub fn has_property(&self) -> bool
+        ensures { result ≡ is_some (function_of self.now).property }
+    {
+        self.property.is_some()
+    }
+}

@@ -19,7 +19,8 @@ use Rattle.tile_reader.specs.declared.tile.Shape.{Shape}
 use Rattle.tile_reader.specs.declared.tile.Shape.TheVariants.{Unknown, Point, LineString, Polygon}
 use Rattle.expr_syntax.specs.declared.expression.Operator.TheVariants as operators
 use Rattle.expr_syntax.specs.Term.{Term, literal, node, terms_of}
-use Rattle.operator_values.specs.Comparisons.{equal_of, different_of, ordered_of, is_less, is_less_or_equal, is_greater, is_greater_or_equal}
+use Rattle.operator_values.specs.Comparisons.{equal_of, different_of, ordered_of, is_less, is_less_or_equal}
+use Rattle.operator_values.specs.Comparisons.{is_greater, is_greater_or_equal}
 use Rattle.operator_values.specs.Conversions.{kind_of, negation_of}
 use Rattle.operator_values.specs.Evaluated.{Evaluated, then_value}
 use Rattle.operator_values.specs.Sequences.{in_of, first_equal}
@@ -39,9 +40,11 @@ use Rattle.legacy_filters.specs.declared.scalars.Scalar.TheVariants.{Flag, Numbe
 use Rattle.legacy_filters.specs.declared.filter.Test.{Test}
 use Rattle.legacy_filters.specs.declared.filter.Test.TheVariants.{Has, HasNot, Equal, NotEqual, Ordered, Among, NotAmong}
 use Rattle.legacy_filters.specs.Filter.{Filter, flag, test, group, Filters, no_filters, filter}
-use Rattle.legacy_filters.specs.Meaning.{shape_name, id_number, value_at, is_there_and, takes, takes_order, is_ordered, holds, passes, each_passes}
+use Rattle.legacy_filters.specs.Meaning.{shape_name, id_number, value_at, is_there_and, takes, takes_order}
+use Rattle.legacy_filters.specs.Meaning.{is_ordered, holds, passes, each_passes}
 use Rattle.legacy_filters.specs.Scalars.{scalar_data, is_equal, is_one_of}
-use Rattle.legacy_laws.proofs.FilterTerms.{one_term, two_terms, value_term, has_term, order_operator, kind_term, guarded_term, order_term, among_term, test_term, filter_term, filter_terms}
+use Rattle.legacy_laws.proofs.FilterTerms.{one_term, two_terms, value_term, has_term, order_operator, kind_term}
+use Rattle.legacy_laws.proofs.FilterTerms.{guarded_term, order_term, among_term, test_term, filter_term, filter_terms}
 
 -- a truth value that is given
 abbrev verdict : Bool → Evaluated

@@ -14,7 +14,8 @@ use Rattle.expr_syntax.specs.declared.fault.SynFault.{SynFault}
 use Rattle.expr_syntax.specs.declared.rows.Layout.TheVariants.{Arguments}
 use Rattle.expr_syntax.specs.declared.rows.Place.TheVariants.{Part, Argument}
 use Rattle.expr_syntax.specs.Elements.{Element}
-use Rattle.expr_syntax.specs.Reading.{Read, Reader, read, options, elements, Reading, number_read, data_read, and_term, arguments, then_node, is_part, inside, at, reading_with, fault}
+use Rattle.expr_syntax.specs.Reading.{Read, Reader, read, options, elements, Reading, number_read, data_read, and_term, arguments}
+use Rattle.expr_syntax.specs.Reading.{then_node, is_part, inside, at, reading_with, fault}
 use Rattle.expr_syntax.specs.declared.fault.SynCode.TheVariants as code
 use Rattle.expr_syntax.specs.Rows.{is_last}
 use Rattle.expr_syntax.specs.Scopes.{Scope, globals}
@@ -32,14 +33,16 @@ use Rattle.legacy_filters.specs.declared.filter.Test.{Test}
 use Rattle.legacy_filters.specs.declared.filter.Test.TheVariants.{Has, HasNot, Equal, NotEqual, Ordered, Among, NotAmong}
 use Rattle.legacy_filters.specs.Filter.{Filter, flag, test, group, Filters, no_filters, filter}
 use Rattle.legacy_filters.specs.Scalars.{scalar_data}
-use Rattle.legacy_filters.specs.ToExpression.{call, value_expression, scalar_tree, has_expression, order_name, kind_and_order, order_expression, among_expression, test_expression, expression, expressions}
-use Rattle.legacy_laws.proofs.FilterTerms.{one_term, two_terms, value_term, has_term, order_operator, kind_term, guarded_term, order_term, among_term, test_term, filter_term, filter_terms}
+use Rattle.legacy_filters.specs.ToExpression.{call, value_expression, scalar_tree, has_expression, order_name, kind_and_order}
+use Rattle.legacy_filters.specs.ToExpression.{order_expression, among_expression, test_expression, expression, expressions}
+use Rattle.legacy_laws.proofs.FilterTerms.{one_term, two_terms, value_term, has_term, order_operator, kind_term, guarded_term, order_term}
+use Rattle.legacy_laws.proofs.FilterTerms.{among_term, test_term, filter_term, filter_terms}
 use Rattle.legacy_laws.proofs.SoundFilters.{IsReadScalar, IsScalarOf, AreScalarsOf, IsTestOf, IsSound, AreSound}
 
 -- ---- trees that read as a term in all scopes and at all paths, and where no outside node and none of the global state
 -- ---- stands
 
-abbrev nowhere : Walker
+abbrev pub nowhere : Walker
 nowhere sought format = false
 
 pub record IsReadAs (t : Tree) (e : Term) : Type 0 where
@@ -48,10 +51,10 @@ pub record IsReadAs (t : Tree) (e : Term) : Type 0 where
 
 -- ---- calls of one argument, and of two
 
-abbrev ReadsOne : List ℕ → Operator → Type 0
+abbrev pub ReadsOne : List ℕ → Operator → Type 0
 ReadsOne name op = (a : Tree) (x : Term) → IsReadAs a x → IsReadAs (call name (a ∷ [])) (one_term op x)
 
-abbrev ReadsTwo : List ℕ → Operator → Type 0
+abbrev pub ReadsTwo : List ℕ → Operator → Type 0
 ReadsTwo name op =
     (a b : Tree) (x y : Term) → IsReadAs a x → IsReadAs b y
     → IsReadAs (call name (a ∷ b ∷ [])) (two_terms op x y)
@@ -61,41 +64,41 @@ and_false true = refl
 and_false false = refl
 
 -- where a node of no global state stands, and such arguments
-abbrev sought_in : Bool → Bool → Bool
+abbrev pub sought_in : Bool → Bool → Bool
 sought_in is_global others = if is_global then true else others
 
-abbrev node_with : Walker → Walker
+abbrev pub node_with : Walker → Walker
 node_with others sought format = sought_in (is_for_global sought && false) (others sought format)
 
 -- an element, and those after it
-abbrev either_walk : Walker → Walker → Walker
+abbrev pub either_walk : Walker → Walker → Walker
 either_walk w later sought format = w sought false || later sought format
 
-node_nowhere : (others : Walker) → others ≡ nowhere → node_with others ≡ nowhere
+pub node_nowhere : (others : Walker) → others ≡ nowhere → node_with others ≡ nowhere
 node_nowhere others h = λ i sought format. sought_in (and_false (is_for_global sought) i) (h i sought format)
 
-none_inside : node_with nowhere ≡ nowhere
+pub none_inside : node_with nowhere ≡ nowhere
 none_inside = node_nowhere nowhere refl
 
-one_inside : (w : Walker) → w ≡ nowhere → node_with (either_walk w nowhere) ≡ nowhere
+pub one_inside : (w : Walker) → w ≡ nowhere → node_with (either_walk w nowhere) ≡ nowhere
 one_inside w h = node_nowhere (either_walk w nowhere) (λ i. either_walk (h i) nowhere)
 
-two_inside : (v w : Walker) → v ≡ nowhere → w ≡ nowhere
+pub two_inside : (v w : Walker) → v ≡ nowhere → w ≡ nowhere
     → node_with (either_walk v (either_walk w nowhere)) ≡ nowhere
 two_inside v w h k =
     node_nowhere (either_walk v (either_walk w nowhere)) (λ i. either_walk (h i) (either_walk (k i) nowhere))
 
-abbrev one_argument : Operator → Read → Read
+abbrev pub one_argument : Operator → Read → Read
 one_argument op a = then_node op (and_term a (Ok []))
 
-abbrev two_arguments : Operator → Read → Read → Read
+abbrev pub two_arguments : Operator → Read → Read → Read
 two_arguments op a b = then_node op (and_term a (and_term b (Ok [])))
 
-one_read : (op : Operator) (a : Tree) (x : Term) → IsReadAs a x → (scope : Scope) (path : List PathPart)
+pub one_read : (op : Operator) (a : Tree) (x : Term) → IsReadAs a x → (scope : Scope) (path : List PathPart)
     → one_argument op (read a scope (at path 1)) ≡ Ok (one_term op x)
 one_read op a x h scope path = λ i. one_argument op (h.reads scope (at path 1) i)
 
-two_read : (op : Operator) (a b : Tree) (x y : Term) → IsReadAs a x → IsReadAs b y
+pub two_read : (op : Operator) (a b : Tree) (x y : Term) → IsReadAs a x → IsReadAs b y
     → (scope : Scope) (path : List PathPart)
     → two_arguments op (read a scope (at path 1)) (read b scope (at path 2)) ≡ Ok (two_terms op x y)
 two_read op a b x y h k scope path =
@@ -104,10 +107,10 @@ two_read op a b x y h k scope path =
 read_not : ReadsOne (codes "!") operators.Not
 read_not a x h = record { inside = one_inside (stands a) h.inside; reads = one_read operators.Not a x h }
 
-read_typeof : ReadsOne (codes "typeof") operators.TypeOf
+pub read_typeof : ReadsOne (codes "typeof") operators.TypeOf
 read_typeof a x h = record { inside = one_inside (stands a) h.inside; reads = one_read operators.TypeOf a x h }
 
-read_equal : ReadsTwo (codes "==") operators.Equal
+pub read_equal : ReadsTwo (codes "==") operators.Equal
 read_equal a b x y h k = record {
   inside = two_inside (stands a) (stands b) h.inside k.inside;
   reads = two_read operators.Equal a b x y h k;
@@ -151,13 +154,13 @@ read_both a b x y h k = record {
 
 -- ---- literals
 
-read_flag : (b : Bool) → IsReadAs (boolean b) (literal (values.boolean b))
+pub read_flag : (b : Bool) → IsReadAs (boolean b) (literal (values.boolean b))
 read_flag b = record { inside = refl; reads = λ scope path. refl }
 
-read_null : IsReadAs null (literal values.null)
+pub read_null : IsReadAs null (literal values.null)
 read_null = record { inside = refl; reads = λ scope path. refl }
 
-read_text_as : (s : List ℕ) → IsReadAs (text s) (literal (values.text s))
+pub read_text_as : (s : List ℕ) → IsReadAs (text s) (literal (values.text s))
 read_text_as s = record { inside = refl; reads = λ scope path. refl }
 
 read_scalar : (v : Scalar) → IsReadScalar v → IsReadAs (scalar_tree v) (literal (scalar_data v))
@@ -199,7 +202,7 @@ read_values key vs h = record {
 
 -- ---- tests
 
-read_value : (key : Key) → IsReadAs (value_expression key) (value_term key)
+pub read_value : (key : Key) → IsReadAs (value_expression key) (value_term key)
 read_value Shape = record { inside = none_inside; reads = λ scope path. refl }
 read_value Id = record { inside = none_inside; reads = λ scope path. refl }
 read_value (Property name) = record { inside = one_inside nowhere refl; reads = λ scope path. refl }
@@ -257,7 +260,7 @@ read_test key (NotAmong vs) h = read_not (among_expression key vs) (among_term k
 
 -- ---- groups, of any number of parts
 
-same_scope : (b : Bool) (scope : Scope) → (if b then scope else scope) ≡ scope
+pub same_scope : (b : Bool) (scope : Scope) → (if b then scope else scope) ≡ scope
 same_scope true scope = refl
 same_scope false scope = refl
 
@@ -300,13 +303,13 @@ AreReadAs [] (x ∷ xs) = ⊥
 AreReadAs (t ∷ ts) [] = ⊥
 AreReadAs (t ∷ ts) (x ∷ xs) = IsReadAs t x × AreReadAs ts xs
 
-abbrev walks : List Tree → List (Element Walker)
+abbrev pub walks : List Tree → List (Element Walker)
 walks ts = standing.elements (trees_of ts)
 
-abbrev readers : List Tree → List (Element Reader)
+abbrev pub readers : List Tree → List (Element Reader)
 readers ts = elements (trees_of ts)
 
-all_inside : (ts : List Tree) (xs : List Term) → AreReadAs ts xs → (n i : ℕ) → 0 < i
+pub all_inside : (ts : List Tree) (xs : List Term) → AreReadAs ts xs → (n i : ℕ) → 0 < i
     → some_element Arguments n i (walks ts) ≡ nowhere
 all_inside [] [] h n i some = refl
 all_inside [] (x ∷ xs) h n i some = absurd h
@@ -315,7 +318,7 @@ all_inside (t ∷ ts) (x ∷ xs) h n i some =
     element_inside n i (stands t, standing.options t) (walks ts) some h.0.inside
     (all_inside ts xs h.1 n (i + 1) (omega arith))
 
-all_read : (ts : List Tree) (xs : List Term) → AreReadAs ts xs
+pub all_read : (ts : List Tree) (xs : List Term) → AreReadAs ts xs
     → (n i : ℕ) (scope : Scope) (path : List PathPart) → 0 < i
     → arguments Arguments n i (readers ts) scope scope path ≡ Ok xs
 all_read [] [] h n i scope path some = refl
@@ -326,10 +329,10 @@ all_read (t ∷ ts) (x ∷ xs) h n i scope path some =
     (h.0.reads scope (at path i)) (all_read ts xs h.1 n (i + 1) scope path (omega arith))
 
 -- a node of any number of arguments
-abbrev unless_few : Bool → Read → List PathPart → Read
+abbrev pub unless_few : Bool → Read → List PathPart → Read
 unless_few is_enough r path = if not is_enough then fault path code.Arity else r
 
-abbrev walk_unless_few : Bool → Walker → Walker
+abbrev pub walk_unless_few : Bool → Walker → Walker
 walk_unless_few is_enough others sought format = if not is_enough then false else others sought format
 
 abbrev group_walk : List Tree → Walker
@@ -380,14 +383,14 @@ mutual
 
 -- ---- the expression of a filter reads as its term, whatever the values of the global state are
 
-abbrev reading_by : Bool → Read → Reading
+abbrev pub reading_by : Bool → Read → Reading
 reading_by is_outside r = if is_outside then Ok None else inside r
 
 -- walkers that are one find the same of what is sought
 walks_agree : {S : Type 0} (v w : S → Bool → Bool) → v ≡ w → (sought : S) → v sought true ≡ w sought true
 walks_agree v w h sought = λ i. h i sought true
 
-outside_nowhere : (t : Tree) → stands t ≡ nowhere → is_outside t ≡ false
+pub outside_nowhere : (t : Tree) → stands t ≡ nowhere → is_outside t ≡ false
 outside_nowhere t h = walks_agree (stands t) nowhere h _
 
 pub filter_reading : (f : Filter) → IsSound f → (globals_at : List (List ℕ × values.Data))

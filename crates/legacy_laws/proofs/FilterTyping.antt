@@ -17,7 +17,8 @@ use Rattle.expr_types.specs.Allowed.{Allowed, filter_allows, first_unread}
 use Rattle.expr_types.specs.Checked.{checked, allowed, unless_at}
 use Rattle.expr_types.specs.Own.{faults_if}
 use Rattle.expr_types.specs.OwnTable.{own}
-use Rattle.expr_types.specs.Typing.{Found, Typed, Scope, looked_at, and_found, founds_of, kinds_in, may_after, then_found, finished, typed, typings, literals}
+use Rattle.expr_types.specs.Typing.{Found, Typed, Scope, looked_at, and_found, founds_of, kinds_in, may_after}
+use Rattle.expr_types.specs.Typing.{then_found, finished, typed, typings, literals}
 use Rattle.expr_types.specs.Visits.{Visit, all_visits, visits, visitings}
 use Rattle.expr_types.specs.declared.fault.TypeCode.TheVariants as type_codes
 use Rattle.expr_types.specs.declared.fault.TypeFault.{TypeFault}
@@ -33,7 +34,8 @@ use Rattle.legacy_filters.specs.declared.filter.Test.TheVariants.{Has, HasNot, E
 use Rattle.legacy_filters.specs.Filter.{Filter, flag, test, group, Filters, no_filters, filter}
 use Rattle.legacy_filters.specs.Scalars.{scalar_data}
 use Rattle.legacy_laws.specs.LegacyFilterLaw.{is_order_of, is_order, has_order, some_order}
-use Rattle.legacy_laws.proofs.FilterTerms.{one_term, two_terms, value_term, has_term, order_operator, guarded_term, order_term, among_term, test_term, filter_term, filter_terms}
+use Rattle.legacy_laws.proofs.FilterTerms.{one_term, two_terms, value_term, has_term, order_operator, guarded_term}
+use Rattle.legacy_laws.proofs.FilterTerms.{order_term, among_term, test_term, filter_term, filter_terms}
 use Rattle.legacy_laws.proofs.SoundFilters.{IsScalarOf, IsOrderedOf, IsTestOf, IsSound, AreSound}
 
 -- ---- a boolean that lists the fault of an order, or no fault
@@ -318,7 +320,7 @@ still_none : (b : Bool) (x y : Option (List PathPart)) (path : List PathPart) �
 still_none true x y path step h = step h
 still_none false x y path step h = h
 
-none_unread : (allows : Allowed) (vs ws : List Visit)
+pub none_unread : (allows : Allowed) (vs ws : List Visit)
     → first_unread allows vs ≡ None → first_unread allows ws ≡ None → first_unread allows (vs ++ ws) ≡ None
 none_unread allows [] ws h k = k
 none_unread allows (v ∷ vs) ws h k =

@@ -19,7 +19,10 @@ use Rattle.legacy_filters.specs.declared.filter.Test.{Test}
 use Rattle.legacy_filters.specs.declared.filter.Test.TheVariants.{Has, HasNot, Equal, NotEqual, Ordered, Among, NotAmong}
 use Rattle.legacy_filters.specs.Split.{is_named}
 use Rattle.legacy_filters.specs.Filter.{Filter, flag, test, group, Filters, no_filters, filter}
-use Rattle.legacy_filters.specs.Form.{Read, Reader, ill_formed, key_named, shape_scalar, number_scalar, plain_scalar, scalar_form, alone, one_scalar, ordered_scalar, and_scalar, scalars_form, test_form, keyed_form, or_ill_formed, group_named, and_filter, parts_form, grouped, most_open, unless_group, form, array_form, forms, reading}
+use Rattle.legacy_filters.specs.Form.{Read, Reader, ill_formed, key_named, shape_scalar, number_scalar, plain_scalar}
+use Rattle.legacy_filters.specs.Form.{scalar_form, alone, one_scalar, ordered_scalar, and_scalar, scalars_form}
+use Rattle.legacy_filters.specs.Form.{test_form, keyed_form, or_ill_formed, group_named, and_filter, parts_form}
+use Rattle.legacy_filters.specs.Form.{grouped, most_open, unless_group, form, array_form, forms, reading}
 
 abbrev pub IsReadScalar : Scalar → Type 0
 IsReadScalar (Flag b) = Unit {0}

@@ -1,2 +1,3 @@
 -- Laws. The statements are to be believed; their proofs stand in proofs/.
 pub mod LegacyFilterLaw
+pub mod LegacyFunctionLaw

@@ -1,5 +1,8 @@
 //! What the definitions mean, each law on a function that does nothing.
 ghost use Rattle.legacy_laws.specs.LegacyFilterLaw.{ExpressionsMeanTheirFilters, MigratedFiltersAreTyped, MigratedFiltersStay};
+ghost use Rattle.legacy_laws.specs.LegacyFunctionLaw.{ExpressionsMeanTheirFunctions, TokenExpressionsMeanTheirTexts};
+ghost use Rattle.legacy_laws.specs.LegacyFunctionLaw.{MigratedFunctionsAreTyped, MigratedTokenTextsAreTyped};
+ghost use Rattle.legacy_laws.specs.LegacyFunctionLaw.{MigratedFunctionsMentionTheSame, MigratedTokenTextsMentionTheFeature};
 
 use legacy_filters::expressions_are_not_legacy;
 
@@ -23,3 +26,40 @@ pub fn migrated_filters_stay()
 {
     expressions_are_not_legacy();
 }
+
+/// The expression of a token text reads without a fault, and gives of every feature under every want the text,
+/// fitted to the want.
+#[tactic(auto, using(crate::proofs::TokenLaws::token_texts))]
+pub fn token_expressions_mean_their_texts()
+    ensures { TokenExpressionsMeanTheirTexts }
+{}
+
+/// The expression of a legacy function of a row reads without a fault, and gives of every feature, at every zoom,
+/// the value of the function or its fault.
+#[tactic(auto, using(crate::proofs::LegacyFunctionLaws::expressions_mean))]
+pub fn expressions_mean_their_functions()
+    ensures { ExpressionsMeanTheirFunctions }
+{}
+
+/// The expression of a legacy function that its row allows is well typed as a value of the row.
+pub fn migrated_functions_are_typed()
+    ensures { MigratedFunctionsAreTyped }
+{}
+
+/// The expression of a token text is well typed as a value of each row that takes token texts.
+pub fn migrated_token_texts_are_typed()
+    ensures { MigratedTokenTextsAreTyped }
+{}
+
+/// The expression of a legacy function mentions of the world what the function mentions: the zoom where its stops
+/// ask for it, the feature where it has a property or an output with tokens, and nothing else.
+#[tactic(auto, using(crate::proofs::LegacyFunctionLaws::functions_mention))]
+pub fn migrated_functions_mention_the_same()
+    ensures { MigratedFunctionsMentionTheSame }
+{}
+
+/// The expression of a token text mentions the feature where the text has tokens, and nothing else.
+#[tactic(auto, using(crate::proofs::LegacyFunctionLaws::token_texts_mention))]
+pub fn migrated_token_texts_mention_the_feature()
+    ensures { MigratedTokenTextsMentionTheFeature }
+{}

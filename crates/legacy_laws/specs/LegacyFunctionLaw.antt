@@ -1,0 +1,150 @@
+-- A legacy function and its expression say the same, and so do a token text and its expression. Source: own.
+use Rattle.std.specs.Prelude.{◌≡◌, ℕ, ℤ, List, [], ◌∷◌, Bool, true, false, ◌||◌}
+use Rattle.std.specs.Prelude.{Option, Some, None, is_some, Ok}
+use Rattle.std.specs.List.{list_any}
+use Rattle.decimal_json.specs.Tree.{Tree}
+use Rattle.prop_values.specs.Data.{Data, text}
+use Rattle.prop_values.specs.declared.kinds.Want.{Want}
+use Rattle.property_tables.specs.Fitting.{fit}
+use Rattle.property_tables.specs.Rows.{RowData, row_of, takes_tokens}
+use Rattle.property_tables.specs.declared.layer_type.LayerType.{LayerType}
+use Rattle.property_tables.specs.declared.property_row.Place.{Place}
+use Rattle.tile_reader.specs.declared.tile.Feature.{Feature}
+use Rattle.expr_syntax.specs.Mentioned.{nothing, mentions}
+use Rattle.expr_syntax.specs.Reading.{reading_with}
+use Rattle.expr_syntax.specs.Term.{Term}
+use Rattle.expr_syntax.specs.declared.world_parts.Mentions.{Mentions}
+use Rattle.expr_types.specs.Checked.{checked}
+use Rattle.expr_types.specs.Typing.{Found}
+use Rattle.operator_values.specs.Evaluated.{Evaluated}
+use Rattle.eval_face.specs.Meaning.{mean}
+use Rattle.eval_face.specs.World.{feature_world}
+use Rattle.legacy_functions.specs.Function.{Spelled, Output, literal, tokens, Way, even, curved, stepped}
+use Rattle.legacy_functions.specs.Function.{Rule, numeric, categorical, Body, plain, zoomed, identity}
+use Rattle.legacy_functions.specs.Function.{Function, has_zooms}
+use Rattle.legacy_functions.specs.Form as legacy
+use Rattle.legacy_functions.specs.Form.{Target}
+use Rattle.legacy_functions.specs.Meaning.{value_of, zoom_way}
+use Rattle.legacy_functions.specs.ToExpression.{function_expression}
+use Rattle.legacy_functions.specs.Tokens.{has_tokens, token_text, token_expression}
+
+-- A row of the table of properties.
+abbrev pub IsTableRow : RowData → Type 0
+IsTableRow row =
+    (t : LayerType) × (place : Place) × (name : List ℕ) × (number : ℕ)
+    × (row_of t place name ≡ Some (number, row))
+
+-- Whatever the zoom, the state and the two tests are, an expression gives of every feature under a want what is
+-- said of the zoom and the feature: a value, or a fault.
+abbrev pub GivesAlways : Term → Want → (ℤ → Feature → Evaluated) → Type 0
+GivesAlways e want said =
+    (zoom : ℤ) (feature : Feature) (state : List (List ℕ × Data)) (images scripts : List ℕ → Bool) →
+    mean e want [] (feature_world zoom feature state images scripts) ≡ said zoom feature
+
+-- An expression is inside and reads as a term without a fault, whatever the values of the global state are.
+abbrev pub ReadsAlways : Tree → Term → Type 0
+ReadsAlways t e = (values : List (List ℕ × Data)) → reading_with t values ≡ Ok (Some e)
+
+-- The expression of a function that was read, and is not outside, gives under the row's want the value of the
+-- function, or its fault.
+abbrev pub ExpressionsMeanTheirFunctions : Type 0
+ExpressionsMeanTheirFunctions =
+    (target : Target) (t : Tree) (f : Function) → IsTableRow target.row →
+    legacy.form target t ≡ Some (Some f) →
+    (e : Term) × ReadsAlways (function_expression target.row f) e
+    × GivesAlways e target.row.want (value_of target.row f)
+
+-- The expression of a token text gives under every want the text, fitted to the want.
+abbrev pub TokenExpressionsMeanTheirTexts : Type 0
+TokenExpressionsMeanTheirTexts =
+    (s : List ℕ) →
+    (e : Term) × ReadsAlways (token_expression s) e
+    × ((want : Want) → GivesAlways e want (λ zoom feature. fit want (text (token_text s feature))))
+
+-- ---- types
+
+-- what reading sees of a row: two rows take token texts
+abbrev pub target_of : RowData → Target
+target_of row = record { row = row; takes_tokens = takes_tokens row.name }
+
+-- The row lets its values read what the function goes by: the zoom, and the feature where it has a property.
+pub record IsAllowedOn (row : RowData) (f : Function) : Type 0 where
+  pub zoom : has_zooms f ≡ true → row.reads.zoom ≡ true
+  pub feature : is_some f.property ≡ true → row.reads.feature ≡ true
+
+-- The expression of a function that was read, and is allowed on its row, is well typed as a value of the row: there
+-- is no type fault, each node reads what it may, and the zoom stands where it may.
+abbrev pub MigratedFunctionsAreTyped : Type 0
+MigratedFunctionsAreTyped =
+    (row : RowData) (t : Tree) (f : Function) → IsTableRow row →
+    legacy.form (target_of row) t ≡ Some (Some f) →
+    IsAllowedOn row f → (e : Term) (values : List (List ℕ × Data)) →
+    reading_with (function_expression row f) values ≡ Ok (Some e) →
+    (found : Found) × (checked e row.want (Some row) ≡ Ok found)
+
+-- The expression of a token text is well typed as a value of each row that takes token texts.
+abbrev pub MigratedTokenTextsAreTyped : Type 0
+MigratedTokenTextsAreTyped =
+    (row : RowData) (s : List ℕ) → IsTableRow row → takes_tokens row.name ≡ true →
+    (e : Term) (values : List (List ℕ × Data)) → reading_with (token_expression s) values ≡ Ok (Some e) →
+    (found : Found) × (checked e row.want (Some row) ≡ Ok found)
+
+-- ---- what is read of the world
+
+abbrev pub has_several : {A : Type 0} → List A → Bool
+has_several (x ∷ y ∷ zs) = true
+has_several xs = false
+
+-- Whether stops ask for their input. Steps with one stop do not: its output is the result for each input.
+abbrev pub asks_input : {A : Type 0} → Way → List A → Bool
+asks_input even stops = true
+asks_input (curved base) stops = true
+asks_input stepped stops = has_several stops
+
+-- one rule is over the zoom where there is no property
+abbrev pub rule_asks_zoom : Option (List ℕ) → Rule → Bool
+rule_asks_zoom (Some name) rule = false
+rule_asks_zoom None (numeric way stops) = asks_input way stops
+rule_asks_zoom None (categorical stops) = false
+
+abbrev pub asks_zoom : RowData → Option (List ℕ) → Body → Bool
+asks_zoom row property (plain rule) = rule_asks_zoom property rule
+asks_zoom row property (zoomed rules) = asks_input (zoom_way row) rules
+asks_zoom row property identity = false
+
+-- an output asks for the feature where it is a text that has tokens
+abbrev pub output_asks_feature : Output → Bool
+output_asks_feature (literal t d) = false
+output_asks_feature (tokens s) = has_tokens s
+
+-- a function without a property has one rule over numbers, which gives what its outputs say, never the default
+abbrev pub outputs_ask_feature : Body → Bool
+outputs_ask_feature (plain (numeric way stops)) =
+    list_any (λ (s : Spelled × Output). output_asks_feature s.1) stops
+outputs_ask_feature body = false
+
+-- What a function mentions of the world: the zoom where its stops ask for it, and the feature where it has a
+-- property or an output that asks for it; never the state of the feature, nor the images.
+abbrev pub function_mentions : RowData → Function → Mentions
+function_mentions row f = record {
+  zoom = asks_zoom row f.property f.body;
+  feature = is_some f.property || outputs_ask_feature f.body;
+  state = false;
+  image = false;
+}
+
+-- The expression of a function that was read mentions what the function mentions.
+abbrev pub MigratedFunctionsMentionTheSame : Type 0
+MigratedFunctionsMentionTheSame =
+    (target : Target) (t : Tree) (f : Function) → IsTableRow target.row →
+    legacy.form target t ≡ Some (Some f) →
+    (e : Term) (values : List (List ℕ × Data)) →
+    reading_with (function_expression target.row f) values ≡ Ok (Some e) →
+    mentions e ≡ function_mentions target.row f
+
+-- The expression of a token text mentions the feature where the text has tokens, and nothing else.
+abbrev pub MigratedTokenTextsMentionTheFeature : Type 0
+MigratedTokenTextsMentionTheFeature =
+    (s : List ℕ) (e : Term) (values : List (List ℕ × Data)) →
+    reading_with (token_expression s) values ≡ Ok (Some e) →
+    mentions e ≡ record nothing { feature = has_tokens s }
