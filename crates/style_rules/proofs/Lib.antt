@@ -1,0 +1,9 @@
+pub mod PartLaws
+pub mod SuffixLaws
+pub mod LevelLaws
+pub mod DocumentLaws
+pub mod LayerLaws
+pub mod PropertyLaws
+pub mod ValueLaws
+pub mod ReportLaws
+pub mod KeyLaws

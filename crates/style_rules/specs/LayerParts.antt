@@ -1,0 +1,58 @@
+-- The members of a layer that rules on other members read, and the rules at a layer by them.
+use Rattle.std.specs.Prelude.{ℕ, List, [], ◌∷◌, codes, Bool, true, false, not, ◌||◌, ◌&&◌, Option, Some, None, is_some, is_none, if◌then◌else◌}
+use Rattle.std.specs.Str.{bytes_eq}
+use Rattle.decimal_json.specs.Tree.{Tree, Fields}
+use Rattle.property_tables.specs.declared.layer_type.LayerType.{LayerType}
+use Rattle.style_rules.specs.CodeView.{Parts}
+use Rattle.style_rules.specs.Ground.{Ground, sources_for, named_type}
+use Rattle.style_rules.specs.Parts.{then_some, member, has, text_in, type_in}
+use Rattle.style_rules.specs.Rules.{is_on_vector}
+
+abbrev pub parts_of : Tree → Parts
+parts_of layer = record {
+  id = member (codes "id") layer;
+  layer_type = member (codes "type") layer;
+  source = member (codes "source") layer;
+  source_layer = member (codes "source-layer") layer;
+  has_ref = has (codes "ref") layer;
+}
+
+-- with one member more
+abbrev pub with_member : Parts → List ℕ → Tree → Parts
+with_member p key t =
+    if bytes_eq key (codes "id") then record p { id = Some t } else
+    if bytes_eq key (codes "type") then record p { layer_type = Some t } else
+    if bytes_eq key (codes "source") then record p { source = Some t } else
+    if bytes_eq key (codes "source-layer") then record p { source_layer = Some t } else
+    if bytes_eq key (codes "ref") then record p { has_ref = true } else
+    p
+
+-- with all of these, one after the other
+abbrev pub with_members : Parts → List (List ℕ × Tree) → Parts
+with_members p [] = p
+with_members p (m ∷ ms) = with_members (with_member p m.0 m.1) ms
+
+abbrev pub no_parts : Parts
+no_parts = record { id = None; layer_type = None; source = None; source_layer = None; has_ref = false }
+
+abbrev pub type_by_parts : Parts → Option LayerType
+type_by_parts p = if p.has_ref then None else then_some p.layer_type type_in
+
+abbrev pub ground_typed : Option Fields → Parts → Option LayerType → Ground
+ground_typed sources p type = record {
+  type = type;
+  sources = sources_for sources type;
+  source_type = named_type (sources_for sources type) (then_some p.source text_in);
+}
+
+abbrev pub ground_by_parts : Option Fields → Parts → Ground
+ground_by_parts sources p = ground_typed sources p (type_by_parts p)
+
+-- the least rule that breaks at a layer
+abbrev pub layer_rule : Ground → Parts → Option ℕ
+layer_rule grounds p =
+    if is_none p.id then Some 7 else
+    if is_none p.layer_type || p.has_ref then Some 9 else
+    if is_some grounds.sources && is_none p.source then Some 10 else
+    if is_on_vector grounds && is_none p.source_layer then Some 12 else
+    None

@@ -1,0 +1,22 @@
+-- The three lists of what is told of a document.
+use Rattle.std.specs.Prelude.{◌≡◌, List, [], ◌∷◌, ◌++◌, map, if◌then◌else◌}
+use Rattle.decimal_json.specs.Tree.{Tree}
+use Rattle.style_rules.specs.CodeView.{finding_seen, may_seen}
+use Rattle.style_rules.specs.Findings.{told, findings_in, notes_in, may_in}
+use Rattle.style_rules.specs.declared.lists.Report.{Report}
+use Rattle.style_rules.specs.declared.told.Told.{Told}
+
+pub record IsReportOf (told : List Told) (report : Report) : Type 0 where
+  pub findings : map finding_seen report.findings ≡ findings_in told
+  pub notes : report.notes ≡ notes_in told
+  pub may_lines : map may_seen report.may_lines ≡ may_in told
+
+-- the findings, notes and may lines of a document
+abbrev pub IsReport : Tree → Report → Type 0
+IsReport document report = IsReportOf (told document) report
+
+-- a report as it was, and with what is told of one place more
+pub record Notes (told : Told) (old new : Report) : Type 0 where
+  pub findings : map finding_seen new.findings ≡ map finding_seen old.findings ++ findings_in (told ∷ [])
+  pub notes : new.notes ≡ old.notes ++ notes_in (told ∷ [])
+  pub may_lines : map may_seen new.may_lines ≡ map may_seen old.may_lines ++ may_in (told ∷ [])

@@ -1,0 +1,128 @@
+-- What the value of a property or a filter is, and what is told of it: that it breaks a rule, that it is outside, or which faults its
+-- evaluation may have.
+use Rattle.std.specs.Prelude.{ℕ, List, [], ◌∷◌, codes, Bool, true, false, ◌&&◌, ◌||◌, not, Option, Some, None, is_some, is_none, Result, Ok, Err, if◌then◌else◌}
+use Rattle.std.specs.Str.{bytes_eq}
+use Rattle.decimal_json.specs.Tree.{Tree, text, list, object, tree, Fields}
+use Rattle.decimal_json.specs.declared.paths.PathPart.{PathPart}
+use Rattle.prop_values.specs.Faults.{no_faults}
+use Rattle.prop_values.specs.declared.fault.FaultSet.{FaultSet}
+use Rattle.prop_values.specs.declared.kinds.Want.{Want}
+use Rattle.prop_values.specs.declared.kinds.Want.TheVariants as wants
+use Rattle.property_tables.specs.Literals.{literal_of}
+use Rattle.property_tables.specs.Rows.{RowData, takes_tokens}
+use Rattle.expr_syntax.specs.Names.{name_of}
+use Rattle.expr_syntax.specs.Reading.{Reading, reading}
+use Rattle.expr_types.specs.Checked.{checked}
+use Rattle.expr_types.specs.Typing.{Typed}
+use Rattle.expr_types.specs.declared.fault.TypeCode.{TypeCode}
+use Rattle.expr_types.specs.declared.fault.TypeCode.TheVariants as types
+use Rattle.legacy_filters.specs.Form as filters
+use Rattle.legacy_filters.specs.Split.{is_legacy}
+use Rattle.legacy_functions.specs.Form as functions
+use Rattle.legacy_functions.specs.Function.{Function, has_zooms}
+use Rattle.legacy_functions.specs.ToExpression.{function_expression}
+use Rattle.legacy_functions.specs.Tokens.{has_tokens}
+use Rattle.style_rules.specs.Parts.{is_object}
+use Rattle.style_rules.specs.declared.told.Mark.{Mark}
+use Rattle.style_rules.specs.declared.told.Mark.TheVariants.{Broken, Outside, Sound}
+
+-- ---- the value of a property is one of four, decided in this order
+
+pub data Form : Type 0 where
+  expression : Form
+  function : Form
+  token_text : Form
+  literal : Form
+
+-- a non-empty array whose first element is the name of an operator, one that is outside too
+abbrev pub is_expression : Tree → Bool
+is_expression (list (tree (text name) ts)) = is_some (name_of name)
+is_expression _ = false
+
+abbrev pub is_function : Tree → Bool
+is_function t = is_object t
+
+abbrev pub is_token_text : RowData → Tree → Bool
+is_token_text row (text s) = takes_tokens row.name && has_tokens s
+is_token_text row _ = false
+
+-- `visibility` takes a literal alone
+abbrev pub takes_literals_alone : RowData → Bool
+takes_literals_alone row = bytes_eq row.name (codes "visibility")
+
+abbrev pub form_of : RowData → Tree → Form
+form_of row t =
+    if takes_literals_alone row then literal else
+    if is_expression t then expression else
+    if is_function t then function else
+    if is_token_text row t then token_text else
+    literal
+
+-- ---- V15: a literal meets its row's kind and range
+
+abbrev pub literal_mark : RowData → Tree → Mark
+literal_mark row t = if is_some (literal_of t row) then Sound no_faults else Broken [] 15
+
+-- ---- V16: an expression that is not outside is read and typed without fault. V17: it reads what it may. V18: `zoom` stands at its place.
+
+abbrev pub rule_of : TypeCode → ℕ
+rule_of types.Kind = 16
+rule_of types.NotInterpolable = 16
+rule_of types.NotComparable = 16
+rule_of types.Input = 17
+rule_of types.ZoomPlace = 18
+
+abbrev pub typed_mark : Typed → Mark
+typed_mark (Ok found) = Sound found.node.may
+typed_mark (Err fault) = Broken fault.path (rule_of fault.code)
+
+abbrev pub read_mark : Want → Option RowData → Reading → Mark
+read_mark want row (Ok (Some t)) = typed_mark (checked t want row)
+read_mark want row (Ok None) = Outside
+read_mark want row (Err fault) = Broken fault.path 16
+
+-- as the value of a row, or as a filter where there is none
+abbrev pub expression_mark : Want → Option RowData → Tree → Mark
+expression_mark want row t = read_mark want row (reading t)
+
+-- ---- V19: a legacy function has its form. V17: a zoom stop needs a row that reads the zoom, and `property` one that reads feature data.
+
+abbrev pub function_reads : RowData → Function → Bool
+function_reads row f = (row.reads.zoom || not (has_zooms f)) && (row.reads.feature || is_none f.property)
+
+-- the faults that may come are those of its expression
+abbrev pub faults_told : Mark → FaultSet
+faults_told (Sound faults) = faults
+faults_told _ = no_faults
+
+abbrev pub function_faults : RowData → Function → FaultSet
+function_faults row f = faults_told (expression_mark row.want (Some row) (function_expression row f))
+
+abbrev pub function_mark : RowData → Option (Option Function) → Mark
+function_mark row (Some (Some f)) = if function_reads row f then Sound (function_faults row f) else Broken [] 17
+function_mark row (Some None) = Outside
+function_mark row None = Broken [] 19
+
+abbrev pub target_of : RowData → functions.Target
+target_of row = record { row = row; takes_tokens = takes_tokens row.name }
+
+-- ---- the value of a property
+
+abbrev pub form_mark : Form → RowData → Tree → Mark
+form_mark expression row t = expression_mark row.want (Some row) t
+form_mark function row t = function_mark row (functions.form (target_of row) t)
+form_mark token_text row t = Sound no_faults
+form_mark literal row t = literal_mark row t
+
+abbrev pub value_mark : RowData → Tree → Mark
+value_mark row t = form_mark (form_of row t) row t
+
+-- ---- filters. V20: one that is legacy has its form. V16, V17: one that is an expression is read and typed as a truth value, and reads no
+-- feature state.
+
+abbrev pub legacy_mark : filters.Read → Mark
+legacy_mark (Ok f) = Sound no_faults
+legacy_mark (Err fault) = Broken fault.path 20
+
+abbrev pub filter_mark : Tree → Mark
+filter_mark t = if is_legacy t then legacy_mark (filters.reading t) else expression_mark wants.Boolean None t

@@ -1,0 +1,91 @@
+//! What is told of a document, in its three lists.
+
+ghost use Rattle.std.specs.Prelude.{◌≡◌, map, not, OnOk, IfOk};
+ghost use Rattle.decimal_json.specs.View.{tree_of};
+ghost use Rattle.style_rules.specs.CodeView.{finding_seen, may_seen};
+ghost use Rattle.style_rules.specs.Findings.{findings, notes, may_lines, has_faults};
+ghost use Rattle.style_rules.specs.Reports.{IsReport, IsReportOf, Notes};
+
+use crate::document::examine;
+use crate::lists::{Finding, Findings, MayLine, MayLines, Paths, Report};
+use crate::told::{Told, ToldList};
+use decimal_json::Json;
+use prop_values::{EvalFault, FaultSet};
+use std::alloc::{AllocError, Global};
+
+/// All that is told of a document, found in one walk.
+pub fn examined(alloc: Global, document: &Json) -> Result<Report, AllocError>
+    ensures { IfOk result (λ report. IsReport (tree_of document.now) report) }
+{
+    let told = examine(alloc, document)?;
+    report_of(alloc, told)
+}
+
+fn report_of(alloc: Global, told: ToldList) -> Result<Report, AllocError>
+    ensures { IfOk result (λ report. IsReportOf told report) }
+{
+    let mut report = Report {
+        findings: Findings::new(alloc),
+        notes: Paths::new(alloc),
+        may_lines: MayLines::new(alloc),
+    };
+    for one in told.all {
+        note(&mut report, one)?;
+    }
+    Ok(report)
+}
+
+fn note(report: &mut Report, told: Told) -> Result<(), AllocError>
+    ensures { OnOk result (Notes told report.old report.new) }
+{
+    match told {
+        Told::Finding(path, rule) => report.findings.push(Finding { path, rule }),
+        Told::Note(path) => report.notes.push(path),
+        Told::May(path, faults) => {
+            if is_empty(faults) {
+                return Ok(());
+            }
+            report.may_lines.push(MayLine { path, faults })
+        }
+    }
+}
+
+fn is_empty(faults: FaultSet) -> bool
+    ensures { result ≡ not (has_faults faults) }
+{
+    !(faults.holds(EvalFault::WrongType)
+        || faults.holds(EvalFault::NotColor)
+        || faults.holds(EvalFault::NotNumberText)
+        || faults.holds(EvalFault::IndexOutside)
+        || faults.holds(EvalFault::IndexNotWhole)
+        || faults.holds(EvalFault::DivideByZero)
+        || faults.holds(EvalFault::Overflow)
+        || faults.holds(EvalFault::ColorRange)
+        || faults.holds(EvalFault::NotOrdered)
+        || faults.holds(EvalFault::NotInEnum))
+}
+
+/// The findings of a document: each place that breaks a rule, with the least rule that it breaks, in the order of the text and none
+/// below another.
+pub fn findings(alloc: Global, document: &Json) -> Result<Findings, AllocError>
+    ensures { IfOk result (λ found. map finding_seen found ≡ findings (tree_of document.now)) }
+{
+    let report = examined(alloc, document)?;
+    Ok(report.findings)
+}
+
+/// The paths of the values and filters that are outside, in the order of the text. Asks a document without findings.
+pub fn notes(alloc: Global, document: &Json) -> Result<Paths, AllocError>
+    ensures { IfOk result (λ paths. paths ≡ notes (tree_of document.now)) }
+{
+    let report = examined(alloc, document)?;
+    Ok(report.notes)
+}
+
+/// The values and filters whose evaluation may fault, in the order of the text. Asks a document without findings.
+pub fn may_lines(alloc: Global, document: &Json) -> Result<MayLines, AllocError>
+    ensures { IfOk result (λ lines. map may_seen lines ≡ may_lines (tree_of document.now)) }
+{
+    let report = examined(alloc, document)?;
+    Ok(report.may_lines)
+}

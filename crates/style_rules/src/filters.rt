@@ -1,0 +1,25 @@
+//! What is told of a filter.
+
+ghost use Rattle.std.specs.Prelude.{◌≡◌, IfOk};
+ghost use Rattle.decimal_json.specs.View.{tree_of};
+ghost use Rattle.style_rules.specs.Values.{filter_mark};
+
+use crate::told::Mark;
+use crate::values::expression_mark;
+use decimal_json::Json;
+use legacy_filters::{is_legacy, read};
+use prop_values::{FaultSet, Want};
+use std::alloc::{AllocError, Global};
+
+/// What is told of the filter of a layer.
+pub(crate) fn filter_mark(alloc: Global, filter: &Json) -> Result<Mark, AllocError>
+    ensures { IfOk result (λ mark. mark ≡ filter_mark (tree_of filter.now)) }
+{
+    if !is_legacy(filter) {
+        return expression_mark(alloc, &Want::Boolean, None, filter);
+    }
+    match read(alloc, filter)? {
+        Ok(_) => Ok(Mark::Sound(FaultSet::empty())),
+        Err(fault) => Ok(Mark::Broken(fault.path, 20)),
+    }
+}

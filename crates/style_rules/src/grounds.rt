@@ -1,0 +1,216 @@
+//! What the rules on a layer stand on.
+
+ghost use Rattle.std.specs.Prelude.{◌≡◌, Some};
+ghost use Rattle.decimal_json.specs.Tree.{object, HasDistinctKeys};
+ghost use Rattle.decimal_json.specs.View.{tree_of, fields, members_view};
+ghost use Rattle.style_rules.specs.CodeView.{fields_at, text_at, tree_at, ground_seen, parts_seen};
+ghost use Rattle.style_rules.specs.Ground.{sources_for, named_type, source_type, source_types, tested_type, is_source};
+ghost use Rattle.style_rules.specs.LayerParts.{parts_of, with_member, type_by_parts, ground_by_parts};
+ghost use Rattle.style_rules.specs.Parts.{then_some, text_in, type_in, is_among};
+ghost use Rattle.style_rules.specs.Rules.{has_such_source, is_on_vector, is_source_name, suits};
+
+use crate::members::{is_object, members_in, text_in};
+use decimal_json::{Json, Member, Members};
+use property_tables::LayerType;
+
+/// The members of a layer that rules on other members read, found in one walk.
+#[derive(Clone, Copy)]
+pub(crate) struct LayerParts<'a> {
+    pub(crate) id: Option<&'a Json>,
+    pub(crate) layer_type: Option<&'a Json>,
+    pub(crate) source: Option<&'a Json>,
+    pub(crate) source_layer: Option<&'a Json>,
+    pub(crate) has_ref: bool,
+}
+
+#[tactic(auto, using(crate::proofs::PartLaws::found_parts))]
+pub(crate) fn parts_of(members: &[Member]) -> LayerParts<'_>
+    requires { HasDistinctKeys (members_view members.now) }
+    ensures { parts_seen result ≡ parts_of (object (fields members.now)) }
+{
+    let mut parts = LayerParts {
+        id: None,
+        layer_type: None,
+        source: None,
+        source_layer: None,
+        has_ref: false,
+    };
+    for member in members {
+        parts = with_member(parts, member);
+    }
+    parts
+}
+
+fn with_member<'a>(parts: LayerParts<'a>, member: &'a Member) -> LayerParts<'a>
+    ensures { parts_seen result ≡ with_member (parts_seen parts.entry) member.now.key (tree_of member.now.value) }
+{
+    let mut parts = parts;
+    match member.key.as_str() {
+        "id" => parts.id = Some(&member.value),
+        "type" => parts.layer_type = Some(&member.value),
+        "source" => parts.source = Some(&member.value),
+        "source-layer" => parts.source_layer = Some(&member.value),
+        "ref" => parts.has_ref = true,
+        _ => {}
+    }
+    parts
+}
+
+/// What the members of one layer stand on.
+#[derive(Clone, Copy)]
+pub(crate) struct Ground<'a> {
+    /// The type of the layer, where that is well formed and it has no `ref`.
+    pub(crate) layer_type: Option<LayerType>,
+    /// The sources among which it has to name one.
+    pub(crate) sources: Option<&'a Members>,
+    /// The type of the source that it names, where that is well formed.
+    pub(crate) source_type: Option<&'a str>,
+}
+
+pub(crate) fn ground_of<'a>(sources: Option<&'a Members>, parts: &LayerParts<'a>) -> Ground<'a>
+    ensures { ground_seen result ≡ ground_by_parts (fields_at sources.entry) (parts_seen parts.now) }
+{
+    let layer_type = layer_type(parts);
+    let sources = sources_for(sources, layer_type);
+    Ground {
+        layer_type,
+        sources,
+        source_type: named_type(sources, parts.source),
+    }
+}
+
+fn layer_type(parts: &LayerParts<'_>) -> Option<LayerType>
+    ensures { result ≡ type_by_parts (parts_seen parts.now) }
+{
+    if parts.has_ref {
+        return None;
+    }
+    match parts.layer_type {
+        Some(json) => type_in(json),
+        None => None,
+    }
+}
+
+/// The type of a layer that a tree names.
+pub(crate) fn type_in(json: &Json) -> Option<LayerType>
+    ensures { result ≡ type_in (tree_of json.now) }
+{
+    match text_in(json) {
+        Some(name) => LayerType::named(name),
+        None => None,
+    }
+}
+
+fn sources_for(sources: Option<&Members>, layer_type: Option<LayerType>) -> Option<&Members>
+    ensures { fields_at result ≡ sources_for (fields_at sources.entry) layer_type }
+{
+    match layer_type {
+        Some(LayerType::Background) => None,
+        Some(_) => sources,
+        None => None,
+    }
+}
+
+fn named_type<'a>(sources: Option<&'a Members>, source: Option<&'a Json>) -> Option<&'a str>
+    ensures { text_at result ≡ named_type (fields_at sources.entry) (then_some (tree_at source.entry) text_in) }
+{
+    let Some(sources) = sources else {
+        return None;
+    };
+    let Some(source) = source else {
+        return None;
+    };
+    let Some(name) = text_in(source) else {
+        return None;
+    };
+    match sources.get(name) {
+        Some(found) => source_type(found),
+        None => None,
+    }
+}
+
+/// The type of a source that is well formed.
+pub(crate) fn source_type(source: &Json) -> Option<&str>
+    ensures { text_at result ≡ source_type (tree_of source.now) }
+{
+    let Some(members) = members_in(source) else {
+        return None;
+    };
+    let Some(named) = members.get("type") else {
+        return None;
+    };
+    match text_in(named) {
+        Some(name) if is_source_type(name) => Some(name),
+        _ => None,
+    }
+}
+
+fn is_source_type(name: &str) -> bool
+    ensures { result ≡ is_among source_types (Some name.now) }
+{
+    match name {
+        "vector" | "raster" | "raster-dem" | "geojson" | "image" | "video" => true,
+        _ => false,
+    }
+}
+
+/// The type of a layer whose layout and paint are tested.
+pub(crate) fn tested_type(layer_type: Option<LayerType>) -> Option<LayerType>
+    ensures { result ≡ tested_type layer_type }
+{
+    match layer_type {
+        Some(LayerType::Hillshade) => None,
+        Some(LayerType::ColorRelief) => None,
+        other => other,
+    }
+}
+
+impl Ground<'_> {
+    /// Whether a layer of this type may be on the source that it names.
+    pub(crate) fn has_such_source(&self) -> bool
+        ensures { result ≡ has_such_source (ground_seen self.now) }
+    {
+        match (self.layer_type, self.source_type) {
+            (Some(layer_type), Some(source)) => suits(layer_type, source),
+            _ => true,
+        }
+    }
+
+    pub(crate) fn is_on_vector(&self) -> bool
+        ensures { result ≡ is_on_vector (ground_seen self.now) }
+    {
+        match self.source_type {
+            Some(name) => name == "vector",
+            None => false,
+        }
+    }
+
+    pub(crate) fn is_source_name(&self, json: &Json) -> bool
+        ensures { result ≡ is_source_name (ground_seen self.now) (tree_of json.now) }
+    {
+        let Some(sources) = self.sources else {
+            return true;
+        };
+        match text_in(json) {
+            Some(name) => sources.get(name).is_some(),
+            None => false,
+        }
+    }
+}
+
+fn suits(layer_type: LayerType, source: &str) -> bool
+    ensures { result ≡ suits (Some layer_type) (Some source.now) }
+{
+    match layer_type {
+        LayerType::Raster => source == "raster" || source == "image" || source == "video",
+        LayerType::Hillshade => source == "raster-dem",
+        LayerType::ColorRelief => source == "raster-dem",
+        _ => source == "vector" || source == "geojson",
+    }
+}
+
+pub(crate) fn is_source(json: &Json) -> bool
+    ensures { result ≡ is_source (tree_of json.now) }
+{
+    is_object(json) && source_type(json).is_some()
+}

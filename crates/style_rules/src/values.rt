@@ -1,0 +1,161 @@
+//! What is told of the value of a property.
+
+ghost use Rattle.std.specs.Prelude.{◌≡◌, [], Some, option_map, IfOk};
+ghost use Rattle.decimal_json.specs.Tree.{list};
+ghost use Rattle.decimal_json.specs.View.{tree_of, trees};
+ghost use Rattle.property_tables.specs.RowView.{row_seen};
+ghost use Rattle.property_tables.specs.Rows.{takes_tokens};
+ghost use Rattle.legacy_functions.specs.Form.{form};
+ghost use Rattle.legacy_functions.specs.View.{function_of, row_of};
+ghost use Rattle.style_rules.specs.CodeView.{judged_mark};
+ghost use Rattle.style_rules.specs.Values.{value_mark, is_expression, is_token_text, literal_mark, expression_mark, rule_of, function_mark, target_of, function_reads, faults_told};
+
+use crate::members::is_object;
+use crate::told::Mark;
+use decimal_json::{Json, Path};
+use expr_syntax::{Reading, operator_named, read_expr};
+use expr_types::{TypeCode, TypeFault, Typed, check};
+use legacy_functions::{Function, FunctionReading, has_tokens, read};
+use prop_values::{FaultSet, Want};
+use property_tables::{Row, literal};
+use std::alloc::{AllocError, Global};
+
+/// What is told of the value of a property of a row.
+pub(crate) fn value_mark(alloc: Global, row: &Row, json: &Json) -> Result<Mark, AllocError>
+    requires { row.now.tokens ≡ takes_tokens row.now.name.now }
+    ensures { IfOk result (λ mark. mark ≡ value_mark (row_seen row.now) (tree_of json.now)) }
+{
+    if row.name == "visibility" {
+        return literal_mark(alloc, row, json);
+    }
+    if is_expression(json) {
+        return expression_mark(alloc, &row.want, Some(row), json);
+    }
+    if is_object(json) {
+        return function_mark(alloc, row, json);
+    }
+    if is_token_text(row, json) {
+        return Ok(Mark::Sound(FaultSet::empty()));
+    }
+    literal_mark(alloc, row, json)
+}
+
+fn is_expression(json: &Json) -> bool
+    ensures { result ≡ is_expression (tree_of json.now) }
+{
+    match json {
+        Json::List(items) => is_call(items.as_slice()),
+        _ => false,
+    }
+}
+
+fn is_call(items: &[Json]) -> bool
+    ensures { result ≡ is_expression (list (trees items.now)) }
+{
+    match items {
+        [Json::Text(name), ..] => operator_named(name.as_str()).is_some(),
+        _ => false,
+    }
+}
+
+fn is_token_text(row: &Row, json: &Json) -> bool
+    requires { row.now.tokens ≡ takes_tokens row.now.name.now }
+    ensures { result ≡ is_token_text (row_seen row.now) (tree_of json.now) }
+{
+    match json {
+        Json::Text(text) => row.tokens && has_tokens(text.as_str()),
+        _ => false,
+    }
+}
+
+fn broken(alloc: Global, rule: u8) -> Mark
+    ensures { result ≡ Mark.Broken [] rule }
+{
+    Mark::Broken(Path::new(alloc), rule)
+}
+
+fn literal_mark(alloc: Global, row: &Row, json: &Json) -> Result<Mark, AllocError>
+    ensures { IfOk result (λ mark. mark ≡ literal_mark (row_seen row.now) (tree_of json.now)) }
+{
+    match literal(alloc, json, row)? {
+        Some(_) => Ok(Mark::Sound(FaultSet::empty())),
+        None => Ok(broken(alloc, 15)),
+    }
+}
+
+/// What is told of an expression, as the value of a row, or as a filter where there is none.
+#[tactic(auto, using(crate::proofs::ValueLaws::judged_typed))]
+pub(crate) fn expression_mark(
+    alloc: Global,
+    want: &Want,
+    row: Option<&Row>,
+    json: &Json,
+) -> Result<Mark, AllocError>
+    ensures { IfOk result (λ mark. mark ≡ expression_mark want.now (option_map (λ r. row_seen r.now) row.entry) (tree_of json.now)) }
+{
+    match read_expr(alloc, json)? {
+        Ok(Reading::Inside(expression)) => { Ok(typed_mark(check(alloc, &expression, want, row)?)) }
+        Ok(Reading::Outside) => Ok(Mark::Outside),
+        Err(fault) => Ok(Mark::Broken(fault.path, 16)),
+    }
+}
+
+fn typed_mark(typed: Result<Typed<'_>, TypeFault>) -> Mark
+    ensures { result ≡ judged_mark typed.entry }
+{
+    match typed {
+        Ok(typed) => Mark::Sound(typed.may()),
+        Err(fault) => Mark::Broken(fault.path, rule_of(fault.code)),
+    }
+}
+
+fn rule_of(code: TypeCode) -> u8
+    ensures { result ≡ rule_of code }
+{
+    match code {
+        TypeCode::Kind => 16,
+        TypeCode::NotInterpolable => 16,
+        TypeCode::NotComparable => 16,
+        TypeCode::Input => 17,
+        TypeCode::ZoomPlace => 18,
+    }
+}
+
+fn function_mark(alloc: Global, row: &Row, json: &Json) -> Result<Mark, AllocError>
+    requires { row.now.tokens ≡ takes_tokens row.now.name.now }
+    ensures { IfOk result (λ mark. mark ≡ function_mark (row_seen row.now) (form (target_of (row_seen row.now)) (tree_of json.now))) }
+{
+    match read(alloc, json, row)? {
+        Ok(FunctionReading::Inside(function)) => inside_mark(alloc, row, &function),
+        Ok(FunctionReading::Outside) => Ok(Mark::Outside),
+        Err(_) => Ok(broken(alloc, 19)),
+    }
+}
+
+/// A function reads what its row may, and may have the faults of its expression.
+fn inside_mark(alloc: Global, row: &Row, function: &Function) -> Result<Mark, AllocError>
+    requires { row_of function.now ≡ row_seen row.now }
+    ensures { IfOk result (λ mark. mark ≡ function_mark (row_seen row.now) (Some (Some (function_of function.now)))) }
+{
+    if !reads_allowed(row, function) {
+        return Ok(broken(alloc, 17));
+    }
+    let expression = function.to_expr(alloc)?;
+    let mark = expression_mark(alloc, &row.want, Some(row), &expression)?;
+    Ok(Mark::Sound(faults_told(&mark)))
+}
+
+fn reads_allowed(row: &Row, function: &Function) -> bool
+    ensures { result ≡ function_reads (row_seen row.now) (function_of function.now) }
+{
+    (row.zoom || !function.has_zooms()) && (row.feature || !function.has_property())
+}
+
+fn faults_told(mark: &Mark) -> FaultSet
+    ensures { result ≡ faults_told mark.now }
+{
+    match mark {
+        Mark::Sound(faults) => *faults,
+        _ => FaultSet::empty(),
+    }
+}
