@@ -56,6 +56,7 @@ module _ (law : EveryFaultIsListed) (files : List ℕ → Option (List ℕ)) (im
   found_asked : (ask : words.Asked) (o : Outcome) → HasOutcome files (asked_run images scripts ask) o → EndsFound o → ListsItsFault images scripts ask
   found_asked (words.Value expression) o (inl (t, spelled, is)) ends = found_reading law images scripts expression t spelled (reading t) refl (sym (ap (λ p. status_of p.ending) is) ∙ ends)
   found_asked (words.Value expression) o (inr (kind, at, none, place, cause, is)) ends = absurd (let refused = ap (λ p. status_of p.ending) is in cc)
+  found_asked (words.Validate style) o defined ends = tt
   found_asked (words.Eval w) o defined ends = tt
   found_asked words.Help o defined ends = tt
   found_asked words.Version o defined ends = tt

@@ -3,6 +3,7 @@ pub mod Words
 pub mod Refusals
 pub mod ValueRun
 pub mod EvalRun
+pub mod ValidateRun
 pub mod Commands
 pub mod ListedFaults
 -- A law of these.

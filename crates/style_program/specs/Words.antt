@@ -16,6 +16,8 @@ pub record EvalWords : Type 0 where
 pub data Asked : Type 0 where
   -- the value of an expression, which is JSON text
   Value : (expression : List ℕ) → Asked
+  -- what a style breaks: the name of its file
+  Validate : (style : List ℕ) → Asked
   -- what a style shows
   Eval : EvalWords → Asked
   Help : Asked
@@ -43,9 +45,15 @@ asked_eval style (Err fault) parts = Wrong
 abbrev pub asked_alone : List ℕ → Asked
 asked_alone word = if bytes_eq word (codes "--help") then Help else if bytes_eq word (codes "--version") then Version else Wrong
 
--- `value` has one word more, and `eval` three
+-- `value` and `validate` have one word more, and `eval` three
+abbrev pub asked_of_one : (command word : List ℕ) → Asked
+asked_of_one command word =
+    if bytes_eq command (codes "value") then Value word else
+    if bytes_eq command (codes "validate") then Validate word else
+    Wrong
+
 abbrev pub asked : List (List ℕ) → Asked
 asked (word ∷ []) = asked_alone word
-asked (command ∷ expression ∷ []) = if bytes_eq command (codes "value") then Value expression else Wrong
+asked (command ∷ word ∷ []) = asked_of_one command word
 asked (command ∷ style ∷ zoom ∷ tile ∷ []) = if bytes_eq command (codes "eval") then asked_eval style (read_text zoom) (source_and_tile tile) else Wrong
 asked _ = Wrong

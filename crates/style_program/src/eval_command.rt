@@ -24,7 +24,7 @@ use std::alloc::{AllocError, Global};
 use tile_reader::{Feature, read_tile};
 
 /// The longest style and the longest tile, in bytes.
-const STYLE_LIMIT: usize = 4_194_304;
+pub const STYLE_LIMIT: usize = 4_194_304;
 
 const TILE_LIMIT: usize = 16_777_216;
 

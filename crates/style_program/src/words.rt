@@ -1,7 +1,7 @@
 ghost use Rattle.std.specs.Prelude.{◌≡◌, map, string_bytes, option_map, codes, if◌then◌else◌};
 ghost use Rattle.std.specs.Str.{bytes_eq};
 ghost use Rattle.fixed_num.specs.Decimal.{read_text};
-ghost use Rattle.style_program.specs.Words.{Value, Wrong, asked, asked_alone, asked_eval, source_and_tile};
+ghost use Rattle.style_program.specs.Words.{Wrong, asked, asked_alone, asked_of_one, asked_eval, source_and_tile};
 ghost use Rattle.style_program.specs.WordsView.{asked_by};
 
 use fixed_num::{Fixed, read_decimal};
@@ -20,6 +20,8 @@ pub struct EvalRequest<'a> {
 pub enum Request<'a> {
     /// The value of this expression.
     Value(&'a str),
+    /// What a style breaks.
+    Validate(&'a str),
     /// What a style shows.
     Eval(EvalRequest<'a>),
     Help,
@@ -34,7 +36,7 @@ pub fn request_of(words: &[String]) -> Request<'_>
 {
     match words {
         [word] => request_alone(word.as_str()),
-        [command, expression] => request_value(command.as_str(), expression.as_str()),
+        [command, word] => request_of_one(command.as_str(), word.as_str()),
         [command, style, zoom, tile] => {
             request_eval(
                 command.as_str(),
@@ -57,13 +59,13 @@ fn request_alone<'a>(word: &str) -> Request<'a>
     }
 }
 
-fn request_value<'a>(command: &str, expression: &'a str) -> Request<'a>
-    ensures { asked_by result ≡ (if bytes_eq command.now (codes "value") then Value expression.now else Wrong) }
+fn request_of_one<'a>(command: &str, word: &'a str) -> Request<'a>
+    ensures { asked_by result ≡ asked_of_one command.now word.now }
 {
-    if command == "value" {
-        Request::Value(expression)
-    } else {
-        Request::Wrong
+    match command {
+        "value" => Request::Value(word),
+        "validate" => Request::Validate(word),
+        _ => Request::Wrong,
     }
 }
 
