@@ -1,5 +1,5 @@
 -- A run of `value` that ends in Found gave a fault, which was listed.
-use Rattle.std.specs.Prelude.{◌≡◌, ℕ, List, [], Bool, true, Option, Some, None, Result, Ok, Err}
+use Rattle.std.specs.Prelude.{◌≡◌, ℕ, List, [], Bool, Option, Some, None, Result, Ok, Err}
 use Rattle.std.proofs.Common.{refl, sym, ap, subst, ◌∙◌, inl, inr}
 use Rattle.json_tokens.specs.Rules.{all_rules}
 use Rattle.decimal_json.specs.Grammar.{Spells}
@@ -57,6 +57,7 @@ module _ (law : EveryFaultIsListed) (files : List ℕ → Option (List ℕ)) (im
   found_asked (words.Value expression) o (inl (t, spelled, is)) ends = found_reading law images scripts expression t spelled (reading t) refl (sym (ap (λ p. status_of p.ending) is) ∙ ends)
   found_asked (words.Value expression) o (inr (kind, at, none, place, cause, is)) ends = absurd (let refused = ap (λ p. status_of p.ending) is in cc)
   found_asked (words.Validate style) o defined ends = tt
+  found_asked (words.Migrate style) o defined ends = tt
   found_asked (words.Eval w) o defined ends = tt
   found_asked words.Help o defined ends = tt
   found_asked words.Version o defined ends = tt

@@ -4,6 +4,7 @@ use Rattle.program_runs.specs.declared.status.Ending.TheVariants.{Fine, Usage}
 use Rattle.program_runs.specs.Outcome.{line, said, told}
 use Rattle.program_runs.specs.Runs.{Run, ends}
 use Rattle.style_program.specs.EvalRun.{eval_run}
+use Rattle.style_program.specs.MigrateRun.{migrate_run}
 use Rattle.style_program.specs.ValidateRun.{validate_run}
 use Rattle.style_program.specs.ValueRun.{value_run}
 use Rattle.style_program.specs.Words as words
@@ -12,6 +13,7 @@ abbrev pub help_text : List ℕ
 help_text =
     line (codes "value EXPR                      prints the value of an expression as JSON, or error and the fault's name") ++
     line (codes "validate STYLE                  prints what a style breaks and invalid, or what may go wrong and valid") ++
+    line (codes "migrate STYLE                   prints a style with its legacy forms as expressions, or what it breaks and invalid") ++
     line (codes "eval STYLE ZOOM SOURCE=TILE     prints what a style shows at a zoom over a tile of its source") ++
     line (codes "--help                          prints these lines") ++
     line (codes "--version                       prints the program's name and version")
@@ -24,6 +26,7 @@ module _ (images scripts : List ℕ → Bool) where
   abbrev pub asked_run : words.Asked → Run
   asked_run (words.Value expression) = value_run images scripts expression
   asked_run (words.Validate style) = validate_run style
+  asked_run (words.Migrate style) = migrate_run style
   asked_run (words.Eval w) = eval_run w images scripts
   asked_run words.Help = ends (said help_text Fine)
   asked_run words.Version = ends (said version_text Fine)

@@ -4,6 +4,7 @@ pub mod Refusals
 pub mod ValueRun
 pub mod EvalRun
 pub mod ValidateRun
+pub mod MigrateRun
 pub mod Commands
 pub mod ListedFaults
 -- A law of these.

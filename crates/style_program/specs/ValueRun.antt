@@ -1,5 +1,5 @@
 -- The run of `value`: the value of an expression, or the fault of its evaluation.
-use Rattle.std.specs.Prelude.{◌≡◌, ℕ, pos, List, [], ◌++◌, codes, Bool, Option, Some, None, Result, Ok, Err}
+use Rattle.std.specs.Prelude.{ℕ, pos, List, [], ◌++◌, codes, Bool, Some, None, Result, Ok, Err}
 use Rattle.prop_values.specs.Data.{Data}
 use Rattle.prop_values.specs.Faults.{fault_name}
 use Rattle.prop_values.specs.ValueText.{listed_text}

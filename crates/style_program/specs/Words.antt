@@ -18,6 +18,8 @@ pub data Asked : Type 0 where
   Value : (expression : List ℕ) → Asked
   -- what a style breaks: the name of its file
   Validate : (style : List ℕ) → Asked
+  -- a style in expressions
+  Migrate : (style : List ℕ) → Asked
   -- what a style shows
   Eval : EvalWords → Asked
   Help : Asked
@@ -45,11 +47,12 @@ asked_eval style (Err fault) parts = Wrong
 abbrev pub asked_alone : List ℕ → Asked
 asked_alone word = if bytes_eq word (codes "--help") then Help else if bytes_eq word (codes "--version") then Version else Wrong
 
--- `value` and `validate` have one word more, and `eval` three
+-- `value`, `validate` and `migrate` have one word more, and `eval` three
 abbrev pub asked_of_one : (command word : List ℕ) → Asked
 asked_of_one command word =
     if bytes_eq command (codes "value") then Value word else
     if bytes_eq command (codes "validate") then Validate word else
+    if bytes_eq command (codes "migrate") then Migrate word else
     Wrong
 
 abbrev pub asked : List (List ℕ) → Asked

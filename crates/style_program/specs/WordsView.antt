@@ -2,7 +2,7 @@
 use Rattle.style_program.specs.declared.words.EvalRequest.{EvalRequest}
 use Rattle.style_program.specs.declared.words.Request.{Request}
 use Rattle.style_program.specs.declared.words.Request.TheVariants as code
-use Rattle.style_program.specs.Words.{EvalWords, Asked, Value, Validate, Eval, Help, Version, Wrong}
+use Rattle.style_program.specs.Words.{EvalWords, Asked, Value, Validate, Migrate, Eval, Help, Version, Wrong}
 
 abbrev pub eval_words : EvalRequest → EvalWords
 eval_words r = record { style = r.style.now; zoom = r.zoom; source = r.source.now; tile = r.tile.now }
@@ -10,6 +10,7 @@ eval_words r = record { style = r.style.now; zoom = r.zoom; source = r.source.no
 abbrev pub asked_by : Request → Asked
 asked_by (code.Value expression) = Value expression.now
 asked_by (code.Validate style) = Validate style.now
+asked_by (code.Migrate style) = Migrate style.now
 asked_by (code.Eval r) = Eval (eval_words r)
 asked_by code.Help = Help
 asked_by code.Version = Version

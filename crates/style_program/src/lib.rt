@@ -10,11 +10,12 @@
 //! (`words_have_one_outcome`). Where nothing outside fails and memory suffices, the run has its outcome; in every run what is written is a
 //! prefix of it, or of the line that tells which file could not be read; and each status has its cause.
 //!
-//! The text to believe is in `specs/`: `Words`, `Refusals`, `ValueRun`, `EvalRun`, `ValidateRun`, `Commands`. Law of it: `OneOutcome`.
+//! The text to believe is in `specs/`: `Words`, `Refusals`, `ValueRun`, `EvalRun`, `ValidateRun`, `MigrateRun`, `Commands`. Law of it: `OneOutcome`.
 #![tactic(auto)]
 
 mod eval_command;
 mod laws;
+mod migrate_command;
 mod refusals;
 mod reply;
 mod top;

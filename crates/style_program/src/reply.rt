@@ -6,6 +6,7 @@ ghost use Rattle.style_program.specs.Commands.{asked_run};
 ghost use Rattle.style_program.specs.WordsView.{asked_by};
 
 use crate::eval_command::answer_eval;
+use crate::migrate_command::answer_migrate;
 use crate::validate_command::answer_validate;
 use crate::value_command::answer_value;
 use crate::words::Request;
@@ -17,6 +18,7 @@ use std::alloc::Global;
 const HELP: &[u8] =
     b"value EXPR                      prints the value of an expression as JSON, or error and the fault's name
 validate STYLE                  prints what a style breaks and invalid, or what may go wrong and valid
+migrate STYLE                   prints a style with its legacy forms as expressions, or what it breaks and invalid
 eval STYLE ZOOM SOURCE=TILE     prints what a style shows at a zoom over a tile of its source
 --help                          prints these lines
 --version                       prints the program's name and version
@@ -44,6 +46,7 @@ pub fn answer_to<'a, F: Files>(
     match request {
         Request::Value(expression) => answer_value(alloc, expression, images, scripts),
         Request::Validate(style) => answer_validate(alloc, style, files),
+        Request::Migrate(style) => answer_migrate(alloc, style, files),
         Request::Eval(request) => answer_eval(alloc, request, files, images, scripts),
         Request::Help => Ok(answer_said(alloc, HELP)?),
         Request::Version => Ok(answer_said(alloc, VERSION)?),

@@ -72,7 +72,7 @@ pub fn run_style<F: Files, O: Sink, E: Sink, L: Ledger>(
     ensures writes { result ≢ Status.WriteFault →
         (O.faults out.new ≡ O.faults out.old) × (E.faults err.new ≡ E.faults err.old) }
 
-    // Only `eval` and `validate` read files, and no command counts a step so far.
+    // Only `eval`, `validate` and `migrate` read files, and no command counts a step so far.
     ensures told { F.told files.new ≡ F.told files.old }
     ensures files { IsFileless (run_of (test images) (test scripts) (map string_bytes words.now)) → files.new ≡ files.old }
     ensures steps { steps.new ≡ steps.old }

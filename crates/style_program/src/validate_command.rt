@@ -51,7 +51,7 @@ fn answer_report(alloc: Global, report: &Report) -> Result<Answer, AllocError>
     }
 }
 
-fn answer_broken(alloc: Global, findings: &[Finding]) -> Result<Answer, AllocError>
+pub(crate) fn answer_broken(alloc: Global, findings: &[Finding]) -> Result<Answer, AllocError>
     ensures { IfOk result (λ answer. outcome_of answer ≡ said (broken_text (map finding_seen findings.now)) Ending.Found) }
 {
     let mut out = Vec::new(alloc);

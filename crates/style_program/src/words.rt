@@ -22,6 +22,8 @@ pub enum Request<'a> {
     Value(&'a str),
     /// What a style breaks.
     Validate(&'a str),
+    /// A style in expressions.
+    Migrate(&'a str),
     /// What a style shows.
     Eval(EvalRequest<'a>),
     Help,
@@ -65,6 +67,7 @@ fn request_of_one<'a>(command: &str, word: &'a str) -> Request<'a>
     match command {
         "value" => Request::Value(word),
         "validate" => Request::Validate(word),
+        "migrate" => Request::Migrate(word),
         _ => Request::Wrong,
     }
 }

@@ -1,12 +1,10 @@
-use Rattle.std.proofs.Common.{ℕ, List, Option, ◌∙◌, sym, ap, subst}
+use Rattle.std.proofs.Common.{ℕ, List, Option, ◌∙◌, ap, subst}
 use Rattle.tile_reader.specs.Tile.{tile_of}
 use Rattle.circle_layer.specs.StyleView.{form_of}
-use Rattle.program_runs.specs.Parts.{json_part}
 use Rattle.program_runs.specs.Progress.{HaltsAt, outcome_of}
-use Rattle.program_runs.specs.Refusals.{tile_text}
-use Rattle.program_runs.specs.Runs.{Run, HasOutcome, ends, reads}
+use Rattle.program_runs.specs.Runs.{Run, HasOutcome, ends}
 use Rattle.program_runs.proofs.Going.{halts_later, at_residual}
-use Rattle.style_program.specs.EvalRun.{eval_run, style_part, tile_run, tile_limit, tile_outcome}
+use Rattle.style_program.specs.EvalRun.{eval_run, style_part, tile_run, tile_outcome}
 use Rattle.style_program.specs.WordsView.{eval_words}
 use Rattle.style_program.proofs.eval_command.answer_eval.Goals as goal
 

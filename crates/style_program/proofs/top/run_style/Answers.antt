@@ -1,5 +1,5 @@
-use Rattle.std.proofs.Common.{map, string_bytes}
-use Rattle.program_runs.specs.Written.{ErrFront, WriteFails}
+use Rattle.std.proofs.Common.{map, rules, string_bytes}
+use Rattle.program_runs.specs.Written.{Completes, ErrFront, WriteFails}
 use Rattle.style_program.specs.Commands.{run_of}
 use Rattle.style_program.specs.ListedFaults.{ListsItsFault}
 use Rattle.style_program.specs.Words.{asked}
@@ -23,3 +23,9 @@ pub returns-clause-listed : goal.returns-clause-listed
 returns-clause-listed g c = λ is. moved
     (λ p q. ListsItsFault ((goal.HostOp-dyn g p).test p.1) ((goal.HostOp-dyn g q).test q.1) (asked (map string_bytes c.args.words.now)))
     c.deref_box-1.ensures.1 c.deref_box-2.ensures.1 (c.run_with.ensures.listed is)
+
+pub returns-clause-exact : goal.returns-clause-exact
+returns-clause-exact g c = λ memory files out err. moved
+    (λ p q. Completes (g.F.Files.told c.args.files.now) (run_of ((goal.HostOp-dyn g p).test p.1) ((goal.HostOp-dyn g q).test q.1) (map string_bytes c.args.words.now))
+    c.run_with.result (g.O.Sink.held c.args.out.now) (g.O.Sink.held c.run_with.new.out) (g.E.Sink.held c.args.err.now) (g.E.Sink.held c.run_with.new.err))
+    c.deref_box-1.ensures.1 c.deref_box-2.ensures.1 (c.run_with.ensures.completes memory (λ is. search rules) (λ is. search rules))

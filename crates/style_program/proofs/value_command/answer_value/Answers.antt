@@ -1,10 +1,9 @@
-use Rattle.std.proofs.Common.{ℕ, List, Option, codes, ap, ◌∙◌}
+use Rattle.std.proofs.Common.{ap, ◌∙◌}
 use Rattle.decimal_json.specs.Tree.{Tree}
 use Rattle.decimal_json.specs.View.{tree_of}
 use Rattle.expr_syntax.specs.Reading.{reading}
-use Rattle.program_runs.specs.Outcome.{Outcome}
 use Rattle.program_runs.specs.Progress.{HaltsAt, outcome_of}
-use Rattle.program_runs.specs.Runs.{Run, HasOutcome, ends, parses}
+use Rattle.program_runs.specs.Runs.{Run, HasOutcome, ends}
 use Rattle.program_runs.proofs.Going.{at_residual}
 use Rattle.style_program.specs.ValueRun.{value_run, expression_outcome}
 use Rattle.style_program.proofs.Answered.{of_text, halt_of_text}
