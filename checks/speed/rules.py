@@ -105,11 +105,11 @@ def cases():
     yield "an expression of 2,000,000 nodes, a sum of numbers", style([layer(0, ',"paint":{"circle-blur":["+"%s]}' % (",1" * 1_999_999))])
 
 
-def measured(program, path, out):
+def measured(program, path, out, command="validate"):
     """The status, both times in milliseconds and the memory in MB of one run."""
     started = time.monotonic()
     with open(out, "wb") as file:
-        child = subprocess.Popen([program, "validate", path], stdout=file)
+        child = subprocess.Popen([program, command, path], stdout=file)
         status, usage = listings.ended(child)
     took = time.monotonic() - started
     return status, took * 1000, (usage.ru_utime + usage.ru_stime) * 1000, usage.ru_maxrss // 1024

@@ -1,0 +1,62 @@
+"""Measures `migrate`: the least milliseconds of the whole process and of the processor, of five runs, and the most memory in MB.
+
+    python3 checks/speed/migrations.py [PROGRAM]
+
+PROGRAM is the program as LLVM built it.
+"""
+
+import json
+import os
+import pathlib
+import subprocess
+import sys
+import tempfile
+
+import rules
+
+TOP = pathlib.Path(__file__).resolve().parents[2]
+RUNS = 5
+
+
+def half(number):
+    """A layer of which about half are legacy functions: of the zoom, of a property, and of both."""
+    stops = [[zoom, (zoom * 7 + number) % 20 + 0.5] for zoom in range(4, 16)]
+    both = [[{"zoom": zoom, "value": value}, value + 1] for zoom in (8, 12) for value in (0, 5, 10)]
+    return json.dumps(
+        {
+            "id": f"layer-{number:05}",
+            "type": "line",
+            "source": "t",
+            "source-layer": f"roads-{number % 9}",
+            "minzoom": number % 12,
+            "metadata": {"map:group": f"14448493{number:05}", "map:texts": ["a text of some length"] * 12},
+            "filter": ["all", ["==", ["geometry-type"], "LineString"], ["match", ["get", "class"], ["motorway", "trunk"], True, False]],
+            "layout": {"line-cap": "round", "line-join": "round"},
+            "paint": {
+                "line-color": {"property": "class", "type": "categorical", "stops": [["motorway", "#fea"], ["trunk", "#fd8"]], "default": "#fff"},
+                "line-width": {"base": 1.2, "stops": stops},
+                "line-opacity": {"property": "rank", "stops": [[0, 0.5], [10, 1]]},
+                "line-offset": {"property": "lanes", "stops": both},
+            },
+        },
+        separators=(",", ":"),
+    )
+
+
+def main():
+    program = pathlib.Path(sys.argv[1]).resolve() if len(sys.argv) > 1 else TOP / "crates" / "pirgesh" / "out" / "pirgesh"
+    if len(sys.argv) < 2:
+        subprocess.run([TOP / "pirgesh", "--version"], check=True, stdout=subprocess.DEVNULL)
+    with tempfile.TemporaryDirectory() as name:
+        path, out = os.path.join(name, "style"), os.path.join(name, "out")
+        for count in 900, 1_850, 3_700:
+            text = rules.style(map(half, range(count)))
+            with open(path, "w", encoding="utf-8") as file:
+                file.write(text)
+            runs = [rules.measured(program, path, out, "migrate") for _ in range(RUNS)]
+            took, processor, memory = min(run[1] for run in runs), min(run[2] for run in runs), max(run[3] for run in runs)
+            print(f"{count:,} layers: {len(text):,} bytes, {os.path.getsize(out):,} written, {took:.1f} ms, processor {processor:.1f} ms, {memory} MB, status {runs[0][0]}")
+
+
+if __name__ == "__main__":
+    main()
