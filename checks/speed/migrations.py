@@ -1,4 +1,4 @@
-"""Measures `migrate`: the least milliseconds of the whole process and of the processor, of five runs, and the most memory in MB.
+"""Measures `migrate`: the least milliseconds of the whole process and of the processor, of twenty runs, and the most memory in MB.
 
     python3 checks/speed/migrations.py [PROGRAM]
 
@@ -15,7 +15,7 @@ import tempfile
 import rules
 
 TOP = pathlib.Path(__file__).resolve().parents[2]
-RUNS = 5
+RUNS = 20
 
 
 def half(number):

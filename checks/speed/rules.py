@@ -1,4 +1,4 @@
-"""Measures `validate` on large and hostile styles: of five runs the least time of the whole process and the least of the processor, the
+"""Measures `validate` on large and hostile styles: of twenty runs the least time of the whole process and the least of the processor, the
 most memory, and what was answered. Memory below that of this script itself, some 40 MB, is not seen.
 
     python3 checks/speed/rules.py [PROGRAM]
@@ -18,7 +18,7 @@ import listings
 
 TOP = pathlib.Path(__file__).resolve().parents[2]
 LIMIT = 4_194_304
-RUNS = 5
+RUNS = 20
 
 
 def style(layers, sources='"t":{"type":"vector"}'):
