@@ -7,14 +7,10 @@ PROGRAM is the program as LLVM built it.
 
 import json
 import os
-import pathlib
-import subprocess
-import sys
 import tempfile
 
 import rules
 
-TOP = pathlib.Path(__file__).resolve().parents[2]
 RUNS = 20
 
 
@@ -44,9 +40,7 @@ def half(number):
 
 
 def main():
-    program = pathlib.Path(sys.argv[1]).resolve() if len(sys.argv) > 1 else TOP / "crates" / "pirgesh" / "out" / "pirgesh"
-    if len(sys.argv) < 2:
-        subprocess.run([TOP / "pirgesh", "--version"], check=True, stdout=subprocess.DEVNULL)
+    program = rules.given_program()
     with tempfile.TemporaryDirectory() as name:
         path, out = os.path.join(name, "style"), os.path.join(name, "out")
         for count in 900, 1_850, 3_700:

@@ -105,6 +105,14 @@ def cases():
     yield "an expression of 2,000,000 nodes, a sum of numbers", style([layer(0, ',"paint":{"circle-blur":["+"%s]}' % (",1" * 1_999_999))])
 
 
+def given_program():
+    """The program that the words name, or else the repository's own, which is built first."""
+    if len(sys.argv) > 1:
+        return pathlib.Path(sys.argv[1]).resolve()
+    subprocess.run([TOP / "pirgesh", "--version"], check=True, stdout=subprocess.DEVNULL)
+    return TOP / "crates" / "pirgesh" / "out" / "pirgesh"
+
+
 def measured(program, path, out, command="validate"):
     """The status, both times in milliseconds and the memory in MB of one run."""
     started = time.monotonic()
@@ -116,9 +124,7 @@ def measured(program, path, out, command="validate"):
 
 
 def main():
-    program = pathlib.Path(sys.argv[1]).resolve() if len(sys.argv) > 1 else TOP / "crates" / "pirgesh" / "out" / "pirgesh"
-    if len(sys.argv) < 2:
-        subprocess.run([TOP / "pirgesh", "--version"], check=True, stdout=subprocess.DEVNULL)
+    program = given_program()
     with tempfile.TemporaryDirectory() as name:
         path, out = os.path.join(name, "style"), os.path.join(name, "out")
         for what, text in cases():
