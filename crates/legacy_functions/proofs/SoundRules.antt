@@ -32,9 +32,13 @@ HasSome (x ∷ xs) = Unit {0}
 abbrev pub IsSpelled : Spelled → Type 0
 IsSpelled n = read_text n.spelled ≡ Ok n.value
 
--- a literal of the row; a token text is one too, where the row takes token texts
+abbrev pub is_token_output : Target → Tree → Bool
+is_token_output target (json.text s) = target.takes_tokens && has_tokens s
+is_token_output target _ = false
+
+-- a literal of the row, and no token text; a token text is one too, where the row takes token texts
 abbrev pub IsOutputOf : Target → Output → Type 0
-IsOutputOf target (literal t d) = literal_of t target.row ≡ Some d
+IsOutputOf target (literal t d) = (literal_of t target.row ≡ Some d) × (is_token_output target t ≡ false)
 IsOutputOf target (tokens s) =
     (target.takes_tokens ≡ true) × ((d : Data) × (literal_of (json.text s) target.row ≡ Some d))
 
@@ -119,25 +123,25 @@ module _ (target : Target) where
   abbrev row : RowData
   row = target.row
 
-  literal_is : (t : Tree) (o : Option Data) → literal_of t row ≡ o → OfSome (IsOutputOf target) (literal_form t o)
-  literal_is t (Some d) h = h
-  literal_is t None h = tt
+  literal_is : (t : Tree) (o : Option Data) → literal_of t row ≡ o → is_token_output target t ≡ false
+      → OfSome (IsOutputOf target) (literal_form t o)
+  literal_is t (Some d) h k = (h, k)
+  literal_is t None h k = tt
 
-  text_is : (b : Bool) (s : List ℕ) (o : Option Data) → (b ≡ true → target.takes_tokens ≡ true)
+  text_is : (b : Bool) (s : List ℕ) (o : Option Data) → (target.takes_tokens && has_tokens s) ≡ b
       → literal_of (json.text s) row ≡ o → OfSome (IsOutputOf target) (text_output b s o)
-  text_is true s (Some d) takes h = (takes refl, (d, h))
-  text_is true s None takes h = tt
-  text_is false s o takes h = literal_is (json.text s) o h
+  text_is true s (Some d) is h = (left_true target.takes_tokens (has_tokens s) is, (d, h))
+  text_is true s None is h = tt
+  text_is false s o is h = literal_is (json.text s) o h is
 
   pub output_is : (t : Tree) → OfSome (IsOutputOf target) (output_form target t)
-  output_is json.null = literal_is json.null (literal_of json.null row) refl
-  output_is (json.boolean b) = literal_is (json.boolean b) (literal_of (json.boolean b) row) refl
-  output_is (json.number n) = literal_is (json.number n) (literal_of (json.number n) row) refl
+  output_is json.null = literal_is json.null (literal_of json.null row) refl refl
+  output_is (json.boolean b) = literal_is (json.boolean b) (literal_of (json.boolean b) row) refl refl
+  output_is (json.number n) = literal_is (json.number n) (literal_of (json.number n) row) refl refl
   output_is (json.text s) =
-      text_is (target.takes_tokens && has_tokens s) s (literal_of (json.text s) row)
-      (λ h. left_true target.takes_tokens (has_tokens s) h) refl
-  output_is (json.list ts) = literal_is (json.list ts) (literal_of (json.list ts) row) refl
-  output_is (json.object fs) = literal_is (json.object fs) (literal_of (json.object fs) row) refl
+      text_is (target.takes_tokens && has_tokens s) s (literal_of (json.text s) row) refl refl
+  output_is (json.list ts) = literal_is (json.list ts) (literal_of (json.list ts) row) refl refl
+  output_is (json.object fs) = literal_is (json.object fs) (literal_of (json.object fs) row) refl refl
 
   input_is : (any : Bool) (t : Tree) → OfSome IsInput (input_form any t)
   input_is any json.null = tt

@@ -150,7 +150,7 @@ module _ (zoom : ℤ) (feature : Feature) (state : List (List ℕ × Data)) (ima
 
     output_given : (o : Output) → IsOutputOf target o → mean (output_term o) row.want [] here ≡ fit row.want (output_data feature o)
     output_given (literal_output t d) h =
-        let fits = literal_fits row t d h in
+        let fits = literal_fits row t d h.0 in
         fits ∙ sym (fit_again row.want (data_or_null (json_data t)) d fits)
     output_given (tokens s) h = tokens_given zoom feature state images scripts row.want s
 

@@ -101,10 +101,10 @@ read_output : (target : Target) → is_property_want target.row.want ≡ true �
     → IsReadAs (output_expression o) (output_term o)
 read_output target w (literal_output json.null d) h = read_null
 read_output target w (literal_output (json.boolean b) d) h = read_flag b
-read_output target w (literal_output (json.number n) d) h = number_output target.row n (read_text n) d refl h
+read_output target w (literal_output (json.number n) d) h = number_output target.row n (read_text n) d refl h.0
 read_output target w (literal_output (json.text s) d) h = read_text_as s
-read_output target w (literal_output (json.list ts) d) h = list_output target.row ts (json_data (json.list ts)) d refl h
-read_output target w (literal_output (json.object fs) d) h = absurd (no_object target.row (fields_data fs) d w h)
+read_output target w (literal_output (json.list ts) d) h = list_output target.row ts (json_data (json.list ts)) d refl h.0
+read_output target w (literal_output (json.object fs) d) h = absurd (no_object target.row (fields_data fs) d w h.0)
 read_output target w (tokens s) h = read_tokens s
 
 -- ---- the default of a row

@@ -51,7 +51,7 @@ module _ (target : Target) (regular : IsRegular target.row) where
 
   output_typed : (o : Output) → IsOutputOf target o → IsTypedUnder row.want (output_term o)
   output_typed (literal_output t d) h =
-      literal_typed row.want (data_or_null (json_data t)) d regular.want (literal_fits row t d h)
+      literal_typed row.want (data_or_null (json_data t)) d regular.want (literal_fits row t d h.0)
   output_typed (tokens s) h = tokens_typed row.want s (token_may_fit s h.1.0 h.1.1)
     where
       token_may_fit : (s : List ℕ) (d : Data) → literal_of (json.text s) row ≡ Some d → MayFit (fits kinds.Text row.want)

@@ -7,7 +7,8 @@ use Rattle.legacy_filters.specs.Laws.{NoExpressionIsLegacy}
 use Rattle.legacy_filters.specs.Split.{is_legacy}
 use Rattle.legacy_filters.specs.ToExpression.{expression}
 use Rattle.legacy_laws.specs.LegacyFilterLaw.{SaysTheSame, ExpressionsMeanTheirFilters, MigratedFiltersAreTyped}
-use Rattle.legacy_laws.specs.LegacyFilterLaw.{MigratedFiltersStay, has_order, expression_or_itself, migrated_filter}
+use Rattle.legacy_filters.specs.Migrated.{expression_or_itself, migrated_filter}
+use Rattle.legacy_laws.specs.LegacyFilterLaw.{MigratedFiltersStay, has_order}
 use Rattle.legacy_laws.proofs.FilterTerms.{filter_term}
 use Rattle.legacy_laws.proofs.SoundFilters.{read_is_sound}
 use Rattle.legacy_laws.proofs.FilterReading.{filter_reading}

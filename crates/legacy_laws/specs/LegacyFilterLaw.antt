@@ -21,6 +21,7 @@ use Rattle.legacy_filters.specs.Filter.{Filter, flag, test, group, Filters, no_f
 use Rattle.legacy_filters.specs.Form as legacy
 use Rattle.legacy_filters.specs.Meaning.{passes}
 use Rattle.legacy_filters.specs.Split.{is_legacy}
+use Rattle.legacy_filters.specs.Migrated.{migrated_filter}
 use Rattle.legacy_filters.specs.ToExpression.{expression}
 
 -- Whatever the zoom, the state and the two tests are, an expression gives of every feature under Boolean whether it passes
@@ -73,15 +74,6 @@ MigratedFiltersAreTyped =
     × (found.node.may ≡ faults_if (has_order f) NotOrdered)
 
 -- ---- migrating again
-
-abbrev pub expression_or_itself : legacy.Read → Tree → Tree
-expression_or_itself (Ok f) t = expression f
-expression_or_itself (Err fault) t = t
-
--- A filter after it was migrated: the expression of a legacy filter. A filter that is an expression stays, and so does
--- one that is ill-formed.
-abbrev pub migrated_filter : Tree → Tree
-migrated_filter t = if is_legacy t then expression_or_itself (legacy.reading t) t else t
 
 abbrev pub MigratedFiltersStay : Type 0
 MigratedFiltersStay = (t : Tree) → migrated_filter (migrated_filter t) ≡ migrated_filter t

@@ -13,7 +13,7 @@
 //! What is promised, for all values and wants: `fit` gives exactly the value or the fault of the definition `fit` of
 //! `specs/Fitting.antt`, and a fitted value is left as it is by the same want (`specs/Stays.antt`). The names of layer
 //! types are those of `specs/LayerTypes.antt`, in both directions. `row` and `unread` are the table of
-//! `specs/Rows.antt`, one line a property in table order; `default_value` and `literal` are the value and the test
+//! `specs/Rows.antt`, one line a property in table order, which `row_count` and `row_numbered` go through; `default_value` and `literal` are the value and the test
 //! that it says. In each type names differ, layout stands before paint, and a default is a literal of its own row
 //! (`tables_keep_their_rules`).
 //!
@@ -40,5 +40,5 @@ pub use fitting::fit;
 pub use laws::{fitted_values_stay, tables_keep_their_rules};
 pub use layer_type::LayerType;
 pub use literals::literal;
-pub use lookup::{row, unread};
+pub use lookup::{row, row_count, row_numbered, unread};
 pub use property_row::{Fallback, Place, Row};

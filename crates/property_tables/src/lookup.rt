@@ -1,6 +1,6 @@
-ghost use Rattle.std.specs.Prelude.{◌≡◌, true, option_map, IfSome, length, ◌≤◌};
+ghost use Rattle.std.specs.Prelude.{◌≡◌, true, option_map, IfSome, length, get_or, ◌<◌, ◌≤◌};
 ghost use Rattle.property_tables.specs.NameIndex.{is_index};
-ghost use Rattle.property_tables.specs.Rows.{row_of, row_named, rows_of, is_unread, takes_tokens, is_at};
+ghost use Rattle.property_tables.specs.Rows.{RowData, row_of, row_named, rows_of, is_unread, takes_tokens, is_at};
 ghost use Rattle.property_tables.specs.RowView.{names_of, rows_seen, entry_seen, row_seen, numbered_seen, fallback_seen, given_seen};
 
 use crate::entry::{Entry, Given};
@@ -19,6 +19,24 @@ pub fn row(layer_type: LayerType, place: Place, name: &str) -> Option<Row>
         Some(found) if found.place == place => Some(found),
         _ => None,
     }
+}
+
+/// How many rows the table of a layer type has.
+pub fn row_count(layer_type: LayerType) -> u16
+    ensures { result ≡ length (rows_of layer_type) }
+{
+    table_of(layer_type).0.len() as u16
+}
+
+/// The row of a number of a layer type, counted from 0 in the order of the table.
+pub fn row_numbered(layer_type: LayerType, number: u16) -> Row
+    requires { number < length (rows_of layer_type) }
+    ensures row { (other : RowData) → row_seen result ≡ get_or (rows_of layer_type) number other }
+    ensures number { result.number ≡ number }
+    ensures tokens { result.tokens ≡ takes_tokens result.name.now }
+{
+    let (entries, _) = table_of(layer_type);
+    row_at(&entries[usize::from(number)], number)
 }
 
 // The row of a name, in whichever place it stands.

@@ -1,2 +1,1 @@
 pub mod MappedLaws
-pub mod ValueLaws

@@ -10,10 +10,12 @@ use Rattle.legacy_functions.specs.Form as functions
 use Rattle.legacy_functions.specs.Function.{Function}
 use Rattle.legacy_functions.specs.ToExpression.{function_expression}
 use Rattle.legacy_functions.specs.Tokens.{token_expression}
-use Rattle.legacy_laws.specs.LegacyFilterLaw.{migrated_filter}
+use Rattle.legacy_filters.specs.Migrated.{migrated_filter}
 use Rattle.style_rules.specs.Ground.{layer_type, tested_type}
 use Rattle.style_rules.specs.Places.{is_layers, place_named}
-use Rattle.style_rules.specs.Values.{Form, expression, function, token_text, literal, form_of, target_of}
+use Rattle.style_rules.specs.Values.{form_of, target_of}
+use Rattle.style_rules.specs.declared.forms.Form.{Form}
+use Rattle.style_rules.specs.declared.forms.Form.TheVariants as forms
 
 -- ---- the value of a property, by the form that it has
 
@@ -28,10 +30,10 @@ tokens_or (text s) = token_expression s
 tokens_or t = t
 
 abbrev pub value_by_form : Form → RowData → Tree → Tree
-value_by_form function row t = function_or row t (functions.form (target_of row) t)
-value_by_form token_text row t = tokens_or t
-value_by_form expression row t = t
-value_by_form literal row t = t
+value_by_form forms.Function row t = function_or row t (functions.form (target_of row) t)
+value_by_form forms.TokenText row t = tokens_or t
+value_by_form forms.Expression row t = t
+value_by_form forms.Literal row t = t
 
 abbrev pub migrated_value : RowData → Tree → Tree
 migrated_value row t = value_by_form (form_of row t) row t

@@ -1,10 +1,8 @@
 //! The migrated layers.
 
 ghost use Rattle.std.specs.Prelude.{◌≡◌, IfOk};
-ghost use Rattle.decimal_json.specs.Tree.{object, fields_of};
 ghost use Rattle.decimal_json.specs.View.{tree_of};
-ghost use Rattle.legacy_laws.specs.LegacyFilterLaw.{migrated_filter};
-ghost use Rattle.style_rules.specs.Ground.{layer_type, tested_type};
+ghost use Rattle.legacy_filters.specs.Migrated.{migrated_filter};
 ghost use Rattle.style_migrate.specs.Mapped.{mapped_pairs};
 ghost use Rattle.style_migrate.specs.Migrated.{migrated_layer, migrated_member};
 
@@ -13,6 +11,7 @@ use decimal_json::{Json, Member, Members, copy};
 use legacy_filters::{is_legacy, read};
 use property_tables::{LayerType, Place};
 use std::alloc::{AllocError, Global};
+use style_rules::{layer_type, tested_type};
 
 #[tactic(auto, using(crate::proofs::MappedLaws::fields_mapped))]
 pub(crate) fn migrate_layer(alloc: Global, layer: &Json) -> Result<Json, AllocError>
@@ -20,33 +19,10 @@ pub(crate) fn migrate_layer(alloc: Global, layer: &Json) -> Result<Json, AllocEr
 {
     match layer {
         Json::Object(members) => {
-            let tested = tested_type(members);
+            let tested = tested_type(layer_type(members));
             Ok(Json::Object(migrate_members(alloc, tested, members)?))
         }
         _ => copy(alloc, layer),
-    }
-}
-
-/// The type of a layer, where that is well formed and it has no `ref`, and its layout and paint are tested.
-fn tested_type(layer: &Members) -> Option<LayerType>
-    ensures { result ≡ tested_type (layer_type (object (fields_of layer.now))) }
-{
-    if layer.get("ref").is_some() {
-        return None;
-    }
-    match layer.get("type") {
-        Some(Json::Text(name)) => tested(LayerType::named(name.as_str())),
-        _ => None,
-    }
-}
-
-fn tested(layer_type: Option<LayerType>) -> Option<LayerType>
-    ensures { result ≡ tested_type layer_type }
-{
-    match layer_type {
-        Some(LayerType::Hillshade) => None,
-        Some(LayerType::ColorRelief) => None,
-        other => other,
     }
 }
 

@@ -23,16 +23,12 @@ use Rattle.legacy_functions.specs.Function.{Function, has_zooms}
 use Rattle.legacy_functions.specs.ToExpression.{function_expression}
 use Rattle.legacy_functions.specs.Tokens.{has_tokens}
 use Rattle.style_rules.specs.Parts.{is_object}
+use Rattle.style_rules.specs.declared.forms.Form.{Form}
+use Rattle.style_rules.specs.declared.forms.Form.TheVariants as forms
 use Rattle.style_rules.specs.declared.told.Mark.{Mark}
 use Rattle.style_rules.specs.declared.told.Mark.TheVariants.{Broken, Outside, Sound}
 
--- ---- the value of a property is one of four, decided in this order
-
-pub data Form : Type 0 where
-  expression : Form
-  function : Form
-  token_text : Form
-  literal : Form
+-- ---- the value of a property has one of four forms, decided in this order
 
 -- a non-empty array whose first element is the name of an operator, one that is outside too
 abbrev pub is_expression : Tree → Bool
@@ -52,11 +48,11 @@ takes_literals_alone row = bytes_eq row.name (codes "visibility")
 
 abbrev pub form_of : RowData → Tree → Form
 form_of row t =
-    if takes_literals_alone row then literal else
-    if is_expression t then expression else
-    if is_function t then function else
-    if is_token_text row t then token_text else
-    literal
+    if takes_literals_alone row then forms.Literal else
+    if is_expression t then forms.Expression else
+    if is_function t then forms.Function else
+    if is_token_text row t then forms.TokenText else
+    forms.Literal
 
 -- ---- V15: a literal meets its row's kind and range
 
@@ -109,10 +105,10 @@ target_of row = record { row = row; takes_tokens = takes_tokens row.name }
 -- ---- the value of a property
 
 abbrev pub form_mark : Form → RowData → Tree → Mark
-form_mark expression row t = expression_mark row.want (Some row) t
-form_mark function row t = function_mark row (functions.form (target_of row) t)
-form_mark token_text row t = Sound no_faults
-form_mark literal row t = literal_mark row t
+form_mark forms.Expression row t = expression_mark row.want (Some row) t
+form_mark forms.Function row t = function_mark row (functions.form (target_of row) t)
+form_mark forms.TokenText row t = Sound no_faults
+form_mark forms.Literal row t = literal_mark row t
 
 abbrev pub value_mark : RowData → Tree → Mark
 value_mark row t = form_mark (form_of row t) row t

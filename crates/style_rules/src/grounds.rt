@@ -1,10 +1,10 @@
 //! What the rules on a layer stand on.
 
 ghost use Rattle.std.specs.Prelude.{◌≡◌, Some};
-ghost use Rattle.decimal_json.specs.Tree.{object, HasDistinctKeys};
+ghost use Rattle.decimal_json.specs.Tree.{object, fields_of, HasDistinctKeys};
 ghost use Rattle.decimal_json.specs.View.{tree_of, fields, members_view};
 ghost use Rattle.style_rules.specs.CodeView.{fields_at, text_at, tree_at, ground_seen, parts_seen};
-ghost use Rattle.style_rules.specs.Ground.{sources_for, named_type, source_type, source_types, tested_type, is_source};
+ghost use Rattle.style_rules.specs.Ground.{layer_type, sources_for, named_type, source_type, source_types, tested_type, is_source};
 ghost use Rattle.style_rules.specs.LayerParts.{parts_of, with_member, type_by_parts, ground_by_parts};
 ghost use Rattle.style_rules.specs.Parts.{then_some, text_in, type_in, is_among};
 ghost use Rattle.style_rules.specs.Rules.{has_such_source, is_on_vector, is_source_name, suits};
@@ -70,7 +70,7 @@ pub(crate) struct Ground<'a> {
 pub(crate) fn ground_of<'a>(sources: Option<&'a Members>, parts: &LayerParts<'a>) -> Ground<'a>
     ensures { ground_seen result ≡ ground_by_parts (fields_at sources.entry) (parts_seen parts.now) }
 {
-    let layer_type = layer_type(parts);
+    let layer_type = type_by_parts(parts);
     let sources = sources_for(sources, layer_type);
     Ground {
         layer_type,
@@ -79,7 +79,7 @@ pub(crate) fn ground_of<'a>(sources: Option<&'a Members>, parts: &LayerParts<'a>
     }
 }
 
-fn layer_type(parts: &LayerParts<'_>) -> Option<LayerType>
+fn type_by_parts(parts: &LayerParts<'_>) -> Option<LayerType>
     ensures { result ≡ type_by_parts (parts_seen parts.now) }
 {
     if parts.has_ref {
@@ -87,6 +87,19 @@ fn layer_type(parts: &LayerParts<'_>) -> Option<LayerType>
     }
     match parts.layer_type {
         Some(json) => type_in(json),
+        None => None,
+    }
+}
+
+/// The type of a layer, where that is well formed and it has no `ref`.
+pub fn layer_type(layer: &Members) -> Option<LayerType>
+    ensures { result ≡ layer_type (object (fields_of layer.now)) }
+{
+    if layer.get("ref").is_some() {
+        return None;
+    }
+    match layer.get("type") {
+        Some(named) => type_in(named),
         None => None,
     }
 }
@@ -154,8 +167,8 @@ fn is_source_type(name: &str) -> bool
     }
 }
 
-/// The type of a layer whose layout and paint are tested.
-pub(crate) fn tested_type(layer_type: Option<LayerType>) -> Option<LayerType>
+/// The type of a layer whose layout and paint are tested: of hillshade and color-relief they pass unread.
+pub fn tested_type(layer_type: Option<LayerType>) -> Option<LayerType>
     ensures { result ≡ tested_type layer_type }
 {
     match layer_type {

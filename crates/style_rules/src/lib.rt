@@ -8,7 +8,8 @@
 //! What is promised: `findings` gives each place that breaks a rule with the least rule that it breaks, in the order of the text, and none
 //! below another; `notes` the values and filters that are outside of what is evaluated; `may_lines` those whose evaluation may fault,
 //! with the faults. Each is exactly the definition of its name in `specs/Findings.antt`. `examined` finds all three in one walk, in which
-//! each expression is read and typed once.
+//! each expression is read and typed once. `form_of`, `layer_type`, `tested_type` and `number_in` are parts of these definitions that
+//! whoever reads a document without findings goes by.
 //!
 //! The text to believe is in `specs/`: `Parts`, `Ground`, `Rules`, `Values`, `Places`, `Findings`.
 #![tactic(auto)]
@@ -16,6 +17,7 @@
 mod calls;
 mod document;
 mod filters;
+mod forms;
 mod grounds;
 mod keys;
 mod laws;
@@ -28,5 +30,8 @@ mod told;
 mod values;
 
 pub use calls::{examined, findings, may_lines, notes};
+pub use forms::{Form, form_of};
+pub use grounds::{layer_type, tested_type};
 pub use laws::findings_go_by_levels;
 pub use lists::{Finding, Findings, MayLine, MayLines, Paths, Report};
+pub use members::number_in;

@@ -35,7 +35,7 @@ pub(crate) fn members_in(json: &Json) -> Option<&Members>
 }
 
 /// The number that a tree says. One past the bound is none.
-pub(crate) fn number_in(json: &Json) -> Option<Fixed>
+pub fn number_in(json: &Json) -> Option<Fixed>
     ensures { result ≡ number_in (tree_of json.now) }
 {
     match json {

@@ -1,21 +1,20 @@
 //! What is told of the value of a property.
 
 ghost use Rattle.std.specs.Prelude.{◌≡◌, [], Some, option_map, IfOk};
-ghost use Rattle.decimal_json.specs.Tree.{list};
-ghost use Rattle.decimal_json.specs.View.{tree_of, trees};
+ghost use Rattle.decimal_json.specs.View.{tree_of};
 ghost use Rattle.property_tables.specs.RowView.{row_seen};
 ghost use Rattle.property_tables.specs.Rows.{takes_tokens};
 ghost use Rattle.legacy_functions.specs.Form.{form};
 ghost use Rattle.legacy_functions.specs.View.{function_of, row_of};
 ghost use Rattle.style_rules.specs.CodeView.{judged_mark};
-ghost use Rattle.style_rules.specs.Values.{value_mark, is_expression, is_token_text, literal_mark, expression_mark, rule_of, function_mark, target_of, function_reads, faults_told};
+ghost use Rattle.style_rules.specs.Values.{value_mark, literal_mark, expression_mark, rule_of, function_mark, target_of, function_reads, faults_told};
 
-use crate::members::is_object;
+use crate::forms::{Form, form_of};
 use crate::told::Mark;
 use decimal_json::{Json, Path};
-use expr_syntax::{Reading, operator_named, read_expr};
+use expr_syntax::{Reading, read_expr};
 use expr_types::{TypeCode, TypeFault, Typed, check};
-use legacy_functions::{Function, FunctionReading, has_tokens, read};
+use legacy_functions::{Function, FunctionReading, read};
 use prop_values::{FaultSet, Want};
 use property_tables::{Row, literal};
 use std::alloc::{AllocError, Global};
@@ -25,46 +24,11 @@ pub(crate) fn value_mark(alloc: Global, row: &Row, json: &Json) -> Result<Mark, 
     requires { row.now.tokens ≡ takes_tokens row.now.name.now }
     ensures { IfOk result (λ mark. mark ≡ value_mark (row_seen row.now) (tree_of json.now)) }
 {
-    if row.name == "visibility" {
-        return literal_mark(alloc, row, json);
-    }
-    if is_expression(json) {
-        return expression_mark(alloc, &row.want, Some(row), json);
-    }
-    if is_object(json) {
-        return function_mark(alloc, row, json);
-    }
-    if is_token_text(row, json) {
-        return Ok(Mark::Sound(FaultSet::empty()));
-    }
-    literal_mark(alloc, row, json)
-}
-
-fn is_expression(json: &Json) -> bool
-    ensures { result ≡ is_expression (tree_of json.now) }
-{
-    match json {
-        Json::List(items) => is_call(items.as_slice()),
-        _ => false,
-    }
-}
-
-fn is_call(items: &[Json]) -> bool
-    ensures { result ≡ is_expression (list (trees items.now)) }
-{
-    match items {
-        [Json::Text(name), ..] => operator_named(name.as_str()).is_some(),
-        _ => false,
-    }
-}
-
-fn is_token_text(row: &Row, json: &Json) -> bool
-    requires { row.now.tokens ≡ takes_tokens row.now.name.now }
-    ensures { result ≡ is_token_text (row_seen row.now) (tree_of json.now) }
-{
-    match json {
-        Json::Text(text) => row.tokens && has_tokens(text.as_str()),
-        _ => false,
+    match form_of(row, json) {
+        Form::Expression => expression_mark(alloc, &row.want, Some(row), json),
+        Form::Function => function_mark(alloc, row, json),
+        Form::TokenText => Ok(Mark::Sound(FaultSet::empty())),
+        Form::Literal => literal_mark(alloc, row, json),
     }
 }
 
