@@ -1,6 +1,5 @@
 -- To be believed.
-pub mod Listed
+pub mod Layout
 pub mod Listing
 -- What only contracts of private functions, models and proofs use.
-pub mod View
 pub mod Parts

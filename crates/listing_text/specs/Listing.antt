@@ -9,16 +9,14 @@ use Rattle.prop_values.specs.declared.value.Value.{Value}
 use Rattle.prop_values.specs.declared.outcome.Outcome.{Outcome}
 use Rattle.prop_values.specs.declared.outcome.Outcome.TheVariants.{Given, Faulted, Outside}
 use Rattle.property_tables.specs.LayerTypes.{type_name}
+use Rattle.property_tables.specs.declared.layer_type.LayerType.{LayerType}
 use Rattle.tile_reader.specs.declared.tile.Shape.{Shape}
 use Rattle.tile_reader.specs.declared.tile.Shape.TheVariants.{Unknown, Point, LineString, Polygon}
-use Rattle.listing_text.specs.Listed.{ListedValue}
-use Rattle.listing_text.specs.declared.layout.FeatureOut.{FeatureOut}
-use Rattle.listing_text.specs.declared.layout.LayerOut.{LayerOut}
-use Rattle.listing_text.specs.declared.layout.Layout.{Layout}
-use Rattle.listing_text.specs.declared.layout.Show.{Show}
-use Rattle.listing_text.specs.declared.layout.Show.TheVariants.{Plain, Hidden, Unread, OutsideFilter}
+use Rattle.listing_text.specs.Layout.{ListedValue, FeatureOut, LayerOut, Layout}
+use Rattle.listing_text.specs.declared.show.Show.{Show}
+use Rattle.listing_text.specs.declared.show.Show.TheVariants.{Plain, Hidden, Unread, OutsideFilter}
 
--- A line: its parts one behind the other, ended by one LF, which is 10.
+-- A line: its parts one after the other, ended by one LF, which is 10.
 abbrev pub line : List (List ℕ) → List ℕ
 line [] = 10 ∷ []
 line (part ∷ parts) = part ++ line parts
@@ -31,7 +29,7 @@ zoom_line zoom = line (codes "zoom " ∷ number_text zoom ∷ [])
 abbrev pub end_line : List ℕ
 end_line = line (codes "end" ∷ [])
 
--- How a layer is shown, behind its type. A plain layer has no mark.
+-- How a layer is shown, after its type. A plain layer has no mark.
 abbrev pub show_mark : Show → List ℕ
 show_mark Plain = []
 show_mark Hidden = codes " hidden"
@@ -39,28 +37,28 @@ show_mark Unread = codes " unread"
 show_mark OutsideFilter = codes " ?"
 
 -- The line of a layer: its id as a JSON string, its type, and how it is shown.
-abbrev pub layer_line : LayerOut → List ℕ
-layer_line layer = line (codes "layer " ∷ text_json layer.id ∷ codes " " ∷ type_name layer.layer_type ∷ show_mark layer.show ∷ [])
+abbrev pub layer_line : List ℕ → LayerType → Show → List ℕ
+layer_line id type show = line (codes "layer " ∷ text_json id ∷ codes " " ∷ type_name type ∷ show_mark show ∷ [])
 
 -- What stands in for a value that faulted: the default of the property, and null where it has none.
 abbrev pub stand_in_text : Option Value → List ℕ
 stand_in_text None = codes "null"
 stand_in_text (Some v) = listed_text (data_of v)
 
--- What a property is listed as: its value, what stands in for it with the name of the fault behind `!`, or `?` where it
+-- What a property is listed as: its value, what stands in for it with the name of the fault after `!`, or `?` where it
 -- is outside of what is evaluated.
 abbrev pub outcome_text : Outcome → List ℕ
 outcome_text (Given v) = listed_text (data_of v)
 outcome_text (Faulted v fault) = stand_in_text v ++ (codes "!" ++ fault_name fault)
 outcome_text Outside = codes "?"
 
--- The line of a property behind a margin.
-abbrev pub value_line : List ℕ → ListedValue → List ℕ
-value_line margin v = line (margin ∷ v.name ∷ codes " " ∷ outcome_text v.outcome ∷ [])
+-- The line of a property after a margin.
+abbrev pub value_line : (margin name : List ℕ) → Outcome → List ℕ
+value_line margin name outcome = line (margin ∷ name ∷ codes " " ∷ outcome_text outcome ∷ [])
 
 -- The lines of properties, in their order.
 abbrev pub value_lines : List ℕ → List ListedValue → List ℕ
-value_lines margin = flat_map (value_line margin)
+value_lines margin = flat_map (λ (v : ListedValue). value_line margin v.name v.outcome)
 
 -- The margins of the properties of a layer, and of those of a feature.
 abbrev pub layer_margin : List ℕ
@@ -82,12 +80,12 @@ id_text None = []
 id_text (Some id) = codes " id " ++ decimal id
 
 -- The line of a feature: its place in the layer of the tile, its shape and its id.
-abbrev pub feature_line : FeatureOut → List ℕ
-feature_line f = line (codes "  feature " ∷ decimal f.number ∷ codes " " ∷ shape_name f.shape ∷ id_text f.id ∷ [])
+abbrev pub feature_line : ℕ → Shape → Option ℕ → List ℕ
+feature_line number shape id = line (codes "  feature " ∷ decimal number ∷ codes " " ∷ shape_name shape ∷ id_text id ∷ [])
 
 -- A feature and its properties.
 abbrev pub feature_lines : FeatureOut → List ℕ
-feature_lines f = feature_line f ++ value_lines feature_margin f.values
+feature_lines f = feature_line f.number f.shape f.id ++ value_lines feature_margin f.values
 
 -- What stands below the line of a layer: the properties of the layer and its features. A hidden or unread layer has
 -- neither, and where the filter is outside no features are listed.
@@ -99,7 +97,7 @@ below_layer OutsideFilter values features = value_lines layer_margin values
 
 -- A layer and what stands below it.
 abbrev pub layer_lines : LayerOut → List ℕ
-layer_lines layer = layer_line layer ++ below_layer layer.show layer.values layer.features
+layer_lines layer = layer_line layer.id layer.layer_type layer.show ++ below_layer layer.show layer.values layer.features
 
 -- The zoom, each layer in order, and the end.
 unfoldable pub listing : Layout → List ℕ

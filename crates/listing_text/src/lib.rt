@@ -1,27 +1,25 @@
-//! What a style shows at a zoom, and its text.
+//! What a style shows at a zoom, and its text, line by line.
 //!
 //! ```text
-//! let layout = Layout { zoom, layers };
-//! write_layout(&layout, &mut out)?;
-//! // zoom 12.24
-//! // layer "place" symbol
-//! //   text-size 16
-//! //   feature 0 Point id 3
-//! //     text-field "Oslo"
-//! // end
+//! write_zoom(zoom, &mut out)?;                                         // zoom 12.24
+//! write_layer_line("place", LayerType::Symbol, Show::Plain, &mut out)?;   // layer "place" symbol
+//! write_value(b"  ", "text-size", &size, &mut out)?;                   //   text-size 16
+//! write_feature_line(0, Shape::Point, Some(3), &mut out)?;             //   feature 0 Point id 3
+//! write_value(b"    ", "text-field", &name, &mut out)?;                //     text-field "Oslo"
+//! write_end(&mut out)?;                                                // end
 //! ```
 //!
-//! What is promised, for all layouts: what is appended is exactly the listing that `specs/Listing.antt` defines, line by line,
-//! and after want of memory a prefix of it. A property has its value; where its evaluation faulted, its default or
-//! `null`, then `!` and the name of the fault; and `?` where it is outside of what is evaluated.
+//! What is promised: each call appends exactly its line of the listing that `specs/Listing.antt` defines, and where memory lacks a prefix
+//! of it. A property has its value; where its evaluation faulted, its default or `null`, then `!` and the name of the fault; and `?` where
+//! it is outside of what is evaluated. Whoever writes a whole layout goes by `listing`.
 //!
-//! Time is linear in the listing. No memory is taken except that of `out`, and for each list or map a copy of its text.
+//! Time is linear in the line. No memory is taken except that of `out`, and for each list or map a copy of its text.
 //!
-//! The text to believe is in `specs/`: `Listed`, `Listing`.
+//! The text to believe is in `specs/`: `Layout`, `Listing`.
 #![tactic(auto)]
 
-mod layout;
+mod show;
 mod writing;
 
-pub use layout::{FeatureOut, FeatureOuts, LayerOut, LayerOuts, Layout, Show, ValueOut, ValueOuts};
-pub use writing::write_layout;
+pub use show::Show;
+pub use writing::{write_end, write_feature_line, write_layer_line, write_value, write_zoom};

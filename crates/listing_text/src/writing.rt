@@ -1,35 +1,23 @@
-ghost use Rattle.std.specs.Prelude.{◌≡◌, ◌++◌, OnOk, OnErr, flat_map};
+ghost use Rattle.std.specs.Prelude.{◌≡◌, ◌++◌, OnOk, OnErr};
 ghost use Rattle.decimal_json.specs.JsonText.{AppendsPrefix};
 ghost use Rattle.fixed_num.specs.NumberText.{number_text};
 ghost use Rattle.prop_values.specs.ColorText.{color_text};
 ghost use Rattle.prop_values.specs.ValueText.{listed_text};
 ghost use Rattle.prop_values.specs.View.{data_of};
-ghost use Rattle.listing_text.specs.Listing.{zoom_line, show_mark, layer_line, outcome_text, value_line, value_lines, shape_name, feature_line, feature_lines, below_layer, layer_lines, listing};
-ghost use Rattle.listing_text.specs.View.{value_seen};
+ghost use Rattle.listing_text.specs.Listing.{zoom_line, end_line, show_mark, layer_line, outcome_text, value_line, shape_name, feature_line};
 ghost use Rattle.listing_text.specs.Parts.{parts_text};
 
-use crate::layout::{
-    FeatureOut, FeatureOuts, LayerOut, LayerOuts, Layout, Show, ValueOut, ValueOuts,
-};
+use crate::show::Show;
 use decimal_json::write_text;
 use fixed_num::{Color, Fixed};
 use itoa::Buffer;
 use prop_values::{Outcome, Value, write_listed};
+use property_tables::LayerType;
 use std::alloc::AllocError;
 use tile_reader::Shape;
 
-/// Appends the listing of a layout. After want of memory a prefix of it may have been appended.
-#[tactic(auto, unfolding(crate::specs::Listing::listing))]
-pub fn write_layout(layout: &Layout, out: &mut Vec<u8>) -> Result<(), AllocError>
-    ensures ok { OnOk result (out.new.items ≡ out.old.items ++ listing layout.now) }
-    ensures err { OnErr result (AppendsPrefix out.old.items out.new.items (listing layout.now)) }
-{
-    write_zoom(layout.zoom, out)?;
-    write_layers(&layout.layers, out)?;
-    write_parts(&[b"end\n"], out)
-}
-
-fn write_zoom(zoom: Fixed, out: &mut Vec<u8>) -> Result<(), AllocError>
+/// Appends the first line.
+pub fn write_zoom(zoom: Fixed, out: &mut Vec<u8>) -> Result<(), AllocError>
     ensures ok { OnOk result (out.new.items ≡ out.old.items ++ zoom_line zoom) }
     ensures err { OnErr result (AppendsPrefix out.old.items out.new.items (zoom_line zoom)) }
 {
@@ -37,37 +25,31 @@ fn write_zoom(zoom: Fixed, out: &mut Vec<u8>) -> Result<(), AllocError>
     write_parts(&[b"zoom ", number_bytes(zoom, &mut digits), b"\n"], out)
 }
 
-fn write_layers(layers: &LayerOuts, out: &mut Vec<u8>) -> Result<(), AllocError>
-    ensures ok { OnOk result (out.new.items ≡ out.old.items ++ flat_map layer_lines layers.now) }
-    ensures err { OnErr result
-        (AppendsPrefix out.old.items out.new.items (flat_map layer_lines layers.now)) }
-{
-    for layer in layers.as_slice() {
-        write_layer(layer, out)?;
-    }
-    Ok(())
-}
-
-fn write_layer(layer: &LayerOut, out: &mut Vec<u8>) -> Result<(), AllocError>
-    ensures ok { OnOk result (out.new.items ≡ out.old.items ++ layer_lines layer.now) }
-    ensures err { OnErr result
-        (AppendsPrefix out.old.items out.new.items (layer_lines layer.now)) }
-{
-    write_layer_line(layer, out)?;
-    write_below_layer(layer, out)
-}
-
-fn write_layer_line(layer: &LayerOut, out: &mut Vec<u8>) -> Result<(), AllocError>
-    ensures ok { OnOk result (out.new.items ≡ out.old.items ++ layer_line layer.now) }
-    ensures err { OnErr result (AppendsPrefix out.old.items out.new.items (layer_line layer.now)) }
+/// Appends the line of a layer.
+pub fn write_layer_line(
+    id: &str,
+    layer_type: LayerType,
+    show: Show,
+    out: &mut Vec<u8>,
+) -> Result<(), AllocError>
+    ensures ok { OnOk result (out.new.items ≡ out.old.items ++ layer_line id.now layer_type show) }
+    ensures err { OnErr result (AppendsPrefix out.old.items out.new.items (layer_line id.now layer_type show)) }
 {
     write_parts(&[b"layer "], out)?;
-    write_text(layer.id.as_str(), out)?;
-    let name = layer.layer_type.name().as_bytes();
-    write_parts(&[b" ", name, show_mark(layer.show), b"\n"], out)
+    write_text(id, out)?;
+    let name = layer_type.name().as_bytes();
+    write_parts(&[b" ", name, show_mark(show), b"\n"], out)
 }
 
-// What stands behind the type of a layer.
+/// Appends the last line.
+pub fn write_end(out: &mut Vec<u8>) -> Result<(), AllocError>
+    ensures ok { OnOk result (out.new.items ≡ out.old.items ++ end_line) }
+    ensures err { OnErr result (AppendsPrefix out.old.items out.new.items end_line) }
+{
+    write_parts(&[b"end\n"], out)
+}
+
+// What stands after the type of a layer.
 fn show_mark(show: Show) -> &'static [u8]
     ensures { result.now ≡ show_mark show }
 {
@@ -79,51 +61,20 @@ fn show_mark(show: Show) -> &'static [u8]
     }
 }
 
-// Appends the properties of a layer and its features, where it lists them.
-fn write_below_layer(layer: &LayerOut, out: &mut Vec<u8>) -> Result<(), AllocError>
-    ensures ok { let layer = layer.now in OnOk result
-        (out.new.items ≡ out.old.items ++ below_layer layer.show layer.values layer.features) }
-    ensures err { let layer = layer.now in OnErr result
-        (AppendsPrefix out.old.items out.new.items (below_layer layer.show layer.values layer.features)) }
-{
-    match layer.show {
-        Show::Plain => {
-            write_values(b"  ", &layer.values, out)?;
-            write_features(&layer.features, out)
-        }
-        Show::Hidden | Show::Unread => Ok(()),
-        Show::OutsideFilter => write_values(b"  ", &layer.values, out),
-    }
-}
-
-fn write_features(features: &FeatureOuts, out: &mut Vec<u8>) -> Result<(), AllocError>
-    ensures ok { OnOk result (out.new.items ≡ out.old.items ++ flat_map feature_lines features.now) }
-    ensures err { OnErr result
-        (AppendsPrefix out.old.items out.new.items (flat_map feature_lines features.now)) }
-{
-    for feature in features.as_slice() {
-        write_feature(feature, out)?;
-    }
-    Ok(())
-}
-
-fn write_feature(feature: &FeatureOut, out: &mut Vec<u8>) -> Result<(), AllocError>
-    ensures ok { OnOk result (out.new.items ≡ out.old.items ++ feature_lines feature.now) }
-    ensures err { OnErr result
-        (AppendsPrefix out.old.items out.new.items (feature_lines feature.now)) }
-{
-    write_feature_line(feature, out)?;
-    write_values(b"    ", &feature.values, out)
-}
-
-fn write_feature_line(feature: &FeatureOut, out: &mut Vec<u8>) -> Result<(), AllocError>
-    ensures ok { OnOk result (out.new.items ≡ out.old.items ++ feature_line feature.now) }
-    ensures err { OnErr result (AppendsPrefix out.old.items out.new.items (feature_line feature.now)) }
+/// Appends the line of a feature.
+pub fn write_feature_line(
+    number: u32,
+    shape: Shape,
+    id: Option<u64>,
+    out: &mut Vec<u8>,
+) -> Result<(), AllocError>
+    ensures ok { OnOk result (out.new.items ≡ out.old.items ++ feature_line number shape id) }
+    ensures err { OnErr result (AppendsPrefix out.old.items out.new.items (feature_line number shape id)) }
 {
     let mut numbers = Buffer::new();
-    let number = numbers.format(feature.number).as_bytes();
-    let shape = shape_name(feature.shape);
-    match feature.id {
+    let number = numbers.format(number).as_bytes();
+    let shape = shape_name(shape);
+    match id {
         None => write_parts(&[b"  feature ", number, b" ", shape, b"\n"], out),
         Some(id) => {
             let mut ids = Buffer::new();
@@ -147,29 +98,18 @@ fn shape_name(shape: Shape) -> &'static [u8]
     }
 }
 
-fn write_values(
+/// Appends the line of a property after a margin.
+pub fn write_value(
     margin: &'static [u8],
-    values: &ValueOuts,
+    name: &str,
+    outcome: &Outcome,
     out: &mut Vec<u8>,
 ) -> Result<(), AllocError>
-    ensures ok { OnOk result (out.new.items ≡ out.old.items ++ value_lines margin.now values.now) }
-    ensures err { OnErr result
-        (AppendsPrefix out.old.items out.new.items (value_lines margin.now values.now)) }
+    ensures ok { OnOk result (out.new.items ≡ out.old.items ++ value_line margin.now name.now outcome.now) }
+    ensures err { OnErr result (AppendsPrefix out.old.items out.new.items (value_line margin.now name.now outcome.now)) }
 {
-    for value in values.as_slice() {
-        write_value(margin, value, out)?;
-    }
-    Ok(())
-}
-
-fn write_value(margin: &'static [u8], value: &ValueOut, out: &mut Vec<u8>) -> Result<(), AllocError>
-    ensures ok { OnOk result
-        (out.new.items ≡ out.old.items ++ value_line margin.now (value_seen value.now)) }
-    ensures err { OnErr result
-        (AppendsPrefix out.old.items out.new.items (value_line margin.now (value_seen value.now))) }
-{
-    write_parts(&[margin, value.name.as_bytes(), b" "], out)?;
-    write_outcome(&value.outcome, out)?;
+    write_parts(&[margin, name.as_bytes(), b" "], out)?;
+    write_outcome(outcome, out)?;
     write_parts(&[b"\n"], out)
 }
 
@@ -234,7 +174,7 @@ fn number_bytes(number: Fixed, digits: &mut [u8; 48]) -> &[u8]
     &digits[..length]
 }
 
-// Appends parts one behind the other.
+// Appends parts one after the other.
 fn write_parts(parts: &[&[u8]], out: &mut Vec<u8>) -> Result<(), AllocError>
     ensures ok { OnOk result (out.new.items ≡ out.old.items ++ parts_text parts.now) }
     ensures err { OnErr result (AppendsPrefix out.old.items out.new.items (parts_text parts.now)) }

@@ -1,5 +1,5 @@
 -- A prefix of what was to be written is one of what is defined.
-use Rattle.std.proofs.Common.{◌≡◌, ℕ, List, subst}
+use Rattle.std.proofs.Common.{ℕ, List, subst}
 use Rattle.std.specs.Prelude.{Option}
 use Rattle.outside_io.specs.Writing.{GainsPrefix}
 use Rattle.program_runs.specs.Outcome.{Outcome}

@@ -1,12 +1,11 @@
 -- From part of a run to the run.
 use Rattle.std.specs.Prelude.{◌≡◌, ℕ, List, Option, Result, Ok, Err, IfOk, IfErr}
-use Rattle.std.proofs.Common.{refl, sym, inl, inr, subst, ◌∙◌, ap}
+use Rattle.std.proofs.Common.{sym, subst, ◌∙◌, ap}
 use Rattle.std.specs.Result.{IsErrAnd}
 use Rattle.outside_io.specs.Counts.{raised}
 use Rattle.program_runs.specs.declared.answer.Answer.{Answer}
 use Rattle.program_runs.specs.declared.halt.Halt.{Halt}
 use Rattle.program_runs.specs.declared.halt.Halt.TheVariants.{NoMemory, Unread, Refused}
-use Rattle.program_runs.specs.Outcome.{Outcome}
 use Rattle.program_runs.specs.FailedReads.{NoneFailed}
 use Rattle.program_runs.specs.Progress.{outcome_of, LeadsTo, HaltsAt, GoesOn, Halts}
 use Rattle.program_runs.specs.Runs.{Run, HasOutcome}

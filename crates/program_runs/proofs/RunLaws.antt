@@ -1,6 +1,6 @@
 -- No run has two outcomes, by recursion over runs.
-use Rattle.std.specs.Prelude.{◌≡◌, ℕ, ◌≤◌, List, length, Bool, true, is_some, Option, Some, None}
-use Rattle.std.proofs.Common.{refl, sym, ap, subst, ◌∙◌, inl, inr, arith}
+use Rattle.std.specs.Prelude.{◌≡◌, ℕ, ◌≤◌, List, length, true, is_some, Option, Some, None}
+use Rattle.std.proofs.Common.{sym, ap, subst, ◌∙◌, inl, inr, arith}
 use Rattle.outside_io.specs.Reading.{IsContent, IsLongerIfTold}
 use Rattle.json_tokens.specs.Rules.{all_rules}
 use Rattle.json_tokens.specs.declared.kind.JsonKind.{JsonKind}
@@ -8,9 +8,8 @@ use Rattle.decimal_json.proofs.OneFault.{one_fault}
 use Rattle.decimal_json.proofs.OneTree.{one_tree}
 use Rattle.decimal_json.specs.Parses.{IsPlace, IsKind}
 use Rattle.program_runs.specs.Laws.{EachRunHasOneOutcome}
-use Rattle.program_runs.specs.Outcome.{Outcome}
-use Rattle.program_runs.specs.Refusals.{too_long, no_json}
-use Rattle.program_runs.specs.Runs.{Run, ends, reads, parses, HasOutcome, AreTold}
+use Rattle.program_runs.specs.Refusals.{no_json}
+use Rattle.program_runs.specs.Runs.{ends, reads, parses, HasOutcome}
 
 one_refusal : (what text : List ℕ) (kind other : JsonKind) (at place : ℕ) → IsPlace text at → IsKind kind text at → IsPlace text place → IsKind other text place → no_json what kind at ≡ no_json what other place
 one_refusal what text kind other at place at_first first at_second second =
@@ -28,10 +27,10 @@ one_content (Some c) a b told p q = p ∙ sym q
 
 pub one_outcome : EachRunHasOneOutcome
 one_outcome files (ends made) told o p d e = d ∙ sym e
-one_outcome files (reads what name limit after) told o p (inl a) (inl b) = a.1 ∙ sym b.1
-one_outcome files (reads what name limit after) told o p (inl a) (inr (bytes, is, e)) = absurd (not_both (files name) limit bytes told.0 a.0 is.0 is.1)
-one_outcome files (reads what name limit after) told o p (inr (bytes, is, d)) (inl b) = absurd (not_both (files name) limit bytes told.0 b.0 is.0 is.1)
-one_outcome files (reads what name limit after) told o p (inr (bytes, is, d)) (inr (others, are, e)) =
+one_outcome files (reads longer name limit after) told o p (inl a) (inl b) = a.1 ∙ sym b.1
+one_outcome files (reads longer name limit after) told o p (inl a) (inr (bytes, is, e)) = absurd (not_both (files name) limit bytes told.0 a.0 is.0 is.1)
+one_outcome files (reads longer name limit after) told o p (inr (bytes, is, d)) (inl b) = absurd (not_both (files name) limit bytes told.0 b.0 is.0 is.1)
+one_outcome files (reads longer name limit after) told o p (inr (bytes, is, d)) (inr (others, are, e)) =
     one_outcome files (after bytes) (told.1 bytes is) o p d (subst (λ x. HasOutcome files (after x) p) (one_content (files name) others bytes told.0 are.0 is.0) e)
 one_outcome files (parses what bytes after) told o p (inl (s, spells, d)) (inl (t, also, e)) =
     one_outcome files (after s) (told s spells) o p d (subst (λ x. HasOutcome files (after x) p) (one_tree all_rules bytes t s also spells) e)

@@ -1,5 +1,5 @@
 -- The lines on standard error that refuse what was read.
-use Rattle.std.specs.Prelude.{ℕ, List, ◌++◌, codes, decimal}
+use Rattle.std.specs.Prelude.{ℕ, zero, suc, List, [], ◌++◌, codes, decimal}
 use Rattle.decimal_json.specs.JsonText.{text_json}
 use Rattle.json_tokens.specs.declared.kind.JsonKind.{JsonKind}
 use Rattle.json_tokens.specs.declared.kind.JsonKind.TheVariants.{Syntax, Utf8, DuplicateKey, Depth, NumberLength, LoneSurrogate}
@@ -18,9 +18,14 @@ json_kind_name Depth = codes "Depth"
 json_kind_name NumberLength = codes "NumberLength"
 json_kind_name LoneSurrogate = codes "LoneSurrogate"
 
+-- of tiles of one source, which one it is: the first has no number
+abbrev pub tile_number : ℕ → List ℕ
+tile_number zero = []
+tile_number (suc n) = codes " tile " ++ decimal (suc n)
+
 -- a file is longer than it may be
-abbrev pub too_long : (what : List ℕ) → Outcome
-too_long what = refused (what ++ codes " TooLong")
+abbrev pub too_long : (what which : List ℕ) → Outcome
+too_long what which = refused (what ++ (codes " TooLong" ++ which))
 
 -- no JSON text: the kind of the fault, and its place in bytes from the beginning
 abbrev pub no_json : (what : List ℕ) → JsonKind → ℕ → Outcome

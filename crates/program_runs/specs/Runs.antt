@@ -1,5 +1,5 @@
 -- A run as data: what is read, in its order, and what comes of the bytes that were read.
-use Rattle.std.specs.Prelude.{◌≡◌, ℕ, ◌≤◌, List, length, Bool, true, is_some, Option, ◌⊎◌}
+use Rattle.std.specs.Prelude.{◌≡◌, ℕ, ◌≤◌, List, length, true, is_some, Option, ◌⊎◌}
 use Rattle.outside_io.specs.Reading.{IsContent, IsLongerIfTold}
 use Rattle.json_tokens.specs.Rules.{all_rules}
 use Rattle.json_tokens.specs.declared.kind.JsonKind.{JsonKind}
@@ -7,13 +7,13 @@ use Rattle.decimal_json.specs.Grammar.{Spells}
 use Rattle.decimal_json.specs.Parses.{IsAccepted, IsPlace, IsKind}
 use Rattle.decimal_json.specs.Tree.{Tree}
 use Rattle.program_runs.specs.Outcome.{Outcome}
-use Rattle.program_runs.specs.Refusals.{too_long, no_json}
+use Rattle.program_runs.specs.Refusals.{no_json}
 
 pub data Run : Type 0 where
   -- all is read, and this is the outcome
   ends : Outcome → Run
-  -- the file of this name is read, of so many bytes at most; a refusal says what it is
-  reads : (what name : List ℕ) → (limit : ℕ) → (after : List ℕ → Run) → Run
+  -- the file of this name is read, of so many bytes at most: a longer one is refused
+  reads : (longer : Outcome) → (name : List ℕ) → (limit : ℕ) → (after : List ℕ → Run) → Run
   -- the bytes are a JSON text; a refusal says what it is
   parses : (what bytes : List ℕ) → (after : Tree → Run) → Run
 
@@ -26,8 +26,8 @@ module _ (files : List ℕ → Option (List ℕ)) where
   -- fault, which is told.
   abbrev pub HasOutcome : Run → Outcome → Type 0
   HasOutcome (ends made) o = o ≡ made
-  HasOutcome (reads what name limit after) o =
-      (IsLongerIfTold (files name) limit × (o ≡ too_long what))
+  HasOutcome (reads longer name limit after) o =
+      (IsLongerIfTold (files name) limit × (o ≡ longer))
       ⊎ ((bytes : List ℕ) × IsFile name limit bytes × HasOutcome (after bytes) o)
   HasOutcome (parses what bytes after) o =
       ((t : Tree) × Spells all_rules bytes t × HasOutcome (after t) o)
@@ -36,17 +36,17 @@ module _ (files : List ℕ → Option (List ℕ)) where
   -- every file that the run comes to read is told
   abbrev pub AreTold : Run → Type 0
   AreTold (ends made) = Unit {0}
-  AreTold (reads what name limit after) = (is_some (files name) ≡ true) × ((bytes : List ℕ) → IsFile name limit bytes → AreTold (after bytes))
+  AreTold (reads longer name limit after) = (is_some (files name) ≡ true) × ((bytes : List ℕ) → IsFile name limit bytes → AreTold (after bytes))
   AreTold (parses what bytes after) = (t : Tree) → Spells all_rules bytes t → AreTold (after t)
 
   -- the run comes to read the file of this name
   abbrev pub IsReached : Run → List ℕ → Type 0
   IsReached (ends made) name = ⊥
-  IsReached (reads what first limit after) name = (name ≡ first) ⊎ ((bytes : List ℕ) × IsFile first limit bytes × IsReached (after bytes) name)
+  IsReached (reads longer first limit after) name = (name ≡ first) ⊎ ((bytes : List ℕ) × IsFile first limit bytes × IsReached (after bytes) name)
   IsReached (parses what bytes after) name = (t : Tree) × Spells all_rules bytes t × IsReached (after t) name
 
 -- the run reads no file
 abbrev pub IsFileless : Run → Type 0
 IsFileless (ends made) = Unit {0}
-IsFileless (reads what name limit after) = ⊥
+IsFileless (reads longer name limit after) = ⊥
 IsFileless (parses what bytes after) = (t : Tree) → IsFileless (after t)

@@ -31,4 +31,4 @@ pub use laws::each_run_has_one_outcome;
 pub use reading::{parse_json, read_file, read_json};
 pub use refusals::{no_json, too_long};
 pub use status::{Ending, Status};
-pub use subject::{Subject, write_subject};
+pub use subject::{Subject, write_number, write_subject};

@@ -4,9 +4,10 @@ ghost use Rattle.std.specs.Prelude.{◌≡◌, ℕ, List, Option, OnOk, IfOk, If
 ghost use Rattle.decimal_json.specs.View.{tree_of};
 ghost use Rattle.program_runs.specs.Parts.{json_part};
 ghost use Rattle.program_runs.specs.FailedReads.{NoneFailed};
+ghost use Rattle.program_runs.specs.Refusals.{too_long};
 ghost use Rattle.program_runs.specs.Progress.{GoesOn, Halts};
 ghost use Rattle.program_runs.specs.Runs.{reads, parses};
-ghost use Rattle.program_runs.specs.Subjects.{subject_text};
+ghost use Rattle.program_runs.specs.Subjects.{subject_text, subject_number};
 
 use crate::halt::Halt;
 use crate::refusals::{no_json, too_long};
@@ -25,8 +26,8 @@ pub fn read_file<'a, F: Files>(
 ) -> Result<Vec<u8>, Halt<'a>>
     ensures told { F.told files.new ≡ F.told files.old }
     ensures failed { OnOk result (NoneFailed (F.faults files.old) (F.faults files.new) (F.failed files.old) (F.failed files.new)) }
-    ensures on { IfOk result (λ bytes. GoesOn (F.told files.old) (reads (subject_text what.now) name.now at_most) bytes.items) }
-    ensures halt { IfErr result (λ halt. Halts (F.told files.old) (reads (subject_text what.now) name.now at_most)
+    ensures on { IfOk result (λ bytes. GoesOn (F.told files.old) (reads (too_long (subject_text what.now) (subject_number what.now)) name.now at_most) bytes.items) }
+    ensures halt { IfErr result (λ halt. Halts (F.told files.old) (reads (too_long (subject_text what.now) (subject_number what.now)) name.now at_most)
         (F.faults files.old) (F.faults files.new) (F.failed files.old) (F.failed files.new) halt) }
 {
     let mut bytes = Vec::new(alloc);
@@ -61,8 +62,8 @@ pub fn read_json<'a, F: Files>(
 ) -> Result<Json, Halt<'a>>
     ensures told { F.told files.new ≡ F.told files.old }
     ensures failed { OnOk result (NoneFailed (F.faults files.old) (F.faults files.new) (F.failed files.old) (F.failed files.new)) }
-    ensures on { IfOk result (λ json. GoesOn (F.told files.old) (json_part (subject_text what.now) name.now at_most) (tree_of json)) }
-    ensures halt { IfErr result (λ halt. Halts (F.told files.old) (json_part (subject_text what.now) name.now at_most)
+    ensures on { IfOk result (λ json. GoesOn (F.told files.old) (json_part (subject_text what.now) (subject_number what.now) name.now at_most) (tree_of json)) }
+    ensures halt { IfErr result (λ halt. Halts (F.told files.old) (json_part (subject_text what.now) (subject_number what.now) name.now at_most)
         (F.faults files.old) (F.faults files.new) (F.failed files.old) (F.failed files.new) halt) }
 {
     let bytes = read_file(alloc, what, name, at_most, files)?;

@@ -3,21 +3,22 @@
 ghost use Rattle.std.specs.Prelude.{◌≡◌, IfOk};
 ghost use Rattle.program_runs.specs.Progress.{outcome_of};
 ghost use Rattle.program_runs.specs.Refusals.{json_kind_name, no_json, too_long};
-ghost use Rattle.program_runs.specs.Subjects.{subject_text};
+ghost use Rattle.program_runs.specs.Subjects.{subject_text, subject_number};
 
 use crate::answer::{Answer, answer_refused, begin_refusal};
-use crate::subject::{Subject, write_subject};
+use crate::subject::{Subject, write_number, write_subject};
 use decimal_json::{JsonFault, JsonKind};
 use itoa::Buffer;
 use std::alloc::{AllocError, Global};
 
 /// A file that is longer than it may be.
 pub fn too_long(alloc: Global, what: &Subject<'_>) -> Result<Answer, AllocError>
-    ensures { IfOk result (λ answer. outcome_of answer ≡ too_long (subject_text what.now)) }
+    ensures { IfOk result (λ answer. outcome_of answer ≡ too_long (subject_text what.now) (subject_number what.now)) }
 {
     let mut line = begin_refusal(alloc)?;
     write_subject(what, &mut line)?;
     line.extend_from_slice(b" TooLong")?;
+    write_number(what, &mut line)?;
     answer_refused(alloc, line)
 }
 

@@ -2,23 +2,24 @@ use Rattle.std.proofs.Common.{refl}
 use Rattle.decimal_json.specs.View.{tree_of}
 use Rattle.program_runs.specs.Parts.{json_part}
 use Rattle.program_runs.specs.Progress.{Halts}
+use Rattle.program_runs.specs.Refusals.{too_long}
 use Rattle.program_runs.specs.Runs.{reads, parses}
-use Rattle.program_runs.specs.Subjects.{subject_text}
+use Rattle.program_runs.specs.Subjects.{subject_text, subject_number}
 use Rattle.program_runs.proofs.Going.{halts_first, goes_both, halts_second, at_residual}
 use Rattle.program_runs.proofs.reading.read_json.Goals as goal
 
 pub returns-clause-on : goal.returns-clause-on
 returns-clause-on g c =
-    let files = g.F.Files.told c.args.files.now in let what = subject_text c.args.what.now in
-    goes_both files (reads what c.args.name.now c.args.at_most) (parses what) c.in_ok-bytes.bytes.items c.as_slice.result.now c.in_ok-bytes.ensures.on c.as_slice.ensures.value files refl tree_of c.parse_json.result (c.parse_json.ensures.on files)
+    let files = g.F.Files.told c.args.files.now in let what = subject_text c.args.what.now in let which = subject_number c.args.what.now in
+    goes_both files (reads (too_long what which) c.args.name.now c.args.at_most) (parses what) c.in_ok-bytes.bytes.items c.as_slice.result.now c.in_ok-bytes.ensures.on c.as_slice.ensures.value files refl tree_of c.parse_json.result (c.parse_json.ensures.on files)
 
 pub returns-clause-halt : goal.returns-clause-halt
 returns-clause-halt g c =
-    let files = g.F.Files.told c.args.files.now in let what = subject_text c.args.what.now in
-    halts_second files (reads what c.args.name.now c.args.at_most) (parses what) c.in_ok-bytes.bytes.items c.as_slice.result.now c.in_ok-bytes.ensures.on c.as_slice.ensures.value files refl _ _ _ _ _ _ c.parse_json.result c.in_ok-bytes.ensures.failed (c.parse_json.ensures.halt files _ _)
+    let files = g.F.Files.told c.args.files.now in let what = subject_text c.args.what.now in let which = subject_number c.args.what.now in
+    halts_second files (reads (too_long what which) c.args.name.now c.args.at_most) (parses what) c.in_ok-bytes.bytes.items c.as_slice.result.now c.in_ok-bytes.ensures.on c.as_slice.ensures.value files refl _ _ _ _ _ _ c.parse_json.result c.in_ok-bytes.ensures.failed (c.parse_json.ensures.halt files _ _)
 
 pub returns-in_err-bytes-clause-halt : goal.returns-in_err-bytes-clause-halt
 returns-in_err-bytes-clause-halt g c =
-    let files = g.F.Files.told c.args.files.now in let what = subject_text c.args.what.now in
-    at_residual (λ h. Halts files (json_part what c.args.name.now c.args.at_most) _ _ _ _ h) c.in_err-bytes.field-0.0 c.from_residual.result c.from_residual.ensures.1
-    (halts_first files (reads what c.args.name.now c.args.at_most) (parses what) _ _ _ _ c.in_err-bytes.field-0.0 c.in_err-bytes.ensures.halt)
+    let files = g.F.Files.told c.args.files.now in let what = subject_text c.args.what.now in let which = subject_number c.args.what.now in
+    at_residual (λ h. Halts files (json_part what which c.args.name.now c.args.at_most) _ _ _ _ h) c.in_err-bytes.field-0.0 c.from_residual.result c.from_residual.ensures.1
+    (halts_first files (reads (too_long what which) c.args.name.now c.args.at_most) (parses what) _ _ _ _ c.in_err-bytes.field-0.0 c.in_err-bytes.ensures.halt)

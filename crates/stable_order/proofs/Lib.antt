@@ -1,0 +1,3 @@
+pub mod OneOrder
+pub mod KeyOrder
+pub mod Lawful

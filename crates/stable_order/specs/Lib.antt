@@ -1,0 +1,5 @@
+-- To be believed.
+pub mod InOrder
+pub mod Keys
+-- Laws of these.
+pub mod Laws
