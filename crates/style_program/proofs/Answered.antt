@@ -1,31 +1,12 @@
 -- From what was read and answered to the outcome that is defined.
-use Rattle.std.specs.Prelude.{◌≡◌, ℕ, List, codes, Bool, Option, Result, Ok, Err, IfOk}
-use Rattle.std.proofs.Common.{◌∙◌, ap, subst}
-use Rattle.tile_reader.specs.Tile.{tile_of}
-use Rattle.tile_reader.specs.declared.tile.Feature.{Feature}
-use Rattle.tile_reader.specs.declared.tile.TileLayer.{TileLayer}
-use Rattle.circle_layer.specs.CircleLayout.{features_named}
-use Rattle.circle_layer.specs.CircleStyle.{CircleForm}
+use Rattle.std.specs.Prelude.{◌≡◌, ℕ, List, codes, Bool, Option}
+use Rattle.std.proofs.Common.{subst}
 use Rattle.expr_syntax.specs.Reading.{reading}
 use Rattle.program_runs.specs.Outcome.{Outcome}
-use Rattle.program_runs.specs.Progress.{HaltsAt, outcome_of}
+use Rattle.program_runs.specs.Progress.{HaltsAt}
 use Rattle.program_runs.specs.Runs.{Run, HasOutcome, ends, parses}
-use Rattle.program_runs.specs.declared.answer.Answer.{Answer}
 use Rattle.program_runs.specs.declared.halt.Halt.{Halt}
-use Rattle.style_program.specs.EvalRun.{features_outcome, tile_outcome}
 use Rattle.style_program.specs.ValueRun.{value_run, expression_outcome}
-use Rattle.style_program.specs.Words.{EvalWords}
-
--- what holds of each answer holds of the answer that there is
-pub if_ok : {A E : Type 0} (P Q : A → Type 0) (r : Result A E) → ((x : A) → P x → Q x) → IfOk r P → IfOk r Q
-if_ok P Q (Ok x) f h = f x h
-if_ok P Q (Err e) f h = h
-
-module _ (w : EvalWords) (images scripts : List ℕ → Bool) where
-  pub tile_answered : {E : Type 0} (style : CircleForm) (bytes : List ℕ) (tile : List TileLayer) (features : List Feature) (r : Result Answer E) → Ok tile ≡ tile_of bytes → features ≡ features_named style.source_layer tile → IfOk r (λ a. outcome_of a ≡ features_outcome w images scripts style features) → IfOk r (λ a. outcome_of a ≡ tile_outcome w images scripts style (tile_of bytes))
-  tile_answered style bytes tile features r is named =
-      if_ok (λ a. outcome_of a ≡ features_outcome w images scripts style features) (λ a. outcome_of a ≡ tile_outcome w images scripts style (tile_of bytes)) r
-      (λ a d. d ∙ (ap (features_outcome w images scripts style) named ∙ ap (tile_outcome w images scripts style) is))
 
 -- the bytes that were parsed are those of the word
 module _ (files : List ℕ → Option (List ℕ)) (images scripts : List ℕ → Bool) (text bytes : List ℕ) where

@@ -1,6 +1,7 @@
-pub mod Counts
 pub mod OneOutcome
 pub mod Answered
 pub mod Moved
 pub mod ListedFaults
 mod TypedOutcome
+pub mod TileWords
+pub mod TileRuns

@@ -14,7 +14,7 @@ help_text =
     line (codes "value EXPR                      prints the value of an expression as JSON, or error and the fault's name") ++
     line (codes "validate STYLE                  prints what a style breaks and invalid, or what may go wrong and valid") ++
     line (codes "migrate STYLE                   prints a style with its legacy forms as expressions, or what it breaks and invalid") ++
-    line (codes "eval STYLE ZOOM SOURCE=TILE     prints what a style shows at a zoom over a tile of its source") ++
+    line (codes "eval STYLE ZOOM SOURCE=TILE ..  prints what a style shows at a zoom over tiles of its sources") ++
     line (codes "--help                          prints these lines") ++
     line (codes "--version                       prints the program's name and version")
 

@@ -2,12 +2,14 @@
 pub mod Words
 pub mod Refusals
 pub mod ValueRun
-pub mod EvalRun
+pub mod StyleFile
 pub mod ValidateRun
 pub mod MigrateRun
+pub mod EvalRun
 pub mod Commands
 pub mod ListedFaults
 -- A law of these.
 pub mod OneOutcome
 -- What only contracts of private functions, models and proofs use.
 pub mod WordsView
+pub mod TileRunView

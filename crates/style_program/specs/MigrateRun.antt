@@ -1,14 +1,13 @@
 -- The run of `migrate`: the migrated style as JSON, or what the style breaks. Source: own.
-use Rattle.std.specs.Prelude.{ℕ, List, [], ◌∷◌, codes}
+use Rattle.std.specs.Prelude.{ℕ, List, [], ◌∷◌}
 use Rattle.decimal_json.specs.JsonText.{json_text}
 use Rattle.decimal_json.specs.Tree.{Tree}
 use Rattle.decimal_json.specs.declared.paths.PathPart.{PathPart}
 use Rattle.program_runs.specs.declared.status.Ending.TheVariants.{Fine, Found}
 use Rattle.program_runs.specs.Outcome.{Outcome, line, said}
-use Rattle.program_runs.specs.Parts.{json_part}
 use Rattle.program_runs.specs.Runs.{Run, ends}
 use Rattle.style_migrate.specs.Migrated.{migrated}
-use Rattle.style_program.specs.EvalRun.{style_limit}
+use Rattle.style_program.specs.StyleFile.{style_part}
 use Rattle.style_program.specs.ValidateRun.{broken_text}
 use Rattle.style_rules.specs.Findings.{findings}
 
@@ -21,4 +20,4 @@ abbrev pub migrate_outcome : Tree → Outcome
 migrate_outcome t = migrated_or_broken (findings t) t
 
 abbrev pub migrate_run : List ℕ → Run
-migrate_run name = json_part (codes "style") name style_limit (λ t. ends (migrate_outcome t))
+migrate_run name = style_part name (λ t. ends (migrate_outcome t))

@@ -11,11 +11,7 @@ use Rattle.tile_reader.specs.declared.fault.TileFault.{TileFault}
 use Rattle.tile_reader.specs.declared.fault.TileKind.{TileKind}
 use Rattle.tile_reader.specs.declared.fault.TileKind.TheVariants as tiles
 use Rattle.program_runs.specs.Outcome.{Outcome, refused}
-use Rattle.program_runs.specs.Refusals.{tile_text}
-
--- a style that is none of those that are read so far
-abbrev pub unbuilt : List ℕ → Outcome
-unbuilt what = refused (what ++ codes " Unbuilt")
+use Rattle.program_runs.specs.Refusals.{tile_text, tile_number}
 
 -- an expression with a node that is outside of what is evaluated
 abbrev pub outside : Outcome
@@ -47,13 +43,18 @@ tile_kind_name tiles.Utf8 = codes "Utf8"
 tile_kind_name tiles.FieldType = codes "FieldType"
 tile_kind_name tiles.GeometryType = codes "GeometryType"
 
--- the tile of a source is none: the kind of the fault, and its place
-abbrev pub no_tile : List ℕ → TileFault → Outcome
-no_tile source fault = refused (tile_text source ++ (codes " " ++ (tile_kind_name fault.kind ++ (codes " " ++ decimal fault.at))))
+-- the tile of a source is none: the kind of the fault, its place, and which of the source's tiles it is
+abbrev pub no_tile : (source : List ℕ) (number : ℕ) → TileFault → Outcome
+no_tile source number fault =
+    refused (tile_text source ++ (codes " " ++ (tile_kind_name fault.kind ++ (codes " " ++ (decimal fault.at ++ tile_number number)))))
 
 -- the style has no source of this name
 abbrev pub unknown_source : List ℕ → Outcome
 unknown_source source = refused (codes "open UnknownSource " ++ text_json source)
+
+-- the source of this name is not of type vector
+abbrev pub not_vector : List ℕ → Outcome
+not_vector source = refused (codes "open NotVector " ++ text_json source)
 
 -- more cells than are allowed
 abbrev pub too_many_cells : ℕ → Outcome

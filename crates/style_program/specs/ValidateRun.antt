@@ -8,9 +8,8 @@ use Rattle.prop_values.specs.declared.fault.EvalFault.{EvalFault}
 use Rattle.prop_values.specs.declared.fault.FaultSet.{FaultSet}
 use Rattle.program_runs.specs.declared.status.Ending.TheVariants.{Fine, Found}
 use Rattle.program_runs.specs.Outcome.{Outcome, line, said}
-use Rattle.program_runs.specs.Parts.{json_part}
 use Rattle.program_runs.specs.Runs.{Run, ends}
-use Rattle.style_program.specs.EvalRun.{style_limit}
+use Rattle.style_program.specs.StyleFile.{style_part}
 use Rattle.style_rules.specs.Findings.{findings, notes, may_lines, every_fault}
 
 -- a place that breaks a rule: its path as a JSON string, and the rule by its number
@@ -45,4 +44,4 @@ abbrev pub validate_outcome : Tree → Outcome
 validate_outcome t = outcome_by (findings t) (notes t) (may_lines t)
 
 abbrev pub validate_run : List ℕ → Run
-validate_run name = json_part (codes "style") name style_limit (λ t. ends (validate_outcome t))
+validate_run name = style_part name (λ t. ends (validate_outcome t))

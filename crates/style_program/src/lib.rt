@@ -10,7 +10,7 @@
 //! (`words_have_one_outcome`). Where nothing outside fails and memory suffices, the run has its outcome; in every run what is written is a
 //! prefix of it, or of the line that tells which file could not be read; and each status has its cause.
 //!
-//! The text to believe is in `specs/`: `Words`, `Refusals`, `ValueRun`, `EvalRun`, `ValidateRun`, `MigrateRun`, `Commands`. Law of it: `OneOutcome`.
+//! The text to believe is in `specs/`: `Words`, `Refusals`, `ValueRun`, `StyleFile`, `ValidateRun`, `MigrateRun`, `EvalRun`, `Commands`. Law of it: `OneOutcome`.
 #![tactic(auto)]
 
 mod eval_command;
@@ -18,6 +18,7 @@ mod laws;
 mod migrate_command;
 mod refusals;
 mod reply;
+mod style_file;
 mod top;
 mod validate_command;
 mod value_command;

@@ -11,7 +11,7 @@ ghost use Rattle.style_migrate.specs.Migrated.{migrated};
 ghost use Rattle.style_rules.specs.CodeView.{finding_seen};
 ghost use Rattle.style_program.specs.MigrateRun.{migrate_run, migrate_outcome, migrated_or_broken};
 
-use crate::eval_command::STYLE_LIMIT;
+use crate::style_file::STYLE_LIMIT;
 use crate::validate_command::answer_broken;
 use decimal_json::{Json, write};
 use outside_io::Files;

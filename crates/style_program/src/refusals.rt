@@ -1,27 +1,17 @@
 //! The lines on standard error that say why something is refused.
 
 ghost use Rattle.std.specs.Prelude.{◌≡◌, IfOk};
-ghost use Rattle.style_program.specs.Refusals.{unbuilt, outside, no_expression, no_type, tile_kind_name, no_tile, unknown_source, too_many_cells, no_zoom};
+ghost use Rattle.style_program.specs.Refusals.{outside, no_expression, no_type, tile_kind_name, no_tile, unknown_source, not_vector, too_many_cells, no_zoom};
 ghost use Rattle.program_runs.specs.Progress.{outcome_of};
 
 use decimal_json::{write_path, write_text};
 use expr_syntax::SynFault;
 use expr_types::TypeFault;
 use itoa::Buffer;
-use program_runs::{Answer, Subject, answer_refused, begin_refusal, write_subject};
+use program_runs::{Answer, Subject, answer_refused, begin_refusal, write_number, write_subject};
 use proto_wire::WireKind;
 use std::alloc::{AllocError, Global};
 use tile_reader::{TileFault, TileKind};
-
-/// A style that is none of those that are read so far.
-pub fn unbuilt(alloc: Global, what: &[u8]) -> Result<Answer, AllocError>
-    ensures { IfOk result (λ answer. outcome_of answer ≡ unbuilt what.now) }
-{
-    let mut line = begin_refusal(alloc)?;
-    line.extend_from_slice(what)?;
-    line.extend_from_slice(b" Unbuilt")?;
-    answer_refused(alloc, line)
-}
 
 /// An expression with a node that is outside of what is evaluated.
 pub fn outside(alloc: Global) -> Result<Answer, AllocError>
@@ -56,17 +46,24 @@ pub fn no_type(alloc: Global, fault: &TypeFault) -> Result<Answer, AllocError>
     answer_refused(alloc, line)
 }
 
-/// Bytes that are no tile.
-pub fn no_tile(alloc: Global, source: &str, fault: TileFault) -> Result<Answer, AllocError>
-    ensures { IfOk result (λ answer. outcome_of answer ≡ no_tile source.now fault) }
+/// Bytes that are no tile: of a source, the tile of this number.
+pub fn no_tile(
+    alloc: Global,
+    source: &str,
+    number: usize,
+    fault: TileFault,
+) -> Result<Answer, AllocError>
+    ensures { IfOk result (λ answer. outcome_of answer ≡ no_tile source.now number fault) }
 {
+    let what = Subject::Tile(source, number);
     let mut at = Buffer::new();
     let mut line = begin_refusal(alloc)?;
-    write_subject(&Subject::Tile(source), &mut line)?;
+    write_subject(&what, &mut line)?;
     line.extend_from_slice(b" ")?;
     line.extend_from_slice(tile_kind_name(fault.kind))?;
     line.extend_from_slice(b" ")?;
     line.extend_from_slice(at.format(fault.at).as_bytes())?;
+    write_number(&what, &mut line)?;
     answer_refused(alloc, line)
 }
 
@@ -80,8 +77,18 @@ pub fn unknown_source(alloc: Global, source: &str) -> Result<Answer, AllocError>
     answer_refused(alloc, line)
 }
 
+/// A source that is not of type vector.
+pub fn not_vector(alloc: Global, source: &str) -> Result<Answer, AllocError>
+    ensures { IfOk result (λ answer. outcome_of answer ≡ not_vector source.now) }
+{
+    let mut line = begin_refusal(alloc)?;
+    line.extend_from_slice(b"open NotVector ")?;
+    write_text(source, &mut line)?;
+    answer_refused(alloc, line)
+}
+
 /// More cells than are allowed.
-pub fn too_many_cells(alloc: Global, count: u64) -> Result<Answer, AllocError>
+pub fn too_many_cells(alloc: Global, count: u128) -> Result<Answer, AllocError>
     ensures { IfOk result (λ answer. outcome_of answer ≡ too_many_cells count) }
 {
     let mut digits = Buffer::new();

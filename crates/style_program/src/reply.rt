@@ -19,7 +19,7 @@ const HELP: &[u8] =
     b"value EXPR                      prints the value of an expression as JSON, or error and the fault's name
 validate STYLE                  prints what a style breaks and invalid, or what may go wrong and valid
 migrate STYLE                   prints a style with its legacy forms as expressions, or what it breaks and invalid
-eval STYLE ZOOM SOURCE=TILE     prints what a style shows at a zoom over a tile of its source
+eval STYLE ZOOM SOURCE=TILE ..  prints what a style shows at a zoom over tiles of its sources
 --help                          prints these lines
 --version                       prints the program's name and version
 ";

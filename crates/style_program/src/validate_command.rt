@@ -9,7 +9,7 @@ ghost use Rattle.program_runs.specs.Runs.{HasOutcome};
 ghost use Rattle.style_rules.specs.CodeView.{finding_seen, may_seen};
 ghost use Rattle.style_program.specs.ValidateRun.{validate_run, validate_outcome, outcome_by, broken_text, sound_text, finding_line, note_line, may_line, fault_word};
 
-use crate::eval_command::STYLE_LIMIT;
+use crate::style_file::STYLE_LIMIT;
 use decimal_json::{Json, Path, write_path};
 use itoa::Buffer;
 use outside_io::Files;

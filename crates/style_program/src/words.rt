@@ -1,18 +1,17 @@
-ghost use Rattle.std.specs.Prelude.{◌≡◌, map, string_bytes, option_map, codes, if◌then◌else◌};
+ghost use Rattle.std.specs.Prelude.{◌≡◌, ◌+◌, ◌^◌, ◌<◌, ◌≤◌, false, length, map, string_bytes, IfSome, IfNone, option_map, codes, if◌then◌else◌};
 ghost use Rattle.std.specs.Str.{bytes_eq};
 ghost use Rattle.fixed_num.specs.Decimal.{read_text};
-ghost use Rattle.style_program.specs.Words.{Wrong, asked, asked_alone, asked_of_one, asked_eval, source_and_tile};
-ghost use Rattle.style_program.specs.WordsView.{asked_by};
+ghost use Rattle.style_program.specs.Words.{Wrong, asked, asked_alone, asked_of_one, asked_eval, source_and_tile, are_tiles, are_pairs, are_allowed, is_allowed, with_source, count_of, tile_words};
+ghost use Rattle.style_program.specs.WordsView.{asked_by, is_tile_of, are_allowed_from};
 
 use fixed_num::{Fixed, read_decimal};
 
-/// What `eval` is given: names of files, and the source whose tile the last of them is.
+/// What `eval` is given: the name of the file of a style, and words `SOURCE=TILE` of tiles.
 #[derive(Clone, Copy, Debug)]
 pub struct EvalRequest<'a> {
     pub style: &'a str,
     pub zoom: Fixed,
-    pub source: &'a str,
-    pub tile: &'a str,
+    pub tiles: &'a [String],
 }
 
 /// What the words ask for.
@@ -39,13 +38,8 @@ pub fn request_of(words: &[String]) -> Request<'_>
     match words {
         [word] => request_alone(word.as_str()),
         [command, word] => request_of_one(command.as_str(), word.as_str()),
-        [command, style, zoom, tile] => {
-            request_eval(
-                command.as_str(),
-                style.as_str(),
-                zoom.as_str(),
-                tile.as_str(),
-            )
+        [command, style, zoom, tiles @ ..] => {
+            request_eval(command.as_str(), style.as_str(), zoom.as_str(), tiles)
         }
         _ => Request::Wrong,
     }
@@ -72,8 +66,8 @@ fn request_of_one<'a>(command: &str, word: &'a str) -> Request<'a>
     }
 }
 
-fn request_eval<'a>(command: &str, style: &'a str, zoom: &str, tile: &'a str) -> Request<'a>
-    ensures { asked_by result ≡ (if bytes_eq command.now (codes "eval") then asked_eval style.now (read_text zoom.now) (source_and_tile tile.now) else Wrong) }
+fn request_eval<'a>(command: &str, style: &'a str, zoom: &str, tiles: &'a [String]) -> Request<'a>
+    ensures { asked_by result ≡ (if bytes_eq command.now (codes "eval") then asked_eval style.now (read_text zoom.now) (map string_bytes tiles.now) else Wrong) }
 {
     if command != "eval" {
         return Request::Wrong;
@@ -81,19 +75,105 @@ fn request_eval<'a>(command: &str, style: &'a str, zoom: &str, tile: &'a str) ->
     let Ok(zoom) = read_decimal(zoom.as_bytes()) else {
         return Request::Wrong;
     };
-    match source_and_tile(tile) {
-        Some((source, tile)) => Request::Eval(EvalRequest {
-            style,
-            zoom,
-            source,
-            tile,
-        }),
-        None => Request::Wrong,
+    if !are_tiles(tiles) {
+        return Request::Wrong;
+    }
+    Request::Eval(EvalRequest { style, zoom, tiles })
+}
+
+fn are_tiles(words: &[String]) -> bool
+    ensures { result ≡ are_tiles (map string_bytes words.now) }
+{
+    are_pairs(words) && are_allowed(words)
+}
+
+fn are_pairs(words: &[String]) -> bool
+    ensures { result ≡ are_pairs (map string_bytes words.now) }
+{
+    for word in words {
+        if source_and_tile(word.as_str()).is_none() {
+            return false;
+        }
+    }
+    true
+}
+
+const MOST_SOURCES: usize = 16;
+
+const MOST_TILES: usize = 64;
+
+fn are_allowed(words: &[String]) -> bool
+    ensures { result ≡ are_allowed (tile_words (map string_bytes words.now)) }
+{
+    let mut sources: usize = 0;
+    for i in 0..words.len() {
+        match sources_after(sources, words, i) {
+            Some(found) => sources = found,
+            None => return false,
+        }
+    }
+    true
+}
+
+// How many sources there are after a word, by those before it; none where the word is one tile too many.
+fn sources_after(sources: usize, words: &[String], i: usize) -> Option<usize>
+    requires word { i < length words.now }
+    requires few { sources ≤ i }
+    ensures goes_on { IfSome result (λ found. are_allowed_from found (i + 1) words.now ≡ are_allowed_from sources i words.now) }
+    ensures stops { IfNone result (are_allowed_from sources i words.now ≡ false) }
+    ensures few { IfSome result (λ found. found ≤ i + 1) }
+{
+    let Some((source, _)) = source_and_tile(words[i].as_str()) else {
+        return Some(sources);
+    };
+    let before = count_of(source, &words[..i]);
+    if !is_allowed(sources, before) {
+        return None;
+    }
+    Some(with_source(sources, before))
+}
+
+fn with_source(sources: usize, before: usize) -> usize
+    requires { sources < 2 ^ 63 }
+    ensures { result ≡ with_source sources before }
+{
+    if before == 0 { sources + 1 } else { sources }
+}
+
+fn is_allowed(sources: usize, before: usize) -> bool
+    ensures { result ≡ is_allowed sources before }
+{
+    if before == 0 {
+        sources < MOST_SOURCES
+    } else {
+        before < MOST_TILES
+    }
+}
+
+/// How many of the words are tiles of a source.
+pub(crate) fn count_of(source: &str, words: &[String]) -> usize
+    ensures { result ≡ count_of source.now (tile_words (map string_bytes words.now)) }
+{
+    let mut count: usize = 0;
+    for word in words {
+        if is_tile_of(source, word.as_str()) {
+            count += 1;
+        }
+    }
+    count
+}
+
+fn is_tile_of(source: &str, word: &str) -> bool
+    ensures { result ≡ is_tile_of source.now word.now }
+{
+    match source_and_tile(word) {
+        Some((found, _)) => found == source,
+        None => false,
     }
 }
 
 // `SOURCE=TILE`, cut at its first `=`, where neither part is empty.
-fn source_and_tile(word: &str) -> Option<(&str, &str)>
+pub(crate) fn source_and_tile(word: &str) -> Option<(&str, &str)>
     ensures { option_map (λ parts. (parts.0.now, parts.1.now)) result ≡ source_and_tile word.now }
 {
     let Some((source, tile)) = word.split_once('=') else {

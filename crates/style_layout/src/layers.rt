@@ -1,0 +1,198 @@
+//! The layers of a document, each prepared once.
+
+ghost use Rattle.std.specs.Prelude.{◌≡◌, map, IfOk, option_map};
+ghost use Rattle.decimal_json.specs.Tree.{object, fields_of};
+ghost use Rattle.decimal_json.specs.View.{tree_of};
+ghost use Rattle.style_rules.specs.Ground.{is_unread_type};
+ghost use Rattle.style_layout.specs.CodeView.{filter_seen, layer_seen, property_seen};
+ghost use Rattle.style_layout.specs.Forms.{is_outside};
+ghost use Rattle.style_layout.specs.Layers.{layer_of, typed_layer, text_of, limit_at, is_invisible, is_hidden, is_below, is_from, show_of, sort_property, sort_row, property_named};
+
+use crate::features::has_features;
+use crate::forms::{FilterSource, filter_source};
+use crate::properties::{Property, properties_of, set_value};
+use decimal_json::{Json, Members, Text};
+use fixed_num::Fixed;
+use listing_text::Show;
+use prop_values::Entries;
+use property_tables::{LayerType, Place};
+use std::alloc::{AllocError, Global};
+use style_rules::{layer_type, number_in};
+
+/// A layer.
+#[derive(Drop)]
+pub(crate) struct StyleLayer {
+    pub(crate) id: Text,
+    pub(crate) layer_type: LayerType,
+    /// Empty where there is none.
+    pub(crate) source: Text,
+    pub(crate) source_layer: Text,
+    pub(crate) is_invisible: bool,
+    pub(crate) least_zoom: Option<Fixed>,
+    pub(crate) most_zoom: Option<Fixed>,
+    pub(crate) filter: FilterSource,
+    /// In the order of the table.
+    pub(crate) properties: Vec<Property>,
+}
+
+/// A layer as its layout reads it; none where it has no type.
+pub(crate) fn layer_of(
+    alloc: Global,
+    globals: &Entries,
+    layer: &Json,
+) -> Result<Option<StyleLayer>, AllocError>
+    ensures { IfOk result (λ found. option_map layer_seen found ≡ layer_of globals.now (tree_of layer.now)) }
+{
+    let Json::Object(members) = layer else {
+        return Ok(None);
+    };
+    match layer_type(members) {
+        Some(layer_type) => Ok(Some(typed_layer(alloc, globals, layer_type, members)?)),
+        None => Ok(None),
+    }
+}
+
+fn typed_layer(
+    alloc: Global,
+    globals: &Entries,
+    layer_type: LayerType,
+    layer: &Members,
+) -> Result<StyleLayer, AllocError>
+    ensures { IfOk result (λ made. layer_seen made ≡ typed_layer globals.now (object (fields_of layer.now)) layer_type) }
+{
+    Ok(StyleLayer {
+        id: text_of(alloc, layer, "id")?,
+        layer_type,
+        source: text_of(alloc, layer, "source")?,
+        source_layer: text_of(alloc, layer, "source-layer")?,
+        is_invisible: is_invisible(layer),
+        least_zoom: limit_at(layer, "minzoom"),
+        most_zoom: limit_at(layer, "maxzoom"),
+        filter: filter_source(alloc, globals, layer.get("filter"))?,
+        properties: properties_of(alloc, globals, layer_type, layer)?,
+    })
+}
+
+// The text of a member, and the empty one where there is none.
+fn text_of(alloc: Global, layer: &Members, key: &str) -> Result<Text, AllocError>
+    ensures { IfOk result (λ text. text ≡ text_of key.now (object (fields_of layer.now))) }
+{
+    match layer.get(key) {
+        Some(Json::Text(text)) => text.share(),
+        _ => Text::copy_of(alloc, ""),
+    }
+}
+
+fn limit_at(layer: &Members, key: &str) -> Option<Fixed>
+    ensures { result ≡ limit_at key.now (object (fields_of layer.now)) }
+{
+    match layer.get(key) {
+        Some(json) => number_in(json),
+        None => None,
+    }
+}
+
+fn is_invisible(layer: &Members) -> bool
+    ensures { result ≡ is_invisible (object (fields_of layer.now)) }
+{
+    match set_value(layer, Place::Layout, "visibility") {
+        Some(Json::Text(text)) => text.as_str() == "none",
+        _ => false,
+    }
+}
+
+impl StyleLayer {
+    /// How the layer is shown at a zoom.
+    pub(crate) fn show(&self, zoom: Fixed) -> Show
+        ensures { result ≡ show_of zoom (layer_seen self.now) }
+    {
+        if self.is_hidden(zoom) {
+            return Show::Hidden;
+        }
+        if is_unread_type(self.layer_type) {
+            return Show::Unread;
+        }
+        if has_features(self.layer_type) && is_outside(&self.filter) {
+            return Show::OutsideFilter;
+        }
+        Show::Plain
+    }
+
+    fn is_hidden(&self, zoom: Fixed) -> bool
+        ensures { result ≡ is_hidden zoom (layer_seen self.now) }
+    {
+        self.is_invisible || is_below(zoom, self.least_zoom) || is_from(zoom, self.most_zoom)
+    }
+
+    /// The property by which the features of the type are ordered, where it is set.
+    pub(crate) fn sort_property(&self) -> Option<&Property>
+        ensures { option_map (λ property. property_seen property.now) result
+            ≡ sort_property self.now.layer_type (map property_seen self.now.properties.items) }
+    {
+        match sort_row(self.layer_type) {
+            Some(name) => property_named(name, self.properties.as_slice()),
+            None => None,
+        }
+    }
+}
+
+fn is_below(zoom: Fixed, least: Option<Fixed>) -> bool
+    ensures { result ≡ is_below zoom least }
+{
+    match least {
+        Some(least) => zoom < least,
+        None => false,
+    }
+}
+
+fn is_from(zoom: Fixed, most: Option<Fixed>) -> bool
+    ensures { result ≡ is_from zoom most }
+{
+    match most {
+        Some(most) => most <= zoom,
+        None => false,
+    }
+}
+
+fn is_outside(filter: &FilterSource) -> bool
+    ensures { result ≡ is_outside (filter_seen filter.now) }
+{
+    match filter {
+        FilterSource::Outside => true,
+        _ => false,
+    }
+}
+
+fn is_unread_type(layer_type: LayerType) -> bool
+    ensures { result ≡ is_unread_type layer_type }
+{
+    match layer_type {
+        LayerType::Hillshade => true,
+        LayerType::ColorRelief => true,
+        _ => false,
+    }
+}
+
+fn sort_row(layer_type: LayerType) -> Option<&'static str>
+    ensures { option_map (λ name. name.now) result ≡ sort_row layer_type }
+{
+    match layer_type {
+        LayerType::Fill => Some("fill-sort-key"),
+        LayerType::Line => Some("line-sort-key"),
+        LayerType::Symbol => Some("symbol-sort-key"),
+        LayerType::Circle => Some("circle-sort-key"),
+        _ => None,
+    }
+}
+
+fn property_named<'a>(name: &str, properties: &'a [Property]) -> Option<&'a Property>
+    ensures { option_map (λ property. property_seen property.now) result
+        ≡ property_named name.now (map property_seen properties.now) }
+{
+    for property in properties {
+        if property.row.name == name {
+            return Some(property);
+        }
+    }
+    None
+}

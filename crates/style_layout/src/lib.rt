@@ -1,0 +1,38 @@
+//! What a style shows: each property and filter of a document prepared once, and the listing of what is shown of tiles.
+//!
+//! ```text
+//! let style = prepare(alloc, &document, &globals)?;          // a document without findings
+//! if cell_count(&style, &tiles) <= 8_000_000 {
+//!     write_listing(alloc, &style, &scene, &tiles, &mut out)?;
+//!     // zoom 12.24
+//!     // layer "place" symbol
+//!     // ..
+//! }
+//! ```
+//!
+//! What is promised: `write_listing` appends the listing of the layout of `specs/StyleLayout.antt`, and `cell_count` is its count of cells.
+//! Each value is read once. A layer's values that mention no feature are evaluated once, all others once for each feature that passes, and
+//! each feature is written as it is evaluated; only a layer with a sort key keeps a list of its features.
+//!
+//! The text to believe is in `specs/`: `Forms`, `Layers`, `Globals`, `SortKeys`, `Shown`, `StyleLayout`.
+#![tactic(auto)]
+
+mod cells;
+mod feature_lines;
+mod features;
+mod forms;
+mod globals;
+mod layers;
+mod listing;
+mod prepared;
+mod properties;
+mod scene;
+mod shown_features;
+mod sorted;
+mod values;
+
+pub use cells::cell_count;
+pub use globals::globals_of;
+pub use listing::write_listing;
+pub use prepared::{PreparedStyle, prepare};
+pub use scene::{Scene, SourceTile};

@@ -1,0 +1,167 @@
+//! The properties that a layer sets, each read once.
+
+ghost use Rattle.std.specs.Prelude.{◌≡◌, ◌++◌, ◌<◌, length, get_or, map, OnOk, IfOk, IfSome, Some, option_map};
+ghost use Rattle.decimal_json.specs.Tree.{object, fields_of};
+ghost use Rattle.decimal_json.specs.View.{tree_of};
+ghost use Rattle.property_tables.specs.RowView.{row_seen};
+ghost use Rattle.property_tables.specs.Rows.{RowData, rows_of, takes_tokens};
+ghost use Rattle.style_rules.specs.Parts.{then_some, member};
+ghost use Rattle.style_layout.specs.CodeView.{property_seen, tree_at};
+ghost use Rattle.style_layout.specs.Forms.{property_of};
+ghost use Rattle.style_layout.specs.Layers.{properties_of, set_property, set_value};
+
+use crate::forms::{Source, is_per_feature, source_of};
+use decimal_json::{Json, Members};
+use prop_values::{Entries, Value};
+use property_tables::{Fallback, LayerType, Place, Row, default_value, row_count, row_numbered};
+use std::alloc::{AllocError, Global};
+
+/// A property that is set.
+#[derive(Drop)]
+pub(crate) struct Property {
+    pub(crate) row: Row,
+    pub(crate) source: Source,
+    /// What stands for it after a fault.
+    pub(crate) fallback: Option<Value>,
+    pub(crate) is_per_feature: bool,
+}
+
+/// The properties of a layer of a type, in the order of the table.
+pub(crate) fn properties_of(
+    alloc: Global,
+    globals: &Entries,
+    layer_type: LayerType,
+    layer: &Members,
+) -> Result<Vec<Property>, AllocError>
+    ensures { IfOk result (λ properties. map property_seen properties.items
+        ≡ properties_of globals.now layer_type (object (fields_of layer.now))) }
+{
+    let mut properties = Vec::new(alloc);
+    for number in 0..row_count(layer_type) {
+        push_numbered(alloc, globals, layer_type, layer, number, &mut properties)?;
+    }
+    Ok(properties)
+}
+
+fn push_numbered(
+    alloc: Global,
+    globals: &Entries,
+    layer_type: LayerType,
+    layer: &Members,
+    number: u16,
+    properties: &mut Vec<Property>,
+) -> Result<(), AllocError>
+    requires { number < length (rows_of layer_type) }
+    ensures { (other : RowData) → OnOk result (map property_seen properties.new.items ≡ map property_seen properties.old.items
+        ++ set_property globals.now (object (fields_of layer.now)) (get_or (rows_of layer_type) number other)) }
+{
+    match row_at(layer_type, number) {
+        Some(row) => push_if_set(alloc, globals, layer, &row, properties),
+        None => Ok(()),
+    }
+}
+
+fn row_at(layer_type: LayerType, number: u16) -> Option<Row>
+    requires { number < length (rows_of layer_type) }
+    ensures row { (other : RowData) → option_map row_seen result ≡ Some (get_or (rows_of layer_type) number other) }
+    ensures tokens { IfSome result (λ row. row.tokens ≡ takes_tokens row.name.now) }
+{
+    Some(row_numbered(layer_type, number))
+}
+
+// `visibility` tells how the layer is shown.
+fn push_if_set(
+    alloc: Global,
+    globals: &Entries,
+    layer: &Members,
+    row: &Row,
+    properties: &mut Vec<Property>,
+) -> Result<(), AllocError>
+    requires { row.now.tokens ≡ takes_tokens row.now.name.now }
+    ensures { OnOk result (map property_seen properties.new.items
+        ≡ map property_seen properties.old.items ++ set_property globals.now (object (fields_of layer.now)) (row_seen row.now)) }
+{
+    if row.name == "visibility" {
+        return Ok(());
+    }
+    match set_value(layer, row.place, row.name) {
+        Some(json) => {
+            let property = read_property(alloc, globals, row, json)?;
+            properties.push(property)?;
+            Ok(())
+        }
+        None => Ok(()),
+    }
+}
+
+/// The value of a name in `layout` or `paint` of a layer.
+pub(crate) fn set_value<'a>(layer: &'a Members, place: Place, name: &str) -> Option<&'a Json>
+    ensures { tree_at result ≡ set_value (object (fields_of layer.now)) place name.now }
+{
+    let placed = match place {
+        Place::Layout => layer.get("layout"),
+        Place::Paint => layer.get("paint"),
+    };
+    member(placed, name)
+}
+
+fn member<'a>(json: Option<&'a Json>, key: &str) -> Option<&'a Json>
+    ensures { tree_at result ≡ then_some (tree_at json.entry) (member key.now) }
+{
+    match json {
+        Some(Json::Object(members)) => members.get(key),
+        _ => None,
+    }
+}
+
+fn read_property(
+    alloc: Global,
+    globals: &Entries,
+    row: &Row,
+    json: &Json,
+) -> Result<Property, AllocError>
+    requires { row.now.tokens ≡ takes_tokens row.now.name.now }
+    ensures { IfOk result (λ property. property_seen property ≡ property_of (row_seen row.now) globals.now (tree_of json.now)) }
+{
+    let source = source_of(alloc, row, globals, json)?;
+    let is_per_feature = is_per_feature(alloc, globals, &source)?;
+    let fallback = default_value(alloc, row)?;
+    Ok(Property {
+        row: copy_of(row),
+        source,
+        fallback,
+        is_per_feature,
+    })
+}
+
+fn copy_of(row: &Row) -> Row
+    ensures { result ≡ row.now }
+{
+    Row {
+        name: row.name,
+        number: row.number,
+        place: row.place,
+        want: row.want,
+        fallback: fallback_of(&row.fallback),
+        least: row.least,
+        most: row.most,
+        zoom: row.zoom,
+        feature: row.feature,
+        state: row.state,
+        ramps: row.ramps,
+        tokens: row.tokens,
+    }
+}
+
+fn fallback_of(fallback: &Fallback) -> Fallback
+    ensures { result ≡ fallback.now }
+{
+    match fallback {
+        Fallback::Absent => Fallback::Absent,
+        Fallback::Flag(flag) => Fallback::Flag(*flag),
+        Fallback::Number(number) => Fallback::Number(*number),
+        Fallback::Word(word) => Fallback::Word(*word),
+        Fallback::Zeros(count) => Fallback::Zeros(*count),
+        Fallback::Fonts => Fallback::Fonts,
+    }
+}

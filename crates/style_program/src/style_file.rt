@@ -1,0 +1,2 @@
+/// The longest style, in bytes.
+pub(crate) const STYLE_LIMIT: usize = 4_194_304;
