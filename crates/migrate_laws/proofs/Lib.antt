@@ -1,0 +1,10 @@
+pub mod MappedMembers
+pub mod FunctionForms
+pub mod StayingValues
+pub mod StayingDocuments
+pub mod SameValues
+pub mod SameFilters
+pub mod FoundRows
+pub mod MigratedParts
+pub mod ListedAlike
+pub mod SameLayouts

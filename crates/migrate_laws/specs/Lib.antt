@@ -1,0 +1,2 @@
+-- Laws. The statements are to be believed; their proofs stand in proofs/.
+pub mod MigratedLaw

@@ -1,0 +1,4 @@
+pub mod MemberLists
+pub mod ToldAlike
+pub mod SoundParts
+pub mod SoundDocuments

@@ -1,0 +1,32 @@
+-- The members of an object as a list, and back.
+use Rattle.std.proofs.Common.{◌≡◌, ℕ, List, [], ◌∷◌, refl, ap, sym, subst}
+use Rattle.decimal_json.specs.Sound.{members_of}
+use Rattle.decimal_json.specs.Tree.{Tree, object, Fields, no_fields, field, fields_of}
+use Rattle.decimal_json.specs.Tree.{LacksKey, HasDistinctKeys}
+use Rattle.style_migrate.specs.Migrated.{mapped_fields}
+use Rattle.migrate_soundness.specs.SoundnessLaw.{HasDistinctMembers}
+
+pub members_back : (fs : Fields) → fields_of (members_of fs) ≡ fs
+members_back no_fields = refl
+members_back (field k t fs) = ap (field k t) (members_back fs)
+
+fields_back : (ms : List (List ℕ × Tree)) → members_of (fields_of ms) ≡ ms
+fields_back [] = refl
+fields_back (m ∷ ms) = ap (λ rest. m ∷ rest) (fields_back ms)
+
+-- the object of members whose keys differ
+pub distinct_members : (ms : List (List ℕ × Tree)) → HasDistinctKeys ms
+    → HasDistinctMembers (object (fields_of ms))
+distinct_members ms distinct = subst HasDistinctKeys (sym (fields_back ms)) distinct
+
+lacking_kept : (change : List ℕ → Tree → Tree) (key : List ℕ) (fs : Fields) → LacksKey key (members_of fs)
+    → LacksKey key (members_of (mapped_fields change fs))
+lacking_kept change key no_fields lacks = tt
+lacking_kept change key (field k t fs) lacks = (lacks.0, lacking_kept change key fs lacks.1)
+
+-- members that are replaced keep their keys
+pub distinct_kept : (change : List ℕ → Tree → Tree) (fs : Fields) → HasDistinctKeys (members_of fs)
+    → HasDistinctKeys (members_of (mapped_fields change fs))
+distinct_kept change no_fields distinct = tt
+distinct_kept change (field k t fs) distinct =
+    (lacking_kept change k fs distinct.0, distinct_kept change fs distinct.1)
