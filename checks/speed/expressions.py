@@ -2,8 +2,8 @@
 
     python3 checks/speed/expressions.py [PROGRAM]
 
-PROGRAM is the program as LLVM built it, crates/pirgesh/out/pirgesh without the word. Since it has styles of one circle layer, the expressions
-of the style stand below one `coalesce` in the filter of one layer; only `expr_syntax::read_expr` is counted there. valgrind has to be installed.
+PROGRAM is the program as LLVM built it, crates/pirgesh/out/pirgesh without the word. The expressions of the style stand below one `coalesce` in
+the filter of one layer, so that each is read once; only `expr_syntax::read_expr` is counted there. valgrind has to be installed.
 """
 
 import json

@@ -1,6 +1,6 @@
 #!/usr/bin/env python3
-"""Migrates random styles with legacy forms, and holds the result against what migration promises: it has no findings, no legacy form
-but functions that are outside, and migrating it changes nothing.
+"""Migrates random styles with legacy forms, and holds the result against what migration promises: it has no findings, migrating it
+changes nothing, and at a random zoom it shows over random tiles what the style shows, byte by byte.
 
     python3 checks/styles/migrate.py [--program PROGRAM] [--seed N] [--count N]
 """
@@ -15,6 +15,10 @@ import sys
 import tempfile
 
 TOP = pathlib.Path(__file__).resolve().parents[2]
+sys.path += [str(TOP / "checks" / "shared"), str(TOP / "checks" / "tiles")]
+
+from makes import bytes_field, number_field, varint
+
 KEYS = ["a", "class", "$type", "$id", "name with {brace", "rank"]
 WORDS = ["", "x", "motorway", "{", "{a}", "{a} {b}", "Point", "none"]
 COLORS = ["red", "#123", "rgba(1,2,3,0.5)", "hsl(205, 56%, 73%)"]
@@ -124,12 +128,51 @@ class Maker:
         return {"version": Number("8.0"), "name": "a", "sources": {"t": {"type": "vector"}}, "layers": layers}
 
 
-def ran(program, command, text, folder):
+    def tile(self):
+        """A tile with a layer p of some features, of which each has some of the keys."""
+        keys, values = self.keys(), self.values()
+        parts = [bytes_field(1, b"p"), number_field(15, 2)]
+        parts += [bytes_field(3, key.encode()) for key in keys] + [bytes_field(4, value) for value in values]
+        parts += [self.feature(len(keys), len(values)) for _ in range(self.random.randint(0, 12))]
+        return bytes_field(3, b"".join(parts))
+
+    def keys(self):
+        return [key for key in KEYS if not key.startswith("$")]
+
+    def values(self):
+        """Whole numbers around the inputs of functions, texts, and both truth values."""
+        numbers = [number_field(6, 2 * number) for number in range(25)] + [number_field(6, 1)]
+        return numbers + [bytes_field(1, word.encode()) for word in WORDS + ["y", "w"]] + [number_field(7, 0), number_field(7, 1)]
+
+    def feature(self, keys, values):
+        tags = [varint(key) + varint(self.random.randrange(values)) for key in range(keys) if self.random.random() < 0.7]
+        parts = [bytes_field(2, b"".join(tags)), number_field(3, self.random.randint(0, 3))]
+        parts += [number_field(1, self.random.randint(0, 20))] if self.random.random() < 0.7 else []
+        return bytes_field(2, b"".join(parts))
+
+    def zoom(self):
+        return "%d%s" % (self.random.randint(0, 23), self.one(["", ".5", ".123456"]))
+
+
+def ran(program, command, text, folder, *more):
+    """The status and the output of a command on a style."""
     path = os.path.join(folder, "style")
     with open(path, "w", encoding="utf-8") as file:
         file.write(text)
-    done = subprocess.run([program, command, path], capture_output=True, text=True, check=False)
+    done = subprocess.run([program, command, path, *more], capture_output=True, text=True, check=False)
     return done.returncode, done.stdout
+
+
+def shows_the_same(program, maker, old, new, folder):
+    """Whether two styles have one listing over two tiles of their source."""
+    words = [maker.zoom()]
+    for name in ["first", "second"]:
+        path = os.path.join(folder, name)
+        with open(path, "wb") as file:
+            file.write(maker.tile())
+        words.append("t=" + path)
+    status, listing = ran(program, "eval", old, folder, *words)
+    return status == 0 and ran(program, "eval", new, folder, *words) == (0, listing)
 
 
 def main():
@@ -141,7 +184,8 @@ def main():
     failed = broken = changed = 0
     with tempfile.TemporaryDirectory() as folder:
         for number in range(given.count):
-            text = written(Maker(given.seed * 1_000_000 + number).style())
+            maker = Maker(given.seed * 1_000_000 + number)
+            text = written(maker.style())
             status, out = ran(given.program, "validate", text, folder)
             if status == 1:
                 broken += 1
@@ -150,6 +194,7 @@ def main():
                 code, once = ran(given.program, "migrate", text, folder)
                 faults = code != 0 or ran(given.program, "migrate", once, folder) != (0, once)
                 faults = faults or ran(given.program, "validate", once, folder)[0] != 0
+                faults = faults or not shows_the_same(given.program, maker, text, once, folder)
                 changed += once.rstrip("\n") != text
             if faults:
                 failed += 1

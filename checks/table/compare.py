@@ -6,7 +6,8 @@
 
 table.tsv was written by hand from the description of the table, by someone who had not seen the crate. Each name of it, and each
 text in quotes of the crate's own table, is looked up in every layer type and place, so that a row too many is found too. Sets of
-texts are compared by what their names stand for in program.txt, and some texts of sets by `literal` in crates/calls_of_tables.
+texts are compared by what their names stand for in program.txt, and some texts of sets by rows of
+crates/worked_rows/rows/properties.jsonl.
 
 It needs `rt` on the path. The program is made in a temporary folder, from a copy of crates/ and program.txt; `rt try` runs it unproved.
 """
