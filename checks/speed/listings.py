@@ -64,6 +64,13 @@ def style(members, root=""):
     return '{%s"version":8,"sources":{"t":{"type":"vector"}},"layers":[%s]}' % (root, layer)
 
 
+def many_names(count):
+    """A style of layers that name a source layer, and a tile of ten times as many layers without features, none of this name."""
+    layers = ",".join('{"id":"l%d","type":"circle","source":"t","source-layer":"p"}' % i for i in range(count))
+    whole = '{"version":8,"sources":{"t":{"type":"vector"}},"layers":[%s]}' % layers
+    return whole, b"".join(tile(b"", name=b"n%d" % i) for i in range(count * 10))
+
+
 def cases():
     """A name, a style and its tiles for each measurement."""
     numbered = b"".join(b"\x12\x06\x12\x02\x00" + bytes([i % 100]) + b"\x18\x01" for i in range(2_000_000))
@@ -75,11 +82,14 @@ def cases():
     yield "8,000,000 features, no values", style(""), tile(b"\x12\x00" * 8_000_000)
     yield "one more: CellLimit", style(""), tile(b"\x12\x00" * 8_000_001)
     yield "2,000,000 features, a radius each", style(',"paint":{"circle-radius":["get","r"]}'), numbers
+    yield "the same by two nodes", style(',"paint":{"circle-radius":["number",["get","r"]]}'), numbers
     yield "the same by a legacy function", style(',"paint":{"circle-radius":{"property":"r","stops":[[0,1],[100,20]]}}'), numbers
     yield "the same by an identity function", style(',"paint":{"circle-radius":{"type":"identity","property":"r"}}'), numbers
     yield "4,000,000 features of two tiles, a radius each", style(',"paint":{"circle-radius":["get","r"]}'), numbers, numbers
     yield "2,000,000 features, a filter and a case", style(',"filter":["<",["number",["get","r"]],50],"paint":{"circle-radius":%s}' % radius), numbers
     yield "2,000,000 features by a sort key", style(',"layout":{"circle-sort-key":["get","r"]}'), numbers
+    yield "4,000 layers, a tile of 40,000", *many_names(4_000)
+    yield "8,000 layers, a tile of 80,000", *many_names(8_000)
     yield "330,000 names in the root", style("", "".join('"k%d":0,' % i for i in range(330_000))), few
     yield "a sum of 2,080,000 numbers", style(',"paint":{"circle-radius":["+"%s]}' % (",1" * 2_080_000)), few
 
