@@ -197,8 +197,8 @@ impl Operator {
     }
 
     /// What the table says of the operator.
-    pub fn row(&self) -> Row
-        ensures { row_view result ≡ row (operator_name self.now) }
+    pub fn row(&self) -> &'static Row
+        ensures { row_view result.now ≡ row (operator_name self.now) }
     {
         self.name().row()
     }

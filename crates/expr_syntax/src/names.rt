@@ -2,7 +2,7 @@
 
 ghost use Rattle.std.specs.Prelude.{◌≡◌, ◌<◌};
 ghost use Rattle.expr_syntax.specs.Names.{row, name_of};
-ghost use Rattle.expr_syntax.specs.Rows.{row_view, plain, outside};
+ghost use Rattle.expr_syntax.specs.Rows.{row_view};
 ghost use Rattle.expr_syntax.specs.Slots.{slot_of, name_in};
 
 use crate::rows::Arity::{AtLeast, Between, EvenFrom, Exactly, OddFrom};
@@ -211,227 +211,10 @@ impl Name {
     }
 
     /// What the table says of the operator.
-    pub fn row(self) -> Row
-        ensures { row_view result ≡ row self }
+    pub fn row(self) -> &'static Row
+        ensures { row_view result.now ≡ row self }
     {
-        match self {
-            Name::Literal => Row {
-                layout: Layout::Value,
-                ..plain("literal", Exactly(1), Each(Want::Any))
-            },
-            Name::Array => Row {
-                layout: Layout::Items,
-                ..plain("array", Between(1, 3), Each(Want::Any))
-            },
-            Name::Boolean => Row {
-                manner: Manner::Deciding,
-                ..plain("boolean", AtLeast(1), Each(Want::Any))
-            },
-            Name::Number => Row {
-                manner: Manner::Deciding,
-                ..plain("number", AtLeast(1), Each(Want::Any))
-            },
-            Name::String => Row {
-                manner: Manner::Deciding,
-                ..plain("string", AtLeast(1), Each(Want::Any))
-            },
-            Name::Object => Row {
-                manner: Manner::Deciding,
-                ..plain("object", AtLeast(1), Each(Want::Any))
-            },
-            Name::ToBoolean => plain("to-boolean", Exactly(1), Each(Want::Any)),
-            Name::ToColor => Row {
-                manner: Manner::Deciding,
-                ..plain("to-color", AtLeast(1), Each(Want::Any))
-            },
-            Name::ToNumber => Row {
-                manner: Manner::Deciding,
-                ..plain("to-number", AtLeast(1), Each(Want::Any))
-            },
-            Name::ToString => plain("to-string", Exactly(1), Each(Want::Any)),
-            Name::TypeOf => plain("typeof", Exactly(1), Each(Want::Any)),
-            Name::Get => Row {
-                reads: Reads::FeatureAlone,
-                ..plain("get", Between(1, 2), Then(Want::Text, Want::Object))
-            },
-            Name::Has => Row {
-                reads: Reads::FeatureAlone,
-                ..plain("has", Between(1, 2), Then(Want::Text, Want::Object))
-            },
-            Name::Properties => Row {
-                reads: Reads::Feature,
-                ..plain("properties", Exactly(0), Each(Want::Any))
-            },
-            Name::Id => Row {
-                reads: Reads::Feature,
-                ..plain("id", Exactly(0), Each(Want::Any))
-            },
-            Name::GeometryType => Row {
-                reads: Reads::Feature,
-                ..plain("geometry-type", Exactly(0), Each(Want::Any))
-            },
-            Name::FeatureState => Row {
-                reads: Reads::State,
-                ..plain("feature-state", Exactly(1), Each(Want::Text))
-            },
-            Name::At => plain(
-                "at",
-                Exactly(2),
-                Then(Want::Number, Want::List(Item::Any, None)),
-            ),
-            Name::In => Row {
-                sequence: Some(1),
-                ..plain("in", Exactly(2), Each(Want::Any))
-            },
-            Name::IndexOf => Row {
-                sequence: Some(1),
-                ..plain(
-                    "index-of",
-                    Between(2, 3),
-                    Third(Want::Any, Want::Any, Want::Number),
-                )
-            },
-            Name::Length => Row {
-                sequence: Some(0),
-                ..plain("length", Exactly(1), Each(Want::Any))
-            },
-            Name::Slice => Row {
-                sequence: Some(0),
-                ..plain("slice", Between(2, 3), Then(Want::Any, Want::Number))
-            },
-            Name::Not => plain("!", Exactly(1), Each(Want::Boolean)),
-            Name::Equal => plain("==", Exactly(2), Each(Want::Any)),
-            Name::NotEqual => plain("!=", Exactly(2), Each(Want::Any)),
-            Name::Less => plain("<", Exactly(2), Each(Want::Any)),
-            Name::LessOrEqual => plain("<=", Exactly(2), Each(Want::Any)),
-            Name::Greater => plain(">", Exactly(2), Each(Want::Any)),
-            Name::GreaterOrEqual => plain(">=", Exactly(2), Each(Want::Any)),
-            Name::All => Row {
-                manner: Manner::Deciding,
-                ..plain("all", AtLeast(0), Each(Want::Boolean))
-            },
-            Name::Any => Row {
-                manner: Manner::Deciding,
-                ..plain("any", AtLeast(0), Each(Want::Boolean))
-            },
-            Name::Case => Row {
-                layout: Layout::Cases,
-                manner: Manner::Branches,
-                ..plain("case", OddFrom(3), Conditions)
-            },
-            Name::Match => Row {
-                layout: Layout::Labels,
-                manner: Manner::Branches,
-                ..plain("match", EvenFrom(4), Input(Want::Any))
-            },
-            Name::Coalesce => Row {
-                layout: Layout::Choices,
-                manner: Manner::Deciding,
-                ..plain("coalesce", AtLeast(1), Each(Want::Any))
-            },
-            Name::Step => Row {
-                layout: Layout::Stops,
-                manner: Manner::Branches,
-                ..plain("step", EvenFrom(4), Input(Want::Number))
-            },
-            Name::Interpolate => Row {
-                layout: Layout::Ramp,
-                manner: Manner::Branches,
-                ..plain("interpolate", EvenFrom(4), Input(Want::Number))
-            },
-            Name::Let => Row {
-                layout: Layout::Bindings,
-                manner: Manner::Names,
-                ..plain("let", OddFrom(3), Bindings)
-            },
-            Name::Var => Row {
-                layout: Layout::Variable,
-                manner: Manner::Names,
-                ..plain("var", Exactly(1), Each(Want::Any))
-            },
-            Name::Zoom => Row {
-                reads: Reads::Zoom,
-                ..plain("zoom", Exactly(0), Each(Want::Any))
-            },
-            Name::Concat => plain("concat", AtLeast(0), Each(Want::Any)),
-            Name::Rgb => plain("rgb", Between(3, 4), Each(Want::Number)),
-            Name::Rgba => plain("rgba", Between(3, 4), Each(Want::Number)),
-            Name::ToRgba => plain("to-rgba", Exactly(1), Each(Want::Color)),
-            Name::Add => plain("+", AtLeast(0), Each(Want::Number)),
-            Name::Multiply => plain("*", AtLeast(0), Each(Want::Number)),
-            Name::Subtract => plain("-", Between(1, 2), Each(Want::Number)),
-            Name::Divide => plain("/", Exactly(2), Each(Want::Number)),
-            Name::Remainder => plain("%", Exactly(2), Each(Want::Number)),
-            Name::Abs => plain("abs", Exactly(1), Each(Want::Number)),
-            Name::Ceil => plain("ceil", Exactly(1), Each(Want::Number)),
-            Name::Floor => plain("floor", Exactly(1), Each(Want::Number)),
-            Name::Round => plain("round", Exactly(1), Each(Want::Number)),
-            Name::Min => plain("min", AtLeast(1), Each(Want::Number)),
-            Name::Max => plain("max", AtLeast(1), Each(Want::Number)),
-            Name::Image => Row {
-                reads: Reads::Images,
-                ..plain("image", Exactly(1), Each(Want::Text))
-            },
-            Name::IsSupportedScript => plain("is-supported-script", Exactly(1), Each(Want::Text)),
-            Name::GlobalState => Row {
-                layout: Layout::Global,
-                ..plain("global-state", Exactly(1), Each(Want::Any))
-            },
-            Name::Format => Row {
-                layout: Layout::Sections,
-                ..plain("format", AtLeast(1), Each(Want::Shown))
-            },
-            Name::Upcase => outside("upcase"),
-            Name::Downcase => outside("downcase"),
-            Name::Collator => outside("collator"),
-            Name::ResolvedLocale => outside("resolved-locale"),
-            Name::NumberFormat => outside("number-format"),
-            Name::Within => outside("within"),
-            Name::Distance => outside("distance"),
-            Name::InterpolateHcl => outside("interpolate-hcl"),
-            Name::InterpolateLab => outside("interpolate-lab"),
-            Name::Power => outside("^"),
-            Name::Sqrt => outside("sqrt"),
-            Name::Ln => outside("ln"),
-            Name::Log10 => outside("log10"),
-            Name::Log2 => outside("log2"),
-            Name::Sin => outside("sin"),
-            Name::Cos => outside("cos"),
-            Name::Tan => outside("tan"),
-            Name::Asin => outside("asin"),
-            Name::Acos => outside("acos"),
-            Name::Atan => outside("atan"),
-            Name::E => outside("e"),
-            Name::Pi => outside("pi"),
-            Name::Ln2 => outside("ln2"),
-            Name::HeatmapDensity => outside("heatmap-density"),
-            Name::LineProgress => outside("line-progress"),
-            Name::Accumulated => outside("accumulated"),
-        }
-    }
-}
-
-fn plain(text: &'static str, arity: Arity, wants: Wants) -> Row
-    ensures { row_view result ≡ plain text.now arity wants }
-{
-    Row {
-        text,
-        is_outside: false,
-        arity,
-        layout: Layout::Arguments,
-        wants,
-        sequence: None,
-        manner: Manner::Each,
-        reads: Reads::Nothing,
-    }
-}
-
-fn outside(text: &'static str) -> Row
-    ensures { row_view result ≡ outside text.now }
-{
-    Row {
-        is_outside: true,
-        ..plain(text, AtLeast(0), Each(Want::Any))
+        &ROWS[self as usize]
     }
 }
 
@@ -472,6 +255,228 @@ fn slot(text: &[u8]) -> usize
     (3 * usize::from(*first) + 82 * usize::from(last) + 48 * usize::from(middle) + 38 * length)
         % 256
 }
+
+// The row of an operator that evaluates all its arguments, and reads nothing else.
+macro_rules! plain {
+    ($text:expr, $arity:expr, $wants:expr $(,)?) => {
+        Row {
+            text: $text,
+            is_outside: false,
+            arity: $arity,
+            layout: Layout::Arguments,
+            wants: $wants,
+            sequence: None,
+            manner: Manner::Each,
+            reads: Reads::Nothing,
+        }
+    };
+}
+
+// The row of an operator that is outside of what is evaluated.
+macro_rules! outside {
+    ($text:expr) => {
+        Row {
+            is_outside: true,
+            ..plain!($text, AtLeast(0), Each(Want::Any))
+        }
+    };
+}
+
+// What the table says of each operator, in the order of the names.
+static ROWS: [Row; 84] = [
+    Row {
+        layout: Layout::Value,
+        ..plain!("literal", Exactly(1), Each(Want::Any))
+    },
+    Row {
+        layout: Layout::Items,
+        ..plain!("array", Between(1, 3), Each(Want::Any))
+    },
+    Row {
+        manner: Manner::Deciding,
+        ..plain!("boolean", AtLeast(1), Each(Want::Any))
+    },
+    Row {
+        manner: Manner::Deciding,
+        ..plain!("number", AtLeast(1), Each(Want::Any))
+    },
+    Row {
+        manner: Manner::Deciding,
+        ..plain!("string", AtLeast(1), Each(Want::Any))
+    },
+    Row {
+        manner: Manner::Deciding,
+        ..plain!("object", AtLeast(1), Each(Want::Any))
+    },
+    plain!("to-boolean", Exactly(1), Each(Want::Any)),
+    Row {
+        manner: Manner::Deciding,
+        ..plain!("to-color", AtLeast(1), Each(Want::Any))
+    },
+    Row {
+        manner: Manner::Deciding,
+        ..plain!("to-number", AtLeast(1), Each(Want::Any))
+    },
+    plain!("to-string", Exactly(1), Each(Want::Any)),
+    plain!("typeof", Exactly(1), Each(Want::Any)),
+    Row {
+        reads: Reads::FeatureAlone,
+        ..plain!("get", Between(1, 2), Then(Want::Text, Want::Object))
+    },
+    Row {
+        reads: Reads::FeatureAlone,
+        ..plain!("has", Between(1, 2), Then(Want::Text, Want::Object))
+    },
+    Row {
+        reads: Reads::Feature,
+        ..plain!("properties", Exactly(0), Each(Want::Any))
+    },
+    Row {
+        reads: Reads::Feature,
+        ..plain!("id", Exactly(0), Each(Want::Any))
+    },
+    Row {
+        reads: Reads::Feature,
+        ..plain!("geometry-type", Exactly(0), Each(Want::Any))
+    },
+    Row {
+        reads: Reads::State,
+        ..plain!("feature-state", Exactly(1), Each(Want::Text))
+    },
+    plain!(
+        "at",
+        Exactly(2),
+        Then(Want::Number, Want::List(Item::Any, None)),
+    ),
+    Row {
+        sequence: Some(1),
+        ..plain!("in", Exactly(2), Each(Want::Any))
+    },
+    Row {
+        sequence: Some(1),
+        ..plain!(
+            "index-of",
+            Between(2, 3),
+            Third(Want::Any, Want::Any, Want::Number),
+        )
+    },
+    Row {
+        sequence: Some(0),
+        ..plain!("length", Exactly(1), Each(Want::Any))
+    },
+    Row {
+        sequence: Some(0),
+        ..plain!("slice", Between(2, 3), Then(Want::Any, Want::Number))
+    },
+    plain!("!", Exactly(1), Each(Want::Boolean)),
+    plain!("==", Exactly(2), Each(Want::Any)),
+    plain!("!=", Exactly(2), Each(Want::Any)),
+    plain!("<", Exactly(2), Each(Want::Any)),
+    plain!("<=", Exactly(2), Each(Want::Any)),
+    plain!(">", Exactly(2), Each(Want::Any)),
+    plain!(">=", Exactly(2), Each(Want::Any)),
+    Row {
+        manner: Manner::Deciding,
+        ..plain!("all", AtLeast(0), Each(Want::Boolean))
+    },
+    Row {
+        manner: Manner::Deciding,
+        ..plain!("any", AtLeast(0), Each(Want::Boolean))
+    },
+    Row {
+        layout: Layout::Cases,
+        manner: Manner::Branches,
+        ..plain!("case", OddFrom(3), Conditions)
+    },
+    Row {
+        layout: Layout::Labels,
+        manner: Manner::Branches,
+        ..plain!("match", EvenFrom(4), Input(Want::Any))
+    },
+    Row {
+        layout: Layout::Choices,
+        manner: Manner::Deciding,
+        ..plain!("coalesce", AtLeast(1), Each(Want::Any))
+    },
+    Row {
+        layout: Layout::Stops,
+        manner: Manner::Branches,
+        ..plain!("step", EvenFrom(4), Input(Want::Number))
+    },
+    Row {
+        layout: Layout::Ramp,
+        manner: Manner::Branches,
+        ..plain!("interpolate", EvenFrom(4), Input(Want::Number))
+    },
+    Row {
+        layout: Layout::Bindings,
+        manner: Manner::Names,
+        ..plain!("let", OddFrom(3), Bindings)
+    },
+    Row {
+        layout: Layout::Variable,
+        manner: Manner::Names,
+        ..plain!("var", Exactly(1), Each(Want::Any))
+    },
+    Row {
+        reads: Reads::Zoom,
+        ..plain!("zoom", Exactly(0), Each(Want::Any))
+    },
+    plain!("concat", AtLeast(0), Each(Want::Any)),
+    plain!("rgb", Between(3, 4), Each(Want::Number)),
+    plain!("rgba", Between(3, 4), Each(Want::Number)),
+    plain!("to-rgba", Exactly(1), Each(Want::Color)),
+    plain!("+", AtLeast(0), Each(Want::Number)),
+    plain!("*", AtLeast(0), Each(Want::Number)),
+    plain!("-", Between(1, 2), Each(Want::Number)),
+    plain!("/", Exactly(2), Each(Want::Number)),
+    plain!("%", Exactly(2), Each(Want::Number)),
+    plain!("abs", Exactly(1), Each(Want::Number)),
+    plain!("ceil", Exactly(1), Each(Want::Number)),
+    plain!("floor", Exactly(1), Each(Want::Number)),
+    plain!("round", Exactly(1), Each(Want::Number)),
+    plain!("min", AtLeast(1), Each(Want::Number)),
+    plain!("max", AtLeast(1), Each(Want::Number)),
+    Row {
+        reads: Reads::Images,
+        ..plain!("image", Exactly(1), Each(Want::Text))
+    },
+    plain!("is-supported-script", Exactly(1), Each(Want::Text)),
+    Row {
+        layout: Layout::Global,
+        ..plain!("global-state", Exactly(1), Each(Want::Any))
+    },
+    Row {
+        layout: Layout::Sections,
+        ..plain!("format", AtLeast(1), Each(Want::Shown))
+    },
+    outside!("upcase"),
+    outside!("downcase"),
+    outside!("collator"),
+    outside!("resolved-locale"),
+    outside!("number-format"),
+    outside!("within"),
+    outside!("distance"),
+    outside!("interpolate-hcl"),
+    outside!("interpolate-lab"),
+    outside!("^"),
+    outside!("sqrt"),
+    outside!("ln"),
+    outside!("log10"),
+    outside!("log2"),
+    outside!("sin"),
+    outside!("cos"),
+    outside!("tan"),
+    outside!("asin"),
+    outside!("acos"),
+    outside!("atan"),
+    outside!("e"),
+    outside!("pi"),
+    outside!("ln2"),
+    outside!("heatmap-density"),
+    outside!("line-progress"),
+    outside!("accumulated"),
+];
 
 // The names in the order of the table.
 static NAMES: [Name; 84] = [
