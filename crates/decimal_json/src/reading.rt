@@ -52,6 +52,7 @@ fn read_whole(alloc: Global, cursor: &mut Cursor<'_>) -> Result<Json, Halt>
     }
 }
 
+#[inline(always)]
 #[cycle(read)]
 fn read_value(alloc: Global, cursor: &mut Cursor<'_>, depth: usize) -> Result<Json, Halt>
     requires { depth ≤ MAX_OPEN }
@@ -70,6 +71,7 @@ fn read_value(alloc: Global, cursor: &mut Cursor<'_>, depth: usize) -> Result<Js
     }
 }
 
+#[inline(never)]
 #[cycle(read)]
 fn read_list(alloc: Global, cursor: &mut Cursor<'_>, depth: usize) -> Result<Json, Halt>
     requires within { depth ≤ MAX_OPEN }
@@ -89,6 +91,7 @@ fn read_list(alloc: Global, cursor: &mut Cursor<'_>, depth: usize) -> Result<Jso
 }
 
 // Reads the items of an array whose bracket is open, and the bracket that closes it.
+#[inline(always)]
 #[cycle(read)]
 fn read_items(alloc: Global, cursor: &mut Cursor<'_>, depth: usize) -> Result<Items, Halt>
     requires { depth ≤ MAX_OPEN }
@@ -102,13 +105,14 @@ fn read_items(alloc: Global, cursor: &mut Cursor<'_>, depth: usize) -> Result<It
 }
 
 // Reads at least one item, and the bracket that closes the array.
+#[inline(always)]
 #[cycle(read)]
 fn read_elements(alloc: Global, cursor: &mut Cursor<'_>, depth: usize) -> Result<Items, Halt>
     requires { depth ≤ MAX_OPEN }
     ensures gives { Gives (SpellsSome depth) trees_of cursor.old result cursor.new }
     ensures shorter { length cursor.new ≤ length cursor.old }
 {
-    let mut items = Items::new(alloc);
+    let mut items = Items::with_room(alloc)?;
     loop {
         let item = match read_value(alloc, cursor, depth) {
             Ok(item) => item,
@@ -123,6 +127,7 @@ fn read_elements(alloc: Global, cursor: &mut Cursor<'_>, depth: usize) -> Result
     }
 }
 
+#[inline(never)]
 #[cycle(read)]
 fn read_object(alloc: Global, cursor: &mut Cursor<'_>, depth: usize) -> Result<Json, Halt>
     requires within { depth ≤ MAX_OPEN }

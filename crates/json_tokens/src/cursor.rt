@@ -95,7 +95,9 @@ impl<'a> Cursor<'a> {
         ensures skipped { IsSkipped self.old self.new }
         ensures shorter { length self.new ≤ length self.old }
     {
-        self.take_front(spaces_length(self.rest));
+        if may_be_space(self.rest) {
+            self.take_front(spaces_length(self.rest));
+        }
     }
 
     /// Takes so many bytes.
@@ -109,6 +111,16 @@ impl<'a> Cursor<'a> {
         let (taken, others) = self.rest.split_at(count);
         self.rest = others;
         taken
+    }
+}
+
+// Whether white space may stand at the front. Most often another byte does, and nothing is to be passed.
+fn may_be_space(bytes: &[u8]) -> bool
+    ensures { OnFalse result (IsSkipped bytes.now bytes.now) }
+{
+    match bytes {
+        [first, ..] => *first <= b' ',
+        [] => false,
     }
 }
 
