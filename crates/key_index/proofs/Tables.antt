@@ -1,5 +1,5 @@
 -- A table as keys are noted.
-use Rattle.std.proofs.Common.{◌≡◌, ◌≢◌, ℕ, zero, suc, ◌+◌, ◌%◌, ◌<◌, ◌≤◌, List, [], ◌∷◌, ◌++◌, length, drop, get_or, set, refl, ap, sym, ◌∙◌, subst, arith, Bool, true, false, inl, inr, replicate}
+use Rattle.std.proofs.Common.{◌≡◌, ℕ, ◌+◌, ◌%◌, ◌<◌, List, [], ◌∷◌, ◌++◌, length, drop, get_or, set, refl, ap, sym, ◌∙◌, subst, arith, Bool, true, false, inl, inr, replicate}
 use Rattle.std.specs.Prelude.{string_bytes, Option, Some, None, if◌then◌else◌}
 use Rattle.std.specs.Option.{option_or}
 use Rattle.std.specs.Str.{bytes_eq}
@@ -11,12 +11,11 @@ use Rattle.std.specs.declared.string.String.{String}
 use Rattle.std.specs.declared.alloc.Global.{Global}
 use Rattle.std.proofs.lemmas.Bool.{cases_eq}
 use Rattle.std.proofs.lemmas.List.{length-set, length_push, length-replicate, drop_all}
-use Rattle.key_index.specs.declared.table.Slot.{Slot}
 use Rattle.key_index.specs.declared.table.Bucket.{Bucket}
 use Rattle.key_index.specs.declared.table.Table.{Table}
 use Rattle.key_index.specs.Keys.{place_from, LacksKey}
 use Rattle.key_index.specs.Hash.{hash_of}
-use Rattle.key_index.specs.Table.{slot_place, slots_at, noted, later_place, AreBelow, AllBelow, IsFree, IsTable}
+use Rattle.key_index.specs.Table.{slot_place, slots_at, noted, later_place, AllBelow, IsFree, IsTable}
 use Rattle.key_index.proofs.Keys.{same_bytes, lacking_has_no_place, lacks-drop, place_more}
 use Rattle.key_index.proofs.Slots.{slot_of, slots_more, others_stay, new_is_found, slots_put, slots_other, all_more, all_put, below_at, slots_read, AreFree, free_have_none, same_buckets_free, same_buckets_below}
 

@@ -1,16 +1,18 @@
 -- An index of keys, and the keys that it stands for.
-use Rattle.std.specs.Prelude.{ℕ, List, Option, Some, None}
-use Rattle.std.specs.declared.boxed.Box.{Box}
-use Rattle.std.specs.declared.alloc.Global.{Global}
+use Rattle.std.specs.Prelude.{ℕ, ◌<◌, List, length}
+use Rattle.key_index.specs.Ascending.{IsAscending}
 use Rattle.key_index.specs.Table.{IsTable}
 use Rattle.key_index.specs.declared.index.KeyIndex.{KeyIndex}
-use Rattle.key_index.specs.declared.table.Table.{Table}
+use Rattle.key_index.specs.declared.index.Search.{Search}
+use Rattle.key_index.specs.declared.index.Search.TheVariants.{OneByOne, ByHalves, ByTable}
 
--- A table finds each key behind the first 16. Without one the keys are looked through one by one.
-abbrev pub IsTabled : Option (Box Table Global) → List (List ℕ) → Type 0
-IsTabled None keys = Unit {0}
-IsTabled (Some boxed) keys = IsTable boxed.value keys
+-- A way to look for keys that finds each of them: one by one always does, by halves where more than 15 keys ascend, and by a table of
+-- the keys behind the first 16.
+abbrev pub IsSearch : Search → List (List ℕ) → Type 0
+IsSearch OneByOne keys = Unit {0}
+IsSearch ByHalves keys = (15 < length keys) × IsAscending keys
+IsSearch (ByTable boxed) keys = IsTable boxed.value keys
 
 -- The index stands for the keys.
 abbrev pub IsIndexed : KeyIndex → List (List ℕ) → Type 0
-IsIndexed index keys = IsTabled index.table keys
+IsIndexed index keys = IsSearch index.search keys

@@ -1,9 +1,11 @@
 ghost use Rattle.std.specs.Prelude.{◌≡◌, ℕ, ◌<◌, ◌≤◌, ◌++◌, ◌∷◌, [], List, length, map, drop, IfOk, OnOk, OnErr};
 ghost use Rattle.std.specs.Result.{IsOk};
 ghost use Rattle.key_index.specs.Keys.{LacksKey, HasDistinctKeys, place_from};
-ghost use Rattle.key_index.specs.Index.{IsIndexed, IsTabled};
+ghost use Rattle.key_index.specs.Ascending.{IsAscending};
+ghost use Rattle.key_index.specs.Index.{IsIndexed, IsSearch};
 ghost use Rattle.key_index.specs.Table.{IsTable};
 
+use crate::ascending::{are_ascending, ascending_place, is_above};
 use crate::keyed::{Keyed, first_place};
 use crate::table::Table;
 use std::alloc::{AllocError, Global};
@@ -14,7 +16,17 @@ pub(crate) const FIRST: usize = 16;
 /// Where the keys of a list stand. The list is its caller's.
 #[derive(Drop)]
 pub struct KeyIndex {
-    table: Option<Box<Table>>,
+    search: Search,
+}
+
+/// How keys are looked for.
+#[derive(Drop)]
+enum Search {
+    /// One by one: they are few, or there was no memory for a table.
+    OneByOne,
+    /// By halves: they ascend.
+    ByHalves,
+    ByTable(Box<Table>),
 }
 
 impl KeyIndex {
@@ -22,7 +34,9 @@ impl KeyIndex {
     pub fn new() -> KeyIndex
         ensures { IsIndexed result [] }
     {
-        KeyIndex { table: None }
+        KeyIndex {
+            search: Search::OneByOne,
+        }
     }
 
     /// The place of the entry that has a key, or `None` exactly where no entry has it.
@@ -30,9 +44,10 @@ impl KeyIndex {
         requires { IsIndexed self.now (map T.key entries.now) }
         ensures { result ≡ place_from 0 key.now (map T.key entries.now) }
     {
-        match &self.table {
-            None => first_place(entries, key),
-            Some(table) => find_tabled(table, entries, key),
+        match &self.search {
+            Search::OneByOne => first_place(entries, key),
+            Search::ByHalves => find_ascending(entries, key),
+            Search::ByTable(table) => find_tabled(table, entries, key),
         }
     }
 
@@ -55,12 +70,13 @@ impl KeyIndex {
         if place < FIRST {
             return Ok(());
         }
-        match &mut self.table {
-            Some(table) if !table.is_crowded(place - FIRST) => table.note(alloc, key, place),
+        match &mut self.search {
+            Search::ByTable(table) if !table.is_crowded(place - FIRST) => table.note(
+                alloc, key, place,
+            ),
+            Search::ByHalves if is_above(entries, key) => Ok(()),
             _ => {
-                let mut table = Table::of(alloc, entries)?;
-                table.note(alloc, key, place)?;
-                self.table = Some(Box::new(alloc, table)?);
+                self.search = search_with(alloc, entries, key)?;
                 Ok(())
             }
         }
@@ -72,11 +88,22 @@ impl KeyIndex {
         requires { HasDistinctKeys (map T.key entries.now) }
         ensures { IsIndexed self.new (map T.key entries.now) }
     {
-        self.table = match table_of(alloc, entries) {
-            Ok(table) => table,
-            Err(_) => None,
+        self.search = match search_of(alloc, entries) {
+            Ok(search) => search,
+            Err(_) => Search::OneByOne,
         };
     }
+}
+
+// The place of a key among keys that ascend. A key that comes behind them, as where keys come in order, is not among them.
+fn find_ascending<T: Keyed>(entries: &[T], key: &str) -> Option<usize>
+    requires { IsAscending (map T.key entries.now) }
+    ensures { result ≡ place_from 0 key.now (map T.key entries.now) }
+{
+    if is_above(entries, key) {
+        return None;
+    }
+    ascending_place(entries, key)
 }
 
 // The place of a key among the first `FIRST` entries, else in the table.
@@ -90,14 +117,32 @@ fn find_tabled<T: Keyed>(table: &Table, entries: &[T], key: &str) -> Option<usiz
     }
 }
 
-// The table of entries that are more than the first `FIRST`.
-fn table_of<T: Keyed>(alloc: Global, entries: &[T]) -> Result<Option<Box<Table>>, AllocError>
+// How the keys of entries and one more are looked for.
+fn search_with<T: Keyed>(alloc: Global, entries: &[T], key: &str) -> Result<Search, AllocError>
+    requires many { FIRST ≤ length entries.now }
+    requires distinct { HasDistinctKeys (map T.key entries.now) }
+    requires lacks { LacksKey key.now (map T.key entries.now) }
+    ensures { IfOk result (λ search. IsSearch search (map T.key entries.now ++ key.now ∷ [])) }
+{
+    if is_above(entries, key) && are_ascending(entries) {
+        return Ok(Search::ByHalves);
+    }
+    let mut table = Table::of(alloc, entries)?;
+    table.note(alloc, key, entries.len())?;
+    Ok(Search::ByTable(Box::new(alloc, table)?))
+}
+
+// How the keys of entries are looked for.
+fn search_of<T: Keyed>(alloc: Global, entries: &[T]) -> Result<Search, AllocError>
     requires { HasDistinctKeys (map T.key entries.now) }
-    ensures { IfOk result (λ table. IsTabled table (map T.key entries.now)) }
+    ensures { IfOk result (λ search. IsSearch search (map T.key entries.now)) }
 {
     if entries.len() <= FIRST {
-        return Ok(None);
+        return Ok(Search::OneByOne);
+    }
+    if are_ascending(entries) {
+        return Ok(Search::ByHalves);
     }
     let table = Table::of(alloc, entries)?;
-    Ok(Some(Box::new(alloc, table)?))
+    Ok(Search::ByTable(Box::new(alloc, table)?))
 }

@@ -1,8 +1,11 @@
 //! Where keys stand in a list whose keys differ: an index for the members of objects and the entries of maps.
 //!
-//! The list and its keys are the caller's: the index keeps places alone. The first sixteen keys are compared one by
-//! one. Later ones stand in buckets by a hash of their bytes, and a key whose bucket is full stands in an ordered map.
-//! So a look-up takes constant time, and whoever chooses keys whose hashes agree makes it take logarithmic time.
+//! The list and its keys are the caller's: the index keeps places alone. Up to sixteen keys are compared one by one. More
+//! keys that ascend are looked for by halves, and take no memory; a key above the last is seen to be new at once. Once a
+//! key comes that is not above the one before, or is longer than 64 bytes, the keys behind the first sixteen stand in buckets by
+//! a hash of their bytes, and a key whose bucket is full stands in an ordered map. So a look-up takes constant time, or time
+//! logarithmic in the keys where these ascend or were chosen so that their hashes agree. Of a long key the hash takes the ends
+//! alone, so that noting it takes constant time too.
 //!
 //! ```text
 //! let mut index = KeyIndex::new();
@@ -19,6 +22,7 @@
 //! The text to believe is in `specs/`: `Keys`, `Index`.
 #![tactic(auto)]
 
+mod ascending;
 mod hash;
 mod index;
 mod keyed;

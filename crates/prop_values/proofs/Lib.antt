@@ -1,5 +1,4 @@
 pub mod Keys
-pub mod IndexKeys
 pub mod IndexSteps
 pub mod JsonKeys
 pub mod Removing

@@ -1,10 +1,14 @@
 -- For callers: what stands at a key of entries, and which keys are not there.
-use Rattle.std.specs.Prelude.{◌≡◌, ◌≢◌, ℕ, List, [], ◌∷◌, Bool, true, false, Option, Some, None, if◌then◌else◌}
+use Rattle.std.specs.Prelude.{◌≡◌, ◌≢◌, ℕ, List, [], ◌∷◌, map, Bool, true, false, Option, Some, None, if◌then◌else◌}
 use Rattle.std.proofs.Common.{refl, ◌∙◌}
 use Rattle.std.proofs.lemmas.Bool.{both_ways, false_from_ne_true, cond-false}
 use Rattle.std.proofs.lemmas.Slice.Eq.{bytes_eq-Decides}
 use Rattle.prop_values.specs.Data.{Data, pairs_of, LacksKey}
 use Rattle.prop_values.specs.Equality.{same_text, at_key}
+
+-- the keys of pairs
+abbrev pub keys : {X : Type 0} → List (List ℕ × X) → List (List ℕ)
+keys {X} = map (λ (p : List ℕ × X). p.0)
 
 -- texts are the same exactly where they are equal
 pub texts_same : (a b : List ℕ) → a ≡ b → same_text a b ≡ true

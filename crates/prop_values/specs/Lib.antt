@@ -16,5 +16,4 @@ pub mod ChangeLaws
 pub mod DataCode
 pub mod Falls
 pub mod Keys
-pub mod Places
 pub mod MergeSteps

@@ -67,6 +67,10 @@ entry_view e = (e.key, data_of e.value)
 abbrev pub entries_view : List Entry → List (List ℕ × Data)
 entries_view = map entry_view
 
+-- the keys of entries
+abbrev pub entry_keys : List Entry → List (List ℕ)
+entry_keys = map (λ (e : Entry). e.key)
+
 -- the items of a slice of values, and the pairs of a slice of entries, as the parts of data
 abbrev pub items : List Value → Items
 items vs = items_of (values_view vs)

@@ -1,18 +1,19 @@
-ghost use Rattle.std.specs.Prelude.{◌≡◌, ◌↔◌, ◌<◌, ◌-◌, ℕ, List, [], ◌∷◌, ◌++◌, length, take, remove, slice_set, slice_index_or, OnOk, OnErr, IfOk, Some, None, IsNone, option_map, if◌then◌else◌};
+ghost use Rattle.std.specs.Prelude.{◌≡◌, ◌↔◌, ◌<◌, ℕ, List, [], ◌∷◌, ◌++◌, length, take, remove, slice_set, slice_index_or, OnOk, OnErr, IfOk, Some, None, IsNone, option_map, if◌then◌else◌};
 ghost use Rattle.std.specs.Option.{option_or};
+ghost use Rattle.key_index.specs.Keys.{place_from};
 ghost use Rattle.prop_values.specs.Changes.{with_member, merged, without_key};
 ghost use Rattle.prop_values.specs.Data.{HasDistinctKeys, LacksKey, pairs_of};
 ghost use Rattle.prop_values.specs.Equality.{same_text, at_key};
+ghost use Rattle.prop_values.specs.Keys.{keys};
 ghost use Rattle.prop_values.specs.MergeSteps.{with_key, with_keys, replaced, all_replaced};
-ghost use Rattle.prop_values.specs.Places.{IsIndexed, place_from};
 ghost use Rattle.prop_values.specs.View.{data_of, values_view, entries_view};
 ghost use Rattle.prop_values.specs.declared.value.Entry.{Entry};
 
 use crate::copying::{copy_entries, copy_values};
 use crate::packed_color::PackedColor;
-use crate::places::{FIRST, Places, forget_key, forget_place, note_place, noted_place};
 use decimal_json::Text;
 use fixed_num::Fixed;
+use key_index::{KeyIndex, Keyed};
 use std::alloc::{AllocError, Global};
 use std::marker::Model;
 use std::rc::Rc;
@@ -60,7 +61,15 @@ pub struct SharedEntries {
 #[cycle(value)]
 pub struct Entries {
     entries: Vec<Entry>,
-    places: Places,
+    index: KeyIndex,
+}
+
+impl Keyed for Entry {
+    ghost key = { λ entry. entry.key };
+
+    fn key(&self) -> &str {
+        self.key.as_str()
+    }
 }
 
 impl Model for Values {
@@ -93,12 +102,12 @@ impl Model for Entries {
 
     ghost coded = { pairs_code };
 
-    ghost use Rattle.prop_values.specs.View.{entries_view, entries_size};
-    ghost use Rattle.prop_values.specs.Places.{IsIndexed};
+    ghost use Rattle.key_index.specs.Index.{IsIndexed};
+    ghost use Rattle.prop_values.specs.View.{entries_view, entry_keys, entries_size};
 
     ghost view = { λ a. entries_view a.entries.items };
 
-    ghost invariant = { λ a. HasDistinctKeys (entries_view a.entries.items) × IsIndexed a.places (entries_view a.entries.items) };
+    ghost invariant = { λ a. HasDistinctKeys (entries_view a.entries.items) × IsIndexed a.index (entry_keys a.entries.items) };
 
     ghost size = { entries_size };
 
@@ -234,7 +243,7 @@ impl Entries {
     {
         Entries {
             entries: Vec::new(alloc),
-            places: Places::new(),
+            index: KeyIndex::new(),
         }
     }
 
@@ -244,7 +253,7 @@ impl Entries {
     {
         Ok(Entries {
             entries: Vec::with_capacity(alloc, count)?,
-            places: Places::new(),
+            index: KeyIndex::new(),
         })
     }
 
@@ -255,19 +264,11 @@ impl Entries {
         ensures ok { OnOk result (self.new ≡ self.old ++ (key, data_of value) ∷ []) }
         ensures err { OnErr result (self.new ≡ self.old) }
     {
-        let place = self.entries.len();
-        if place < FIRST {
-            self.entries.push(Entry { key, value })?;
-            return Ok(());
-        }
-        // With room for the entry nothing can fail once its place is noted.
+        // With room for the entry nothing can fail once its key is noted.
         self.entries.reserve(1)?;
-        note_place(
-            *self.entries.allocator(),
-            &mut self.places,
-            key.as_str(),
-            place,
-        )?;
+        let alloc = *self.entries.allocator();
+        self.index
+            .note_next(alloc, self.entries.as_slice(), key.as_str())?;
         self.entries.push(Entry { key, value })?;
         Ok(())
     }
@@ -332,7 +333,7 @@ impl Entries {
     }
 
     /// Removes the entry of a key, in time linear in the entries. Where no entry has the key, nothing
-    /// changes.
+    /// changes. It needs no memory: when allocation fails, keys are looked for one by one until the next entry is added.
     pub fn remove(&mut self, key: &str)
         ensures left { self.new ≡ without_key key.now self.old }
         ensures at { (q : List ℕ) → at_key q (pairs_of self.new) ≡ (if same_text key.now q then None else at_key q (pairs_of self.old)) }
@@ -340,22 +341,16 @@ impl Entries {
         let Some(place) = self.place_of(key) else {
             return;
         };
-        forget_entry(self.entries.as_slice(), &mut self.places, place);
         take_out(&mut self.entries, place);
+        let alloc = *self.entries.allocator();
+        self.index.renew(alloc, self.entries.as_slice());
     }
 
     // Where the entry of a key stands.
     fn place_of(&self, key: &str) -> Option<usize>
-        ensures { result ≡ place_from 0 key.now self.now }
+        ensures { result ≡ place_from 0 key.now (keys self.now) }
     {
-        let entries = self.entries.as_slice();
-        if entries.len() <= FIRST {
-            return place_in(entries, key);
-        }
-        match place_in(&entries[..FIRST], key) {
-            Some(place) => Some(place),
-            None => noted_place(&self.places, key),
-        }
+        self.index.find(self.entries.as_slice(), key)
     }
 
     // Replaces the value at a key that is there.
@@ -370,7 +365,7 @@ impl Entries {
     fn replace_all(&mut self, members: Entries)
         ensures { self.new ≡ all_replaced self.old members }
     {
-        let Entries { entries, places: _ } = members;
+        let Entries { entries, index: _ } = members;
         for entry in entries {
             let Entry { key, value } = entry;
             self.replace(key.as_str(), value);
@@ -404,19 +399,9 @@ impl Entries {
     fn truncate(&mut self, count: usize)
         ensures { self.new ≡ take count self.old }
     {
-        while self.entries.len() > count {
-            self.pop();
-        }
-    }
-
-    fn pop(&mut self)
-        ensures { self.new ≡ take (length self.old - 1) self.old }
-    {
-        let count = self.entries.len();
-        if count > 0 {
-            forget_key(&mut self.places, self.entries[count - 1].key.as_str());
-            self.entries.truncate(count - 1);
-        }
+        self.entries.truncate(count);
+        let alloc = *self.entries.allocator();
+        self.index.renew(alloc, self.entries.as_slice());
     }
 }
 
@@ -428,36 +413,10 @@ fn put_value(entries: &mut Vec<Entry>, place: usize, value: Value)
     entries[place].value = value;
 }
 
-// Turns the index of entries into that of the others, before one is taken out.
-fn forget_entry(entries: &[Entry], places: &mut Places, place: usize)
-    requires within { place < length entries.now }
-    requires indexed { IsIndexed places.old (entries_view entries.now) }
-    requires distinct { HasDistinctKeys (entries_view entries.now) }
-    ensures { IsIndexed places.new (entries_view (remove entries.now place)) }
-{
-    // The entries behind it move forward, and the first of those that have a place loses it.
-    let gone = place.max(FIRST);
-    if let Some(entry) = entries.get(gone) {
-        forget_place(places, entry.key.as_str(), gone);
-    }
-}
-
 // Takes an entry out.
 fn take_out(entries: &mut Vec<Entry>, place: usize)
     requires { place < length entries.old.items }
     ensures { entries.new.items ≡ remove entries.old.items place }
 {
     entries.remove(place);
-}
-
-// Where the entry of a key stands, looked for in one entry after the other.
-fn place_in(entries: &[Entry], key: &str) -> Option<usize>
-    ensures { result ≡ place_from 0 key.now (entries_view entries.now) }
-{
-    for (i, entry) in entries.iter().enumerate() {
-        if entry.key.as_str() == key {
-            return Some(i);
-        }
-    }
-    None
 }

@@ -1,4 +1,4 @@
-use Rattle.std.proofs.Common.{arith, rules}
+use Rattle.std.proofs.Common.{rules}
 use Rattle.key_index.proofs.Slots.{free_at}
 use Rattle.key_index.proofs.table.free_slot.Goals as goal
 

@@ -2,7 +2,7 @@ use Rattle.std.proofs.Common.{◌≡◌, take, drop}
 use Rattle.decimal_json.specs.Tree.{trees_of, fields_of}
 use Rattle.decimal_json.specs.View.{items_view, members_view}
 use Rattle.prop_values.specs.JsonData.{trees_data, fields_data}
-use Rattle.prop_values.proofs.JsonKeys.{keys}
+use Rattle.prop_values.specs.Keys.{keys}
 use Rattle.prop_values.proofs.JsonSteps.{items_then, pairs_then}
 use Rattle.prop_values.proofs.copying.+from_json.Given as goal
 

@@ -1,4 +1,4 @@
-use Rattle.std.proofs.Common.{◌≡◌, ◌-◌, ◌++◌, [], take, replicate, ap, sym, ◌∙◌, refl, arith, vec_len}
+use Rattle.std.proofs.Common.{◌≡◌, ◌-◌, ◌++◌, [], take, replicate, ap, ◌∙◌, refl, arith, vec_len}
 use Rattle.std.proofs.lemmas.List.{take_all}
 use Rattle.key_index.specs.declared.table.Table.{Table}
 use Rattle.key_index.specs.declared.table.Bucket.{Bucket}
