@@ -10,6 +10,7 @@ use Rattle.stable_order.specs.InOrder.{in_order}
 use Rattle.stable_order.specs.Keys.{key_before}
 use Rattle.tile_reader.specs.declared.tile.Feature.{Feature}
 use Rattle.tile_reader.specs.declared.tile.TileLayer.{TileLayer}
+use Rattle.tile_reader.specs.Names.{layer_named}
 use Rattle.eval_face.specs.World.{no_feature}
 use Rattle.listing_text.specs.Layout.{ListedValue, FeatureOut}
 use Rattle.style_layout.specs.SortKeys.{key_of}
@@ -17,10 +18,14 @@ use Rattle.style_layout.specs.Forms.{Scene, Property, FilterSource, outcome_of, 
 
 -- ---- the features of a layer
 
+-- the features of a layer, and none where there is no layer
+abbrev pub features_of_layer : Option TileLayer → List Feature
+features_of_layer (Some layer) = layer.features
+features_of_layer None = []
+
 -- the features of the layer of a tile that has this name, and none where the tile lacks it
 abbrev pub features_named : List ℕ → List TileLayer → List Feature
-features_named name [] = []
-features_named name (layer ∷ layers) = if bytes_eq layer.name name then layer.features else features_named name layers
+features_named name layers = features_of_layer (layer_named name layers)
 
 -- a tile and the source that it is handed in for
 abbrev pub SourceTile : Type 0

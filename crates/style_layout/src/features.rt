@@ -13,12 +13,10 @@ use tile_reader::{Feature, Tile};
 pub(crate) fn features_named<'a>(tile: &'a Tile, name: &str) -> &'a [Feature]
     ensures { result.now ≡ features_named name.now tile.now }
 {
-    for layer in tile.as_slice() {
-        if layer.name.as_str() == name {
-            return layer.features.as_slice();
-        }
+    match tile.named(name) {
+        Some(layer) => layer.features.as_slice(),
+        None => &[],
     }
-    &[]
 }
 
 /// The features that a tile has for a layer of this source and source layer.

@@ -30,9 +30,11 @@ mod scene;
 mod shown_features;
 mod sorted;
 mod values;
+mod zoom;
 
 pub use cells::cell_count;
 pub use globals::globals_of;
 pub use listing::write_listing;
 pub use prepared::{PreparedStyle, prepare};
 pub use scene::{Scene, SourceTile};
+pub use zoom::Zoom;

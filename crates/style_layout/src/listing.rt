@@ -33,7 +33,7 @@ pub fn write_listing(
     ensures { OnOk result (out.new.items ≡ out.old.items ++ listing
         (layers_layout (scene_seen scene.now (test images.now) (test scripts.now)) (map tile_seen tiles.now) (layers_seen style.now))) }
 {
-    write_zoom(scene.zoom, out)?;
+    write_zoom(scene.zoom.exact(), out)?;
     write_layers(
         alloc,
         style.layers.as_slice(),
@@ -79,7 +79,7 @@ fn write_layer(
     ensures { OnOk result (out.new.items ≡ out.old.items ++ layer_lines
         (layer_out (scene_seen scene.now (test images.now) (test scripts.now)) (map tile_seen tiles.now) (layer_seen layer.now))) }
 {
-    let show = layer.show(scene.zoom);
+    let show = layer.show(scene.zoom.exact());
     write_layer_line(layer.id.as_str(), layer.layer_type, show, out)?;
     write_below_layer(alloc, layer, show, scene, images, scripts, tiles, out)
 }

@@ -1,7 +1,7 @@
 //! What a layout is made of beside the style.
 
+use crate::zoom::Zoom;
 use feature_states::States;
-use fixed_num::Fixed;
 use tile_reader::Tile;
 
 /// A tile, and the source that it is handed in for.
@@ -14,6 +14,6 @@ pub struct SourceTile<'a> {
 /// What all layers see, beside the tests on images and scripts.
 #[derive(Clone, Copy)]
 pub struct Scene<'a> {
-    pub zoom: Fixed,
+    pub zoom: Zoom,
     pub states: &'a States,
 }

@@ -11,6 +11,7 @@ ghost use Rattle.style_layout.specs.Shown.{zoom_at};
 use crate::forms::{FilterSource, Source};
 use crate::properties::Property;
 use crate::scene::Scene;
+use crate::zoom::Zoom;
 use eval_face::Context;
 use expr_plain::{eval_plain, passes, resolved};
 use fixed_num::Fixed;
@@ -61,7 +62,7 @@ pub(crate) fn outcome_of(
         Source::Outside => return Ok(Outcome::Outside),
     };
     match evaluated {
-        Ok(value) => Ok(resolved(Ok(value), None)),
+        Ok(value) => Ok(Outcome::Given(value)),
         Err(fault) => Ok(resolved(Err(fault), copy_of(&property.fallback)?)),
     }
 }
@@ -76,11 +77,11 @@ fn copy_of(value: &Option<Value>) -> Result<Option<Value>, AllocError>
 }
 
 // A paint value sees the zoom, and a layout value its floor.
-fn zoom_at(zoom: Fixed, place: Place) -> Fixed
+fn zoom_at(zoom: Zoom, place: Place) -> Fixed
     ensures { result ≡ zoom_at zoom place }
 {
     match place {
-        Place::Paint => zoom,
+        Place::Paint => zoom.exact(),
         Place::Layout => zoom.floor(),
     }
 }

@@ -28,7 +28,7 @@ use outside_io::Files;
 use program_runs::{Answer, Ending, Halt, Subject, answer_out, read_file, read_json};
 use std::alloc::{AllocError, Global};
 use style_layout::{
-    PreparedStyle, Scene, SourceTile, cell_count, globals_of, prepare, write_listing,
+    PreparedStyle, Scene, SourceTile, Zoom, cell_count, globals_of, prepare, write_listing,
 };
 use style_rules::{Finding, findings};
 use tile_reader::{Tile, read_tile};
@@ -275,8 +275,9 @@ fn answer_listing(
         (scene (eval_words request.now) (test images.now) (test scripts.now)) (map tile_seen tiles.now) (layers_seen style.now))) Ending.Fine) }
 {
     let states = States::new(alloc);
+    let zoom = Zoom::new(request.zoom);
     let scene = Scene {
-        zoom: request.zoom,
+        zoom,
         states: &states,
     };
     let mut out = Vec::new(alloc);

@@ -17,7 +17,8 @@ use Rattle.tile_reader.specs.Value.{value_at}
 use Rattle.tile_reader.specs.Feature.{Tagged, feature_at}
 use Rattle.tile_reader.specs.Properties.{named, with_pairs, feature_of, features_of}
 use Rattle.tile_reader.specs.Layer.{Parts, layer_field, layer_step, no_parts, name_of, version_of, new_name, layer_end, layer_at}
-use Rattle.tile_reader.specs.Tile.{names, tile_step, is_compressed, tile_of}
+use Rattle.tile_reader.specs.Names.{names}
+use Rattle.tile_reader.specs.Tile.{tile_step, is_compressed, tile_of}
 use Rattle.tile_reader.specs.Format.{Each, ArePairs, last_of}
 use Rattle.tile_reader.specs.FirstFault.{IsAt, BreaksText, LayerSoFar, AreLayerSoFar, BreaksLayerField, BreaksTags, BreaksFeatures, BreaksEnd, BreaksLayer, AreLayersSoFar, IsFirstFault}
 use Rattle.tile_reader.specs.Laws.{FaultsComeFirst}

@@ -3,7 +3,7 @@ use Rattle.std.proofs.Common.{◌≡◌, ◌≢◌, ℕ, inl, inr, List, [], ◌
 use Rattle.std.specs.Prelude.{◌⊎◌, None, Result, Ok, Err, if◌then◌else◌, nat_eq, ◌||◌}
 use Rattle.std.specs.List.{list_any}
 use Rattle.std.specs.Str.{bytes_eq}
-use Rattle.std.proofs.lemmas.List.{append-nil, map-append}
+use Rattle.std.proofs.lemmas.List.{append-nil}
 use Rattle.std.proofs.lemmas.Bool.{false_from_ne_true}
 use Rattle.std.proofs.lemmas.Slice.Eq.{bytes_eq-Decides}
 use Rattle.proto_wire.specs.Message.{WireField, content_start}
@@ -13,11 +13,13 @@ use Rattle.tile_reader.specs.declared.tile.TileLayer.{TileLayer}
 use Rattle.tile_reader.specs.Message.{message}
 use Rattle.tile_reader.specs.Read.{refused, ◌then◌, along, read_fields, bytes_in}
 use Rattle.tile_reader.specs.Layer.{layer_at}
-use Rattle.tile_reader.specs.Tile.{names, tile_step, is_compressed, tile_of}
+use Rattle.tile_reader.specs.Names.{names}
+use Rattle.tile_reader.specs.Tile.{tile_step, is_compressed, tile_of}
 use Rattle.tile_reader.specs.Format.{OneByOne, Each, Hold, fields_of_number, IsLayer, HaveNewNames, IsTile}
 use Rattle.tile_reader.specs.Laws.{TilesAreRead, TileOrFault, NeverBoth, OneTile}
 use Rattle.tile_reader.proofs.Parts.{then_ok, then_is, message_ok, message_is, by_number, pass}
 use Rattle.tile_reader.proofs.LayerFormat.{layer_ok, layer_is}
+use Rattle.tile_reader.proofs.Names.{names_more}
 
 -- a name that is none of others
 none_at : (name other : List ℕ) (others : List (List ℕ)) (t : Bool) → bytes_eq name other ≡ t → (list_any (bytes_eq name) others ≡ false → Each (λ (x : List ℕ). x ≢ name) others) → (t || list_any (bytes_eq name) others) ≡ false → (other ≢ name) × Each (λ (x : List ℕ). x ≢ name) others
@@ -33,9 +35,6 @@ new_is name [] each = refl
 new_is name (other ∷ others) each =
     ap (λ (t : Bool). t || list_any (bytes_eq name) others) (false_from_ne_true (bytes_eq name other) (λ e. each.0 (sym ((bytes_eq-Decides name other).0 e))))
     ∙ new_is name others each.1
-
-names_more : (layers : List TileLayer) (layer : TileLayer) → names (layers ++ layer ∷ []) ≡ names layers ++ layer.name ∷ []
-names_more layers layer = map-append (λ (l : TileLayer). l.name) layers (layer ∷ [])
 
 abbrev pub rest_of : List TileLayer → List WireField → Result (List TileLayer) TileFault
 rest_of s fields = along tile_step s fields None

@@ -18,7 +18,8 @@ use Rattle.tile_reader.specs.declared.value.ValueMember.TheVariants as member
 use Rattle.tile_reader.specs.Read.{broken}
 use Rattle.tile_reader.specs.Value.{value_member}
 use Rattle.tile_reader.specs.Feature.{Tagged}
-use Rattle.tile_reader.specs.Tile.{names, is_compressed}
+use Rattle.tile_reader.specs.Names.{names}
+use Rattle.tile_reader.specs.Tile.{is_compressed}
 use Rattle.tile_reader.specs.Format.{Each, Hold, last_of, IsNumber, IsBytes, IsText, HoldsMessage, Says, known_fields, IsValue, AreFeatureFields, ArePairs, IsLayer, HaveNewNames}
 
 -- a fault of this kind at this place

@@ -1,6 +1,5 @@
--- How the keys of a layer are fields_of_number so that the properties of a feature compare numbers and no texts.
-use Rattle.std.specs.Prelude.{◌≡◌, ℕ, ◌<◌, ◌⊎◌, suc, List, [], ◌∷◌, length, map, Option, Some, None, option_map, if◌then◌else◌, cond, nat_eq, is_some, slice_index, slice_index_or}
-use Rattle.std.specs.List.{list_any}
+-- How the keys of a layer are numbered so that the properties of a feature compare numbers and no texts.
+use Rattle.std.specs.Prelude.{◌≡◌, ℕ, ◌<◌, ◌⊎◌, suc, List, [], ◌∷◌, length, map, Option, Some, None, option_map, if◌then◌else◌, cond, nat_eq, slice_index, slice_index_or}
 use Rattle.std.specs.Str.{bytes_eq}
 use Rattle.std.specs.Borrow.{Bor}
 use Rattle.std.specs.BTreeMap.{BTreeMap, get_by}
@@ -62,7 +61,3 @@ abbrev pub NotesFirst : BTreeMap (Bor (List ℕ)) ℕ → BTreeMap (Bor (List �
 NotesFirst old new text place first =
     ((find_text old text ≡ Some first) × ((q : List ℕ) → find_text new q ≡ find_text old q))
     ⊎ ((find_text old text ≡ None) × (first ≡ place) × ((q : List ℕ) → find_text new q ≡ cond (bytes_eq text q) (Some place) (find_text old q)))
-
--- a map whose keys are these texts
-abbrev pub HasTexts : BTreeMap (Bor (List ℕ)) (Unit {0}) → List (List ℕ) → Type 0
-HasTexts set texts = (text : List ℕ) → is_some (find_text set text) ≡ list_any (bytes_eq text) texts

@@ -1,5 +1,5 @@
 -- A tile (Vector Tile 2.1, section 4): its layers are fields 3, and all else is skipped.
-use Rattle.std.specs.Prelude.{ℕ, List, [], ◌∷◌, ◌++◌, map, Bool, false, Result, Ok, if◌then◌else◌, nat_eq, ◌&&◌}
+use Rattle.std.specs.Prelude.{ℕ, List, [], ◌∷◌, ◌++◌, Bool, false, Result, Ok, if◌then◌else◌, nat_eq, ◌&&◌}
 use Rattle.proto_wire.specs.Message.{WireField, content_start}
 use Rattle.tile_reader.specs.declared.fault.TileKind.TheVariants.{Compressed}
 use Rattle.tile_reader.specs.declared.fault.TileFault.{TileFault}
@@ -7,10 +7,7 @@ use Rattle.tile_reader.specs.declared.tile.TileLayer.{TileLayer}
 use Rattle.tile_reader.specs.Message.{message}
 use Rattle.tile_reader.specs.Read.{refused, ◌then◌, read_fields, bytes_in}
 use Rattle.tile_reader.specs.Layer.{layer_at}
-
--- the names of layers
-abbrev pub names : List TileLayer → List (List ℕ)
-names = map (λ (layer : TileLayer). layer.name)
+use Rattle.tile_reader.specs.Names.{names}
 
 -- what a field adds to a tile
 abbrev pub tile_step : List TileLayer → WireField → Result (List TileLayer) TileFault

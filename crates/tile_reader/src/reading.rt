@@ -2,9 +2,9 @@ ghost use Rattle.std.specs.Prelude.{◌≡◌, ◌≤◌, ◌<◌, ◌^◌, [], 
 ghost use Rattle.proto_wire.specs.View.{field_seen, content_length};
 ghost use Rattle.tile_reader.specs.Message.{message};
 ghost use Rattle.tile_reader.specs.Read.{◌then◌, read_fields};
-ghost use Rattle.tile_reader.specs.Layer.{name_of, version_of, layer_end};
-ghost use Rattle.tile_reader.specs.Tile.{names as layer_names, tile_step, tile_of, is_compressed};
-ghost use Rattle.tile_reader.specs.Lookup.{HasTexts};
+ghost use Rattle.tile_reader.specs.Layer.{name_of, version_of, new_name, layer_end};
+ghost use Rattle.tile_reader.specs.Names.{names};
+ghost use Rattle.tile_reader.specs.Tile.{tile_step, tile_of, is_compressed};
 ghost use Rattle.tile_reader.specs.View.{Gives, GivesOrLacks, Leaves, HasAllTags, parts_seen};
 
 use crate::fault::{TileFault, TileKind};
@@ -16,7 +16,6 @@ use crate::wire_parts::{bytes_in, next_field};
 use decimal_json::Text;
 use proto_wire::{Field, Fields};
 use std::alloc::{AllocError, Global};
-use std::collections::BTreeMap;
 
 /// The tile that these bytes are, or their first fault.
 pub fn read_tile(alloc: Global, bytes: &[u8]) -> Result<Result<Tile, TileFault>, AllocError>
@@ -56,59 +55,37 @@ fn read_message(alloc: Global, bytes: &[u8]) -> Result<Tile, Halt>
     ensures { GivesOrLacks (λ tile. tile) result (read_fields tile_step [] (message 0 bytes.now)) }
 {
     let mut tile = Tile::new(alloc);
-    let mut names: BTreeMap<&str, ()> = BTreeMap::new(alloc);
     let mut fields = Fields::new(bytes, 0);
     while let Some(field) = next_field(&mut fields)? {
         let end = fields.offset();
-        add_field(alloc, &mut tile, &mut names, field, end)?;
+        add_field(alloc, &mut tile, field, end)?;
     }
     Ok(tile)
 }
 
 // Adds the layer that a field holds, if it does. The byte after the field stands at `end`.
-fn add_field<'a>(
-    alloc: Global,
-    tile: &mut Tile,
-    names: &mut BTreeMap<&'a str, ()>,
-    field: Field<'a>,
-    end: usize,
-) -> Result<(), Halt>
-    requires names { HasTexts names.old (layer_names tile.old) }
+fn add_field(alloc: Global, tile: &mut Tile, field: Field<'_>, end: usize) -> Result<(), Halt>
     requires inside { content_length field.wire ≤ end }
     requires room { end < 2 ^ 64 }
-    ensures layer { Leaves tile.new result (tile_step tile.old (field_seen field.entry end)) }
-    ensures names { OnOk result (HasTexts names.new (layer_names tile.new)) }
+    ensures { Leaves tile.new result (tile_step tile.old (field_seen field.entry end)) }
 {
     let Field { number, at, wire } = field;
     if number == 3 {
         let content = bytes_in(at, wire)?;
         let parts = read_parts(alloc, content, end - content.len())?;
-        add_layer(alloc, tile, names, &parts, at)?;
+        add_layer(alloc, tile, &parts, at)?;
     }
     Ok(())
 }
 
-// Adds the layer of these parts, whose tag stands at `at`, to a tile whose layers have these names.
-fn add_layer<'a>(
-    alloc: Global,
-    tile: &mut Tile,
-    names: &mut BTreeMap<&'a str, ()>,
-    parts: &LayerParts<'a>,
-    at: usize,
-) -> Result<(), Halt>
-    requires names { HasTexts names.old (layer_names tile.old) }
-    requires tags { HasAllTags parts.now.features.items parts.now.tags.items }
-    ensures layer { Leaves tile.new result (layer_end at (layer_names tile.old) (parts_seen parts.now) then λ layer. Ok (tile.old ++ layer ∷ [])) }
-    ensures names { OnOk result (HasTexts names.new (layer_names tile.new)) }
+// Adds the layer of these parts, whose tag stands at `at`.
+fn add_layer(alloc: Global, tile: &mut Tile, parts: &LayerParts<'_>, at: usize) -> Result<(), Halt>
+    requires { HasAllTags parts.now.features.items parts.now.tags.items }
+    ensures { Leaves tile.new result (layer_end at (names tile.old) (parts_seen parts.now) then λ layer. Ok (tile.old ++ layer ∷ [])) }
 {
     let name = name_of(at, parts.name)?;
     let _version = version_of(at, parts.version)?;
-    if names.contains_key(name) {
-        return Err(Halt::Fault(TileFault {
-            kind: TileKind::RepeatedName,
-            at,
-        }));
-    }
+    let name = new_name(at, tile, name)?;
     let keys = parts.keys.as_slice();
     let features = features(
         alloc,
@@ -118,7 +95,6 @@ fn add_layer<'a>(
         parts.tags.as_slice(),
     )?;
     let text = Text::copy_of(alloc, name)?;
-    names.insert(name, ())?;
     tile.push(TileLayer {
         name: text,
         features,
@@ -153,4 +129,17 @@ fn version_of(at: usize, version: Option<u64>) -> Result<u64, TileFault>
             at,
         }),
     }
+}
+
+// The name, where no layer of the tile has it.
+fn new_name<'a>(at: usize, tile: &Tile, name: &'a str) -> Result<&'a str, TileFault>
+    ensures { Gives (λ s. s.now) result (new_name at (names tile.now) name.now) }
+{
+    if tile.named(name).is_some() {
+        return Err(TileFault {
+            kind: TileKind::RepeatedName,
+            at,
+        });
+    }
+    Ok(name)
 }

@@ -1,6 +1,8 @@
-ghost use Rattle.std.specs.Prelude.{◌≡◌, [], ◌∷◌, ◌++◌, IfOk, OnOk, OnErr};
+ghost use Rattle.std.specs.Prelude.{◌≡◌, [], ◌∷◌, ◌++◌, IfOk, OnOk, OnErr, option_map};
+ghost use Rattle.key_index.specs.Keys.{LacksKey};
 
 use decimal_json::Text;
+use key_index::{KeyIndex, Keyed};
 use prop_values::Entries;
 use std::alloc::{AllocError, Global};
 use std::marker::Model;
@@ -36,10 +38,19 @@ pub struct TileLayer {
     pub features: Features,
 }
 
-/// The layers of a tile in order, which clauses see as a list. No name stands twice in a tile that was read.
+/// The layers of a tile in order, which clauses see as a list. No name stands twice.
 #[derive(Drop)]
 pub struct Tile {
     layers: Vec<TileLayer>,
+    index: KeyIndex,
+}
+
+impl Keyed for TileLayer {
+    ghost key = { λ layer. layer.name };
+
+    fn key(&self) -> &str {
+        self.name.as_str()
+    }
 }
 
 impl Model for Features {
@@ -67,7 +78,13 @@ impl Model for Tile {
 
     ghost coded = { coded_list layer.the_row.coded };
 
+    ghost use Rattle.key_index.specs.Keys.{HasDistinctKeys};
+    ghost use Rattle.key_index.specs.Index.{IsIndexed};
+    ghost use Rattle.tile_reader.specs.Names.{names};
+
     ghost view = { λ a. a.layers.items };
+
+    ghost invariant = { λ a. HasDistinctKeys (names a.layers.items) × IsIndexed a.index (names a.layers.items) };
 }
 
 impl Features {
@@ -105,19 +122,28 @@ impl Features {
 }
 
 impl Tile {
+    ghost use Rattle.tile_reader.specs.Names.{names, layer_named};
+
     pub fn new(alloc: Global) -> Tile
         ensures { result ≡ [] }
     {
         Tile {
             layers: Vec::new(alloc),
+            index: KeyIndex::new(),
         }
     }
 
-    /// Adds a layer at the end.
+    /// Adds a layer at the end, whose name no layer may have.
     pub fn push(&mut self, layer: TileLayer) -> Result<(), AllocError>
+        requires { LacksKey layer.name (names self.old) }
         ensures ok { OnOk result (self.new ≡ self.old ++ layer ∷ []) }
         ensures err { OnErr result (self.new ≡ self.old) }
     {
+        // With room for the layer nothing can fail once its name is noted.
+        self.layers.reserve(1)?;
+        let alloc = *self.layers.allocator();
+        self.index
+            .note_next(alloc, self.layers.as_slice(), layer.name.as_str())?;
         self.layers.push(layer)?;
         Ok(())
     }
@@ -126,5 +152,16 @@ impl Tile {
         ensures { result.now ≡ self.now }
     {
         self.layers.as_slice()
+    }
+
+    /// The layer of a name, or `None` exactly where no layer has it. Takes constant time, or time logarithmic in the
+    /// layers where their names were chosen for it.
+    pub fn named(&self, name: &str) -> Option<&TileLayer>
+        ensures { option_map (λ layer. layer.now) result ≡ layer_named name.now self.now }
+    {
+        match self.index.find(self.layers.as_slice(), name) {
+            None => None,
+            Some(place) => Some(&self.layers[place]),
+        }
     }
 }

@@ -17,4 +17,4 @@ returns g c =
     let text = λ (s : Scene). listing (layers_layout s (map tile_seen c.args.tiles.now) (layers_seen c.args.style.now)) in
     c.answer_out.ensures
     ∙ ap (λ t. said t Fine) (c.in_ok-write_listing.ensures
-    ∙ ((λ i. c.new-out.ensures.items i ++ text (record (scene w images scripts) { states = λ source layer id. c.new-states.ensures source layer id i }))))
+    ∙ ((λ i. c.new-out.ensures.items i ++ text (record (scene w images scripts) { zoom = c.new-zoom.ensures i; states = λ source layer id. c.new-states.ensures source layer id i }))))

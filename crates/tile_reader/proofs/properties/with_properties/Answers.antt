@@ -1,4 +1,4 @@
-use Rattle.std.proofs.Common.{◌≡◌, ℕ, ◌<◌, List, [], length, ap, sym, ◌∙◌, subst}
+use Rattle.std.proofs.Common.{◌≡◌, ℕ, ◌<◌, List, length, ap, sym, ◌∙◌, subst}
 use Rattle.std.specs.Prelude.{Some, map, slice_index_or}
 use Rattle.prop_values.specs.Data.{Data, HasDistinctKeys}
 use Rattle.tile_reader.specs.Lookup.{IndicesWithin, pairs_seen}
