@@ -1,6 +1,6 @@
 //! What the operators that evaluate all their arguments give of the values.
 
-ghost use Rattle.std.specs.Prelude.{◌≡◌, ◌≤◌, drop, is_none, length};
+ghost use Rattle.std.specs.Prelude.{◌≡◌, ◌≤◌, Ok, drop, is_none, length, true};
 ghost use Rattle.std.specs.Option.{option_map};
 ghost use Rattle.prop_values.specs.View.{data_of, values_view, evaluated_of};
 ghost use Rattle.property_tables.specs.Fitting.{fit};
@@ -31,7 +31,23 @@ use std::alloc::Global;
 pub(crate) fn fitted(alloc: Global, value: Value, want: &Want) -> Result<Value, Halt>
     ensures { Gives result (fit want.now (data_of value)) }
 {
+    if is_fitted(&value, want) {
+        return Ok(value);
+    }
     Ok(fit(alloc, value, want)??)
+}
+
+// Whether it is seen at once that a value is as it is wanted. Most are, and need not be moved through the forms of an answer.
+fn is_fitted(value: &Value, want: &Want) -> bool
+    ensures { result ≡ true → fit want.now (data_of value.now) ≡ Ok (data_of value.now) }
+{
+    match (want, value) {
+        (Want::Any, _) => true,
+        (Want::Number, Value::Num(_)) => true,
+        (Want::Text, Value::Text(_)) => true,
+        (Want::Boolean, Value::Bool(_)) => true,
+        _ => false,
+    }
 }
 
 /// What an operator gives of the values of all its arguments, fitted to the want of its node.

@@ -17,7 +17,7 @@ use crate::bindings::{evaluate_let, evaluate_var};
 use crate::branches::{evaluate_case, evaluate_match, evaluate_ramp, evaluate_step};
 use crate::rule::{Rule, rule_of};
 use crate::scope::{Scope, Slot};
-use crate::sequences::looked_at;
+use crate::sequences::{as_sequence, is_sequence};
 use crate::surroundings::{Here, Surroundings};
 use eval_face::Context;
 use expr_syntax::{Expr, Operator};
@@ -277,8 +277,11 @@ fn evaluate_argument<'x, W: Surroundings>(
     ensures stands { IfOk result (λ _. values.new.items ≡ values.old.items) }
 {
     let own = op.wanted(count, place).under(want);
+    if !is_sequence(op, place) {
+        return evaluate(alloc, argument, &own, scope, stack, world, slots, values);
+    }
     let value = evaluate(alloc, argument, &own, scope, stack, world, slots, values)?;
-    Ok(looked_at(op.row().sequence, place, value)?)
+    Ok(as_sequence(value)?)
 }
 
 #[tactic(auto, using(expr_syntax::specs::Falls::argument_weight))]

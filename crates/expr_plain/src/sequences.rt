@@ -1,26 +1,26 @@
 //! Arguments that have to be a text or a list.
 
-ghost use Rattle.std.specs.Prelude.{◌≡◌, Ok};
+ghost use Rattle.std.specs.Prelude.{◌≡◌};
 ghost use Rattle.prop_values.specs.View.{data_of, evaluated_of};
-ghost use Rattle.eval_face.specs.Meanings.{looked_at, is_sequence, as_sequence};
+ghost use Rattle.expr_syntax.specs.Names.{row};
+ghost use Rattle.expr_syntax.specs.Operators.{operator_name};
+ghost use Rattle.eval_face.specs.Meanings.{is_sequence, as_sequence};
 
+use expr_syntax::Operator;
 use prop_values::{EvalFault, Value};
 
-/// An argument that has to be a text or a list is looked at at once.
-pub(crate) fn looked_at(
-    sequence: Option<usize>,
-    place: usize,
-    value: Value,
-) -> Result<Value, EvalFault>
-    ensures { evaluated_of result ≡ looked_at (is_sequence sequence place) (Ok (data_of value)) }
+/// Whether the argument of a place has to be a text or a list.
+pub(crate) fn is_sequence(op: &Operator, place: usize) -> bool
+    ensures { result ≡ is_sequence (row (operator_name op.now)).sequence place }
 {
-    match sequence {
-        Some(asked) if asked == place => as_sequence(value),
-        _ => Ok(value),
+    match op.row().sequence {
+        Some(asked) => asked == place,
+        None => false,
     }
 }
 
-fn as_sequence(value: Value) -> Result<Value, EvalFault>
+/// The argument that has to be a text or a list, looked at at once.
+pub(crate) fn as_sequence(value: Value) -> Result<Value, EvalFault>
     ensures { evaluated_of result ≡ as_sequence (data_of value) }
 {
     match value {
