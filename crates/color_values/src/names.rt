@@ -2,8 +2,6 @@ ghost use Rattle.std.specs.Prelude.{◌≡◌, IsTrue};
 ghost use Rattle.color_values.specs.ColorName.{value_of_name};
 ghost use Rattle.color_values.specs.Views.{pairs_of, rises, value_among};
 
-use std::cmp::Ordering;
-
 // A name, and its red, green and blue as six hexadecimal digits.
 type Name = (&'static str, u32);
 
@@ -30,17 +28,10 @@ fn value_among(names: &[Name], name: &[u8]) -> Option<u32>
     requires { IsTrue (rises (pairs_of names.now)) }
     ensures { result ≡ value_among name.now (pairs_of names.now) }
 {
-    let mut low = 0;
-    let mut high = names.len();
-    while low < high {
-        let middle = low + (high - low) / 2;
-        match name.cmp(&names[middle].0.as_bytes()) {
-            Ordering::Less => high = middle,
-            Ordering::Greater => low = middle + 1,
-            Ordering::Equal => return Some(names[middle].1),
-        }
+    match names.binary_search_by(|entry| entry.0.as_bytes().cmp(name)) {
+        Ok(place) => Some(names[place].1),
+        Err(_place) => None,
     }
-    None
 }
 
 static NAMES: [Name; 148] = [

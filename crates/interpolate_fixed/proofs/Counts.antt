@@ -2,6 +2,7 @@
 use Rattle.std.proofs.Common.{◌≡◌, ℕ, zero, suc, ◌+◌, ◌-◌, ◌<◌, ◌≤◌, ℤ, pos, List, [], ◌∷◌, length, get_or, take, refl, sym, ap, ◌∙◌, arith, true, false, inl, inr}
 use Rattle.std.specs.Prelude.{Bool, int_le, ◌≤ℤ◌, ◌<ℤ◌}
 use Rattle.std.specs.List.{count_by}
+use Rattle.std.specs.List.Sorted.{IsPartitionedBy, IsPartitionPoint}
 use Rattle.std.proofs.lemmas.Bool.{cases_Bool, cases_lt, cases_order}
 use Rattle.std.specs.Int.Signed.{≤ℤ_refl, clash_ℤ}
 use Rattle.std.proofs.lemmas.Int.{ints, by_lt_z}
@@ -56,24 +57,20 @@ count_is inputs x i rising at = sym (count_at (λ input. int_le input x) inputs 
       | inr not_after ↦ let same : k ≡ i + 1 = omega arith in rw same (no (get_or inputs (i + 1) (pos 0)) x at.below_next)
     ]
 
--- with an input that is not above x, none before it is
-pub none_above_before : (inputs : List ℤ) (x : ℤ) (i : ℕ) → IsAscending inputs → i < length inputs → input_at inputs i ≤ℤ x → (k : ℕ) → k < i + 1 → input_at inputs k ≤ℤ x
-none_above_before inputs x i rising within at k h = elim (cases_lt k i) [
-  | inl before ↦ (let less = rising k i (pos 0) before within in omega (arith, ints))
-  | inr not_before ↦ let same : k ≡ i = omega arith in rw same at
+-- what ascends is parted at x
+pub partitioned : (inputs : List ℤ) (x : ℤ) → IsAscending inputs → IsPartitionedBy (λ input. int_le input x) inputs
+partitioned inputs x rising i j d upto within low = elim (cases_lt i j) [
+  | inl before ↦ yes (get_or inputs i d) x (let less = rising i j d before within in let at = by_test (get_or inputs j d) x low in omega (arith, ints))
+  | inr not_before ↦ let same : i ≡ j = omega arith in rw same low
 ]
-
--- with an input that is above x, all after it are
-pub all_above_after : (inputs : List ℤ) (x : ℤ) (i : ℕ) → IsAscending inputs → x <ℤ input_at inputs i → (k : ℕ) → i ≤ k → k < length inputs → x <ℤ input_at inputs k
-all_above_after inputs x i rising at k h within = elim (cases_lt i k) [
-  | inl after ↦ (let less = rising i k (pos 0) after within in omega (arith, ints))
-  | inr not_after ↦ let same : k ≡ i = omega arith in rw same at
-]
+  where
+    by_test : (a b : ℤ) → int_le a b ≡ true → a ≤ℤ b
+    by_test a b h = grind (arith, ints)
 
 -- the place at which inputs begin to be above x is their count
-pub count_split : (inputs : List ℤ) (x : ℤ) (i : ℕ) → i ≤ length inputs → ((k : ℕ) → k < i → input_at inputs k ≤ℤ x) → ((k : ℕ) → i ≤ k → k < length inputs → x <ℤ input_at inputs k) → i ≡ count_not_above x inputs
+pub counted : (inputs : List ℤ) (x : ℤ) (i : ℕ) → i ≤ length inputs → IsPartitionPoint (λ input. int_le input x ≡ true) (λ input. int_le input x ≡ false) inputs i → i ≡ count_not_above x inputs
 unfolding count_not_above
-count_split inputs x i within front back = sym (count_at (λ input. int_le input x) inputs i within (λ k h. yes _ x (front k h)) (λ k h j. no _ x (back k h j)))
+counted inputs x i within (front, back) = sym (count_at (λ input. int_le input x) inputs i within (λ k h. front k (pos 0) (omega arith) h) (λ k h j. back k (pos 0) h j))
 
 -- the place by comparisons
 pub place_first : (inputs : List ℤ) (x : ℤ) → x ≤ℤ first_of inputs → First ≡ place_of inputs x
@@ -97,6 +94,14 @@ between_some inputs x (suc n) h from below = by_lt_z x (input_at inputs n)
 past_test : (a b : ℤ) → int_le a b ≡ false → b <ℤ a
 past_test a b h = grind (arith, ints)
 
+-- between the ends, the count tells that input
+pub counted_between : (inputs : List ℤ) (x : ℤ) → IsAscending inputs → 0 < length inputs → first_of inputs <ℤ x → x <ℤ last_of inputs → (0 < count_not_above x inputs) × IsBetween inputs x (count_not_above x inputs - 1)
+counted_between inputs x rising some up down =
+    let (j, at) = between_some inputs x (length inputs - 1) (omega arith) (omega (arith, ints)) down in
+    let counted = count_is inputs x j rising at in
+    let place : count_not_above x inputs - 1 ≡ j = omega arith in
+    (omega arith, rw place at)
+
 pub place_is_between : (inputs : List ℤ) (x : ℤ) (i : ℕ) → IsAscending inputs → 0 < length inputs → place_of inputs x ≡ Between i → IsBetween inputs x i
 place_is_between inputs x i rising some e = elim (cases_Bool (int_le x (first_of inputs))) [
   | inl first ↦ let e' = rw first at e in absurd (cc)
@@ -104,11 +109,8 @@ place_is_between inputs x i rising some e = elim (cases_Bool (int_le x (first_of
     | inl last ↦ let e' = rw (behind, last) at e in absurd (cc)
     | inr ahead ↦
         let e' = rw (behind, ahead) at e in
-        let up = past_test x (first_of inputs) behind in
-        let (j, at) = between_some inputs x (length inputs - 1) (omega arith) (omega (arith, ints)) (past_test (last_of inputs) x ahead) in
-        let counted = count_is inputs x j rising at in
-        let place : count_not_above x inputs - 1 ≡ j = omega arith in
-        let same : j ≡ i = cc in rw (← same) at
+        let counted = counted_between inputs x rising some (past_test x (first_of inputs) behind) (past_test (last_of inputs) x ahead) in
+        let same : count_not_above x inputs - 1 ≡ i = cc in rw (← same) counted.1
   ]
 ]
 

@@ -39,17 +39,7 @@ fn greatest_not_above(inputs: &[Fixed], value: Fixed) -> usize
     ensures count { result + 1 ≡ count_not_above value inputs.now }
     ensures between { IsBetween inputs.now value result }
 {
-    let mut low = 0;
-    let mut high = inputs.len() - 1;
-    while high - low > 1 {
-        let middle = low + (high - low) / 2;
-        if inputs[middle].millionths() <= value.millionths() {
-            low = middle;
-        } else {
-            high = middle;
-        }
-    }
-    low
+    step_place(inputs, value) - 1
 }
 
 /// How many inputs are not above the value, where each is below the next. Takes time by the logarithm of their number.
@@ -57,15 +47,5 @@ pub fn step_place(inputs: &[Fixed], value: Fixed) -> usize
     requires ascending { IsAscending inputs.now }
     ensures { result ≡ count_not_above value inputs.now }
 {
-    let mut low = 0;
-    let mut high = inputs.len();
-    while low < high {
-        let middle = low + (high - low) / 2;
-        if inputs[middle].millionths() <= value.millionths() {
-            low = middle + 1;
-        } else {
-            high = middle;
-        }
-    }
-    low
+    inputs.partition_point(|input| input.millionths() <= value.millionths())
 }

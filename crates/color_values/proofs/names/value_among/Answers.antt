@@ -1,25 +1,14 @@
-use Rattle.std.proofs.Common.{◌+◌, ◌-◌, ◌/◌, arith}
-use Rattle.color_values.proofs.NameLaws.{name_is_below, name_is_above, name_is_found, name_is_none}
+use Rattle.std.proofs.Common.{rules}
+use Rattle.std.specs.Cmp.Lexicographic.{slice_cmp}
+use Rattle.std.specs.Ordering.{nat_cmp}
+use Rattle.std.proofs.lemmas.Fn.{always_returns_same}
+use Rattle.color_values.proofs.NameLaws.{name_is_found, name_is_none}
 use Rattle.color_values.proofs.names.value_among.Goals as goal
 
-pub loop-low-preserved-in-Less : goal.loop-low-preserved-in-Less
-loop-low-preserved-in-Less c = record {
-  ordered = omega arith;
-  within = omega arith;
-  before = c.loop-low.invariant.before;
-  after = name_is_below c.args.name.now c.as_bytes.result.now c.args.names.now (c.loop-low.low + (c.loop-low.high - c.loop-low.low) / 2) _ c.requires (omega arith) c.as_bytes.ensures.value c.in-Less.ensures;
-}
+pub returns-in-Ok : goal.returns-in-Ok
+returns-in-Ok c =
+    name_is_found c.args.name.now c.args.names.now c.in-Ok.place _ c.requires c.in-Ok.ensures.bound (c.in-Ok.ensures.position (λ n. slice_cmp nat_cmp n.0.now c.args.name.now) (always_returns_same _ _ _ (λ a r f called. search rules)))
 
-pub loop-low-preserved : goal.loop-low-preserved
-loop-low-preserved c = record {
-  ordered = omega arith;
-  within = omega arith;
-  before = name_is_above c.args.name.now c.as_bytes.result.now c.args.names.now (c.loop-low.low + (c.loop-low.high - c.loop-low.low) / 2) _ c.requires (omega arith) c.as_bytes.ensures.value c.in-Greater.ensures;
-  after = c.loop-low.invariant.after;
-}
-
-pub returns-in-Equal : goal.returns-in-Equal
-returns-in-Equal c = name_is_found c.args.name.now c.as_bytes.result.now c.args.names.now (c.loop-low.low + (c.loop-low.high - c.loop-low.low) / 2) _ c.requires (omega arith) c.as_bytes.ensures.value c.in-Equal.ensures
-
-pub returns : goal.returns
-returns c = name_is_none c.args.name.now c.args.names.now c.loop-low.low c.loop-low.high (omega arith) c.loop-low.invariant.before c.loop-low.invariant.after
+pub returns-in-Err : goal.returns-in-Err
+returns-in-Err c =
+    name_is_none c.args.name.now c.args.names.now c.in-Err._place c.requires c.in-Err.ensures.bound (c.in-Err.ensures.position (λ n. slice_cmp nat_cmp n.0.now c.args.name.now) (always_returns_same _ _ _ (λ a r f called. search rules)))
