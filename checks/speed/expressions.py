@@ -48,7 +48,7 @@ def main():
     style = inputs.style()
     found = list(expressions(style))
     with tempfile.TemporaryDirectory() as name:
-        parsed = counted(program, pathlib.Path(name), style, "decimal_json::reading::parse")
+        parsed = counted(program, pathlib.Path(name), style, "program_runs::reading::parse_json")
         read = counted(program, pathlib.Path(name), circle_style(["coalesce", *found]), "expr_syntax::reading::read_expr")
     print(f"parse of {len(style):,} bytes: {parsed / 1e6:.0f} million instructions")
     print(f"read_expr of its {len(found):,} expressions: {read / 1e6:.0f} million instructions, {read / parsed:.2f} times parse")

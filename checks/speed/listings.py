@@ -90,6 +90,7 @@ def cases():
     yield "2,000,000 features by a sort key", style(',"layout":{"circle-sort-key":["get","r"]}'), numbers
     yield "4,000 layers, a tile of 40,000", *many_names(4_000)
     yield "8,000 layers, a tile of 80,000", *many_names(8_000)
+    yield "50,000 layers, a tile of 500,000", *many_names(50_000)
     yield "330,000 names in the root", style("", "".join('"k%d":0,' % i for i in range(330_000))), few
     yield "a sum of 2,080,000 numbers", style(',"paint":{"circle-radius":["+"%s]}' % (",1" * 2_080_000)), few
 

@@ -9,8 +9,8 @@
 3. The same for tiles with bytes changed.
 
 It needs `rt` on the path. GDAL is Debian's gdal-bin; without it the first comparison is skipped.
-The program that reads the tiles is made in a temporary folder, from a copy of crates/ and program.txt. For the comparisons
-`rt try` runs it unproved; for the times `rt run` proves it and LLVM builds it, which takes minutes where crates/*/out is empty.
+The program that reads the tiles is made in a temporary folder, from a copy of crates/ and program.txt. `rt run` proves it and LLVM builds it,
+which takes minutes where crates/*/out is empty.
 """
 
 import collections
@@ -32,11 +32,13 @@ import scratch
 PROGRAM = "tile_lines"
 
 
-def reader_lines(program, tiles):
+def reader_lines(folder, tiles):
     """What the reader says of each tile: one line of JSON, or a fault and its place."""
-    batch = program.parent.parent / "tiles"
+    batch = folder / "tiles"
+    batch.write_bytes(b"")
+    runner = scratch.build(made_program(folder), "lines", batch)
     batch.write_bytes(scratch.framed(tiles))
-    return scratch.run(program, "rt", "try", "--seconds", "600", "--", "lines", batch).decode("utf-8").split("\n")[: len(tiles)]
+    return scratch.run(folder, runner, "lines", batch).decode("utf-8").split("\n")[: len(tiles)]
 
 
 def line_by_rules(tile):
@@ -79,14 +81,13 @@ def made_program(folder):
 
 def compare(folder, options):
     """All comparisons; gives how many tiles differ."""
-    program = made_program(folder)
     rng = random.Random(options.seed)
     whole = [makes.Maker(rng, 0).tile() for _ in range(500)]
     made = random_tiles(rng, options.random)
     bytes_changed = [makes.changed(rng, rng.choice(whole), whole) for _ in range(options.changed)]
     with tempfile.TemporaryDirectory() as maps:
         mapped = by_gdal.tiles(pathlib.Path(maps), rng)
-        lines = reader_lines(program, [tile for tile, _ in mapped] + made + bytes_changed)
+        lines = reader_lines(folder, [tile for tile, _ in mapped] + made + bytes_changed)
     differ = by_gdal.compare(mapped, lines[: len(mapped)])
     differ += compare_with_rules("random", made, lines[len(mapped) : len(mapped) + len(made)])
     return differ + compare_with_rules("changed", bytes_changed, lines[len(mapped) + len(made) :])
