@@ -1,10 +1,11 @@
 -- Items and members that are changed in place: what stands where, and that keys stay distinct.
-use Rattle.std.proofs.Common.{◌≡◌, ◌≢◌, ℕ, zero, suc, ◌+◌, ◌<◌, List, [], ◌∷◌, ◌++◌, length, get_or, set, refl, ap, sym, ◌∙◌, subst, arith, Bool, true, false}
+use Rattle.std.proofs.Common.{◌≡◌, ◌≢◌, ℕ, zero, suc, ◌+◌, List, [], ◌∷◌, ◌++◌, get_or, set, refl, ap, sym, ◌∙◌, arith, Bool, true, false}
 use Rattle.std.specs.Prelude.{Option, Some, None, if◌then◌else◌, map, insert, remove}
 use Rattle.std.specs.Str.{bytes_eq}
-use Rattle.std.proofs.lemmas.Bool.{cond-true, cond-false, true≢false}
+use Rattle.std.proofs.lemmas.Bool.{cond-false, true≢false}
 use Rattle.std.proofs.lemmas.Slice.Eq.{bytes_eq-Decides}
 use Rattle.key_index.specs.Keys.{place_from}
+use Rattle.key_index.proofs.Keys.{none_first, not_below}
 use Rattle.decimal_json.specs.declared.tree.Member.{Member}
 use Rattle.decimal_json.specs.declared.tree.Json.{Json}
 use Rattle.decimal_json.specs.Editing.{members_with, replaced_members, members_without}
@@ -28,23 +29,10 @@ map_remove f (y ∷ ys) (suc i) = ap (λ zs. f y ∷ zs) (map_remove f ys i)
 abbrev pub revalued : List Member → ℕ → Json → Member → List Member
 revalued ms j v d = set ms j (record (get_or ms j d) { value = v })
 
-first_none : (i : ℕ) (rest : Option ℕ) (same : Bool) → (if same then Some i else rest) ≡ None → (same ≡ false) × (rest ≡ None)
-first_none i rest true e = absurd (cc)
-first_none i rest false e = (refl, e)
-
-not_below_step : (i n : ℕ) (q : List ℕ) (ms : List Member) (same : Bool) → n < i → (if same then Some i else place_from (i + 1) q (member_keys ms)) ≡ Some n → (place_from (i + 1) q (member_keys ms) ≡ Some n → ⊥) → ⊥
-not_below_step i n q ms true l e go = let p : i ≡ n = cc in omega arith
-not_below_step i n q ms false l e go = go e
-
--- a place is no less than the number from which places are counted
-not_below : (i n : ℕ) (q : List ℕ) (ms : List Member) → n < i → place_from i q (member_keys ms) ≡ Some n → ⊥
-not_below i n q [] l e = absurd (cc)
-not_below i n q (m ∷ ms) l e = not_below_step i n q ms (bytes_eq m.key q) l e (λ f. not_below (i + 1) n q ms (omega arith) f)
-
 replace_step : (i : ℕ) (q : List ℕ) (v : Json) (d m : Member) (ms : List Member) (same : Bool) → (j : ℕ) → (if same then Some i else place_from (i + 1) q (member_keys ms)) ≡ Some (i + j) → ((k : ℕ) → place_from (i + 1) q (member_keys ms) ≡ Some (i + 1 + k) → members_view (revalued ms k v d) ≡ replaced_members q (tree_of v) (members_view ms)) → members_view (revalued (m ∷ ms) j v d) ≡ (if same then (m.key, tree_of v) ∷ members_view ms else member_view m ∷ replaced_members q (tree_of v) (members_view ms))
 replace_step i q v d m ms true zero p go = refl
 replace_step i q v d m ms true (suc j) p go = absurd (let n : i ≡ i + suc j = cc in omega arith)
-replace_step i q v d m ms false zero p go = absurd (not_below (i + 1) i q ms (omega arith) (p ∙ ap Some (omega arith)))
+replace_step i q v d m ms false zero p go = absurd (not_below (i + 1) i q (member_keys ms) (omega arith) (p ∙ ap Some (omega arith)))
 replace_step i q v d m ms false (suc j) p go = ap (λ xs. member_view m ∷ xs) (go j (p ∙ ap Some (omega arith)))
 
 view_replaced_from : (i : ℕ) (q : List ℕ) (ms : List Member) (v : Json) (d : Member) (j : ℕ) → place_from i q (member_keys ms) ≡ Some (i + j) → members_view (revalued ms j v d) ≡ replaced_members q (tree_of v) (members_view ms)
@@ -58,7 +46,7 @@ view_replaced q ms v d j p = view_replaced_from 0 q ms v d j (p ∙ ap Some (ome
 remove_step : (i : ℕ) (q : List ℕ) (m : Member) (ms : List Member) (same : Bool) → (j : ℕ) → (if same then Some i else place_from (i + 1) q (member_keys ms)) ≡ Some (i + j) → ((k : ℕ) → place_from (i + 1) q (member_keys ms) ≡ Some (i + 1 + k) → members_view (remove ms k) ≡ members_without q (members_view ms)) → members_view (remove (m ∷ ms) j) ≡ (if same then members_view ms else member_view m ∷ members_without q (members_view ms))
 remove_step i q m ms true zero p go = refl
 remove_step i q m ms true (suc j) p go = absurd (let n : i ≡ i + suc j = cc in omega arith)
-remove_step i q m ms false zero p go = absurd (not_below (i + 1) i q ms (omega arith) (p ∙ ap Some (omega arith)))
+remove_step i q m ms false zero p go = absurd (not_below (i + 1) i q (member_keys ms) (omega arith) (p ∙ ap Some (omega arith)))
 remove_step i q m ms false (suc j) p go = ap (λ xs. member_view m ∷ xs) (go j (p ∙ ap Some (omega arith)))
 
 view_without_from : (i : ℕ) (q : List ℕ) (ms : List Member) (j : ℕ) → place_from i q (member_keys ms) ≡ Some (i + j) → members_view (remove ms j) ≡ members_without q (members_view ms)
@@ -73,19 +61,19 @@ view_without q ms j p = view_without_from 0 q ms j (p ∙ ap Some (omega arith))
 pub nothing_replaced : (i : ℕ) (q : List ℕ) (t : Tree) (ms : List Member) → place_from i q (member_keys ms) ≡ None → replaced_members q t (members_view ms) ≡ members_view ms
 nothing_replaced i q t [] e = refl
 nothing_replaced i q t (m ∷ ms) e =
-    let parts = first_none i (place_from (i + 1) q (member_keys ms)) (bytes_eq m.key q) e in
+    let parts = none_first i (place_from (i + 1) q (member_keys ms)) (bytes_eq m.key q) e in
     cond-false (bytes_eq m.key q) _ _ parts.0 ∙ ap (λ xs. member_view m ∷ xs) (nothing_replaced (i + 1) q t ms parts.1)
 
 pub nothing_removed : (i : ℕ) (q : List ℕ) (ms : List Member) → place_from i q (member_keys ms) ≡ None → members_without q (members_view ms) ≡ members_view ms
 nothing_removed i q [] e = refl
 nothing_removed i q (m ∷ ms) e =
-    let parts = first_none i (place_from (i + 1) q (member_keys ms)) (bytes_eq m.key q) e in
+    let parts = none_first i (place_from (i + 1) q (member_keys ms)) (bytes_eq m.key q) e in
     cond-false (bytes_eq m.key q) _ _ parts.0 ∙ ap (λ xs. member_view m ∷ xs) (nothing_removed (i + 1) q ms parts.1)
 
 pub put_last : (i : ℕ) (q : List ℕ) (t : Tree) (ms : List Member) → place_from i q (member_keys ms) ≡ None → members_with q t (members_view ms) ≡ members_view ms ++ (q, t) ∷ []
 put_last i q t [] e = refl
 put_last i q t (m ∷ ms) e =
-    let parts = first_none i (place_from (i + 1) q (member_keys ms)) (bytes_eq m.key q) e in
+    let parts = none_first i (place_from (i + 1) q (member_keys ms)) (bytes_eq m.key q) e in
     cond-false (bytes_eq m.key q) _ _ parts.0 ∙ ap (λ xs. member_view m ∷ xs) (put_last (i + 1) q t ms parts.1)
 
 put_step : (i k : ℕ) (p : List ℕ × Tree) (t : Tree) (rest : Option ℕ) (ms xs ys : List (List ℕ × Tree)) (same : Bool) → (if same then Some i else rest) ≡ Some k → (rest ≡ Some k → xs ≡ ys) → (if same then (p.0, t) ∷ ms else p ∷ xs) ≡ (if same then (p.0, t) ∷ ms else p ∷ ys)
@@ -99,11 +87,11 @@ put_there i k q t (m ∷ ms) e = put_step i k (member_view m) t (place_from (i +
 
 -- A key with no place is not there.
 lacks_step : (i : ℕ) (m : Member) (q : List ℕ) (rest : Option ℕ) → (if bytes_eq m.key q then Some i else rest) ≡ None → m.key ≢ q
-lacks_step i m q rest e = λ same. true≢false (sym ((bytes_eq-Decides m.key q).1 same) ∙ (first_none i rest (bytes_eq m.key q) e).0)
+lacks_step i m q rest e = λ same. true≢false (sym ((bytes_eq-Decides m.key q).1 same) ∙ (none_first i rest (bytes_eq m.key q) e).0)
 
 pub lacks_unplaced : (i : ℕ) (q : List ℕ) (ms : List Member) → place_from i q (member_keys ms) ≡ None → LacksKey q (members_view ms)
 lacks_unplaced i q [] e = tt
-lacks_unplaced i q (m ∷ ms) e = (lacks_step i m q (place_from (i + 1) q (member_keys ms)) e, lacks_unplaced (i + 1) q ms (first_none i (place_from (i + 1) q (member_keys ms)) (bytes_eq m.key q) e).1)
+lacks_unplaced i q (m ∷ ms) e = (lacks_step i m q (place_from (i + 1) q (member_keys ms)) e, lacks_unplaced (i + 1) q ms (none_first i (place_from (i + 1) q (member_keys ms)) (bytes_eq m.key q) e).1)
 
 lacks_revalued : (k : List ℕ) (ms : List Member) (j : ℕ) (v : Json) (d : Member) → LacksKey k (members_view ms) → LacksKey k (members_view (revalued ms j v d))
 lacks_revalued k [] j v d h = tt

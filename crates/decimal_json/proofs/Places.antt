@@ -1,12 +1,13 @@
 -- What an index of keys says of members.
-use Rattle.std.proofs.Common.{◌≡◌, ◌≢◌, ℕ, zero, suc, ◌+◌, ◌<◌, List, [], ◌∷◌, ◌++◌, length, get_or, refl, ap, sym, ◌∙◌, arith, Bool, true, false}
-use Rattle.std.specs.Prelude.{Option, Some, None, if◌then◌else◌}
+use Rattle.std.proofs.Common.{◌≡◌, ℕ, suc, ◌+◌, ◌<◌, List, [], ◌∷◌, length, get_or, refl, ap, sym, ◌∙◌, arith, Bool, true, false}
+use Rattle.std.specs.Prelude.{Some, None, if◌then◌else◌}
 use Rattle.std.specs.Str.{bytes_eq}
 use Rattle.std.proofs.lemmas.Bool.{cond-true, cond-false}
 use Rattle.key_index.specs.Keys as key
 use Rattle.key_index.specs.Keys.{place_from}
+use Rattle.key_index.proofs.Keys.{none_first}
 use Rattle.decimal_json.specs.declared.tree.Member.{Member}
-use Rattle.decimal_json.specs.Tree.{Tree, LacksKey, HasDistinctKeys, field_at}
+use Rattle.decimal_json.specs.Tree.{LacksKey, HasDistinctKeys, field_at}
 use Rattle.decimal_json.specs.View.{tree_of, members_view, member_keys, fields}
 
 pub lacks_member_key : (k : List ℕ) (ms : List Member) → LacksKey k (members_view ms) → key.LacksKey k (member_keys ms)
@@ -17,15 +18,11 @@ pub distinct_member_keys : (ms : List Member) → HasDistinctKeys (members_view 
 distinct_member_keys [] h = tt
 distinct_member_keys (m ∷ ms) h = (lacks_member_key m.key ms h.0, distinct_member_keys ms h.1)
 
-none_step : (i : ℕ) (rest : Option ℕ) (same : Bool) → (if same then Some i else rest) ≡ None → (same ≡ false) × (rest ≡ None)
-none_step i rest true e = absurd (cc)
-none_step i rest false e = (refl, e)
-
 -- nothing stands at a key with no place
 pub no_value : (i : ℕ) (q : List ℕ) (ms : List Member) → place_from i q (member_keys ms) ≡ None → field_at q (fields ms) ≡ None
 no_value i q [] e = refl
 no_value i q (m ∷ ms) e =
-    let parts = none_step i (place_from (i + 1) q (member_keys ms)) (bytes_eq m.key q) e in
+    let parts = none_first i (place_from (i + 1) q (member_keys ms)) (bytes_eq m.key q) e in
     cond-false (bytes_eq m.key q) (Some (tree_of m.value)) (field_at q (fields ms)) parts.0 ∙ no_value (i + 1) q ms parts.1
 
 -- where a key stands, and what stands there

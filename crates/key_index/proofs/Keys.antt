@@ -74,9 +74,19 @@ lacks_before [] i d h l = absurd (omega arith)
 lacks_before (k ∷ ks) zero d h l = tt
 lacks_before (k ∷ ks) (suc i) d h l = (lacks_at k ks i d h.0 (omega arith), lacks_before ks i d h.1 (omega arith))
 
-none_first : (i : ℕ) (rest : Option ℕ) (same : Bool) → (if same then Some i else rest) ≡ None → (same ≡ false) × (rest ≡ None)
+-- a key that has no place is not the first, and has none among the others
+pub none_first : (i : ℕ) (rest : Option ℕ) (same : Bool) → (if same then Some i else rest) ≡ None → (same ≡ false) × (rest ≡ None)
 none_first i rest true e = absurd (cc)
 none_first i rest false e = (refl, e)
+
+below_first : (i n : ℕ) (rest : Option ℕ) (same : Bool) → n < i → (if same then Some i else rest) ≡ Some n → rest ≡ Some n
+below_first i n rest true l e = absurd (let p : i ≡ n = cc in omega arith)
+below_first i n rest false l e = e
+
+-- a place is no less than the number from which places are counted
+pub not_below : (i n : ℕ) (q : List ℕ) (ks : List (List ℕ)) → n < i → place_from i q ks ≡ Some n → ⊥
+not_below i n q [] l e = absurd (cc)
+not_below i n q (k ∷ ks) l e = not_below (i + 1) n q ks (omega arith) (below_first i n (place_from (i + 1) q ks) (bytes_eq k q) l e)
 
 -- a key that is not among the first n stands among the others
 pub place_later : (i n : ℕ) (q : List ℕ) (ks : List (List ℕ)) → place_from i q (take n ks) ≡ None → n ≤ length ks → place_from i q ks ≡ place_from (i + n) q (drop n ks)

@@ -1,13 +1,13 @@
 -- Slots and buckets as keys are added.
 use Rattle.std.proofs.Common.{◌≡◌, ◌≢◌, ℕ, zero, suc, ◌+◌, ◌<◌, ◌≤◌, List, [], ◌∷◌, ◌++◌, length, get_or, set, replicate, refl, ap, sym, ◌∙◌, subst, arith, Bool, true, false}
-use Rattle.std.specs.Prelude.{Option, Some, None, nat_eq, not, ◌&&◌, if◌then◌else◌}
+use Rattle.std.specs.Prelude.{Some, None, nat_eq, not, ◌&&◌, if◌then◌else◌}
 use Rattle.std.specs.Str.{bytes_eq}
 use Rattle.std.proofs.lemmas.Bool.{cond-true, cond-false, and_from, and_left, and_right, not_from_true, not_from_false, eq-eqb, ne_eqb}
 use Rattle.key_index.specs.declared.table.Slot.{Slot}
 use Rattle.key_index.specs.declared.table.Bucket.{Bucket}
 use Rattle.key_index.specs.Keys.{is_at}
 use Rattle.key_index.specs.Table.{is_slot_of, slot_place, slots_at, AreBelow, AllBelow, IsFree}
-use Rattle.key_index.proofs.Keys.{is_at-more, is_at-last, bytes_same}
+use Rattle.key_index.proofs.Keys.{is_at-more, is_at-last, bytes_same, none_first}
 
 -- the slot of a key with this hash, whose place is n
 abbrev pub slot_of : ℕ → ℕ → Slot
@@ -38,10 +38,6 @@ others_stay hash h q ks k (s ∷ ss) zero e f b =
     cond-false (is_slot_of hash q (ks ++ k ∷ []) (slot_of h (length ks))) (Some (length ks)) (slot_place hash q (ks ++ k ∷ []) ss) (new_is_other hash h q ks k e) ∙
     (slots_more hash q ks k ss b.1 ∙ sym (cond-false (is_slot_of hash q ks s) (Some s.place) (slot_place hash q ks ss) (free_is_of_none hash q ks s f)))
 others_stay hash h q ks k (s ∷ ss) (suc i) e f b = λ t. if slot_more hash q ks k s b.0 t then Some s.place else others_stay hash h q ks k ss i e f b.1 t
-
-none_first : (p : ℕ) (rest : Option ℕ) (same : Bool) → (if same then Some p else rest) ≡ None → (same ≡ false) × (rest ≡ None)
-none_first p rest true e = absurd (cc)
-none_first p rest false e = (refl, e)
 
 pub new_is_found : (hash : ℕ) (ks : List (List ℕ)) (k : List ℕ) (ss : List Slot) (i : ℕ) → 0 < length ks → slot_place hash k ks ss ≡ None → IsFree i ss → AreBelow (length ks) ss → slot_place hash k (ks ++ k ∷ []) (set ss i (slot_of hash (length ks))) ≡ Some (length ks)
 new_is_found hash ks k [] i l e f b = absurd f

@@ -5,7 +5,7 @@ use Rattle.key_index.specs.Index.{IsIndexed}
 use Rattle.key_index.specs.Keys as key
 use Rattle.decimal_json.specs.declared.tree.Member.{Member}
 use Rattle.decimal_json.specs.Tree.{LacksKey, HasDistinctKeys}
-use Rattle.decimal_json.specs.View.{tree_of, member_view, members_view, member_keys}
+use Rattle.decimal_json.specs.View.{member_view, members_view, member_keys}
 use Rattle.decimal_json.proofs.Places.{distinct_member_keys}
 use Rattle.decimal_json.proofs.Edits.{map_insert, distinct_inserted}
 use Rattle.decimal_json.proofs.tree.Members.insert_at.Goals as goal

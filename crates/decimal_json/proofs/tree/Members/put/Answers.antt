@@ -1,14 +1,13 @@
 use Rattle.std.proofs.Common.{◌≡◌, sym, ap, ◌∙◌, subst, Some, None, arith, [], ◌∷◌, ◌++◌}
 use Rattle.std.specs.Prelude.{OnOk}
 use Rattle.key_index.specs.Index.{IsIndexed}
-use Rattle.key_index.specs.Keys as key
 use Rattle.key_index.specs.Keys.{place_from}
 use Rattle.decimal_json.specs.declared.tree.Member.{Member}
-use Rattle.decimal_json.specs.Tree.{LacksKey, HasDistinctKeys, fields_of, field_at}
-use Rattle.decimal_json.specs.Editing.{members_with, replaced_members, members_without}
+use Rattle.decimal_json.specs.Tree.{LacksKey, HasDistinctKeys}
+use Rattle.decimal_json.specs.Editing.{members_with}
 use Rattle.decimal_json.specs.View.{tree_of, members_view, member_keys}
-use Rattle.decimal_json.proofs.Places.{found_within, found_value, value_placed, no_value, distinct_member_keys}
-use Rattle.decimal_json.proofs.Edits.{revalued, view_replaced, view_without, nothing_replaced, nothing_removed, put_last, put_there, lacks_unplaced, distinct_revalued, keys_revalued, distinct_removed}
+use Rattle.decimal_json.proofs.Places.{found_within}
+use Rattle.decimal_json.proofs.Edits.{revalued, view_replaced, put_last, put_there, lacks_unplaced, distinct_revalued, keys_revalued}
 use Rattle.decimal_json.proofs.tree.Members.put.Goals as goal
 
 pub push-requires : goal.push-requires
