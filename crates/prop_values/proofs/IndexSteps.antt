@@ -3,6 +3,7 @@ use Rattle.std.proofs.Common.{◌≡◌, ℕ, zero, suc, ◌+◌, ◌<◌, List,
 use Rattle.std.specs.Prelude.{Option, Some, None, if◌then◌else◌}
 use Rattle.std.proofs.lemmas.Bool.{cond-true, cond-false}
 use Rattle.std.proofs.lemmas.List.{length-map}
+use Rattle.key_index.proofs.Keys.{none_first}
 use Rattle.prop_values.specs.Data.{Data, LacksKey, HasDistinctKeys, pairs_of}
 use Rattle.prop_values.specs.Equality.{same_text, at_key}
 use Rattle.prop_values.specs.Keys.{keys}
@@ -10,10 +11,6 @@ use Rattle.key_index.specs.Keys as index
 use Rattle.key_index.specs.Keys.{place_from}
 use Rattle.prop_values.specs.View.{data_of, entry_view, entries_view, entry_keys, pairs}
 use Rattle.prop_values.specs.declared.value.Entry.{Entry}
-
-pub none_step : (i : ℕ) (d : Data) (rest : Option ℕ) (same : Bool) → (if same then Some i else rest) ≡ None → (same ≡ false) × (rest ≡ None)
-none_step i d rest true e = absurd (cc)
-none_step i d rest false e = (refl, e)
 
 -- the keys of entries, as those of what they are seen as
 pub keys_seen : (es : List Entry) → keys (entries_view es) ≡ entry_keys es
@@ -32,7 +29,7 @@ distinct_entry_keys (e ∷ es) h = (lacks_entry_key e.key es h.0, distinct_entry
 pub place_none : (i : ℕ) (q : List ℕ) (ps : List (List ℕ × Data)) → place_from i q (keys ps) ≡ None → at_key q (pairs_of ps) ≡ None
 place_none i q [] e = refl
 place_none i q (p ∷ ps) e =
-    let parts = none_step i p.1 (place_from (i + 1) q (keys ps)) (same_text p.0 q) e in
+    let parts = none_first i (place_from (i + 1) q (keys ps)) (same_text p.0 q) e in
     cond-false (same_text p.0 q) (Some p.1) (at_key q (pairs_of ps)) parts.0 ∙ place_none (i + 1) q ps parts.1
 
 -- where a key stands, and what stands there
@@ -71,7 +68,3 @@ found_value q es k e f p =
     let found = stands 0 q (entries_view es) k f in
     let at_k : found.offset ≡ k = omega (arith, found.place) in
     found.value (entry_view e) ∙ (ap (λ (x : List ℕ × Data). Some x.1) (read_entry es found.offset e) ∙ (ap (λ n. Some (data_of (get_or es n e).value)) at_k ∙ ap (λ (x : Entry). Some (data_of x.value)) (sym p)))
-
--- a place is no less than the number from which places are counted
-pub before : (i : ℕ) (q : List ℕ) (ps : List (List ℕ × Data)) → place_from (i + 1) q (keys ps) ≡ Some i → ⊥
-before i q ps e = let found = stands (i + 1) q ps i e in omega (arith, found.place)

@@ -8,10 +8,10 @@ use Rattle.prop_values.specs.Data.{Data, LacksKey, HasDistinctKeys}
 use Rattle.prop_values.specs.Equality.{same_text}
 use Rattle.prop_values.specs.Keys.{keys}
 use Rattle.key_index.specs.Keys.{place_from}
+use Rattle.key_index.proofs.Keys.{none_first, not_below}
 use Rattle.prop_values.specs.View.{entry_view, entries_view}
 use Rattle.prop_values.specs.declared.value.Entry.{Entry}
 use Rattle.prop_values.proofs.Keys.{distinct-take}
-use Rattle.prop_values.proofs.IndexSteps.{none_step, before}
 
 drop_none : {X : Type 0} (xs : List X) → drop 0 xs ≡ xs
 drop_none [] = refl
@@ -20,7 +20,7 @@ drop_none (x ∷ xs) = refl
 remove_step : (i : ℕ) (q : List ℕ) (e : Entry) (es : List Entry) (same : Bool) → same_text e.key q ≡ same → (j : ℕ) → (if same then Some i else place_from (i + 1) q (keys (entries_view es))) ≡ Some (i + j) → ((k : ℕ) → j ≡ suc k → place_from (i + 1) q (keys (entries_view es)) ≡ Some (i + 1 + k) → entries_view (remove es k) ≡ without_key q (entries_view es)) → entries_view (remove (e ∷ es) j) ≡ (if same then entries_view es else entry_view e ∷ without_key q (entries_view es))
 remove_step i q e es true f zero p go = ap entries_view (drop_none es)
 remove_step i q e es true f (suc j) p go = absurd (let n : i ≡ i + suc j = cc in omega arith)
-remove_step i q e es false f zero p go = absurd (before i q (entries_view es) (p ∙ ap Some (omega arith)))
+remove_step i q e es false f zero p go = absurd (not_below (i + 1) i q (keys (entries_view es)) (omega arith) (p ∙ ap Some (omega arith)))
 remove_step i q e es false f (suc j) p go = ap (λ ps. entry_view e ∷ ps) (go j refl (p ∙ ap Some (omega arith)))
 
 -- Where the entry of a key goes, its key goes.
@@ -32,7 +32,7 @@ view_without i q (e ∷ es) j p = remove_step i q e es (same_text e.key q) refl 
 pub without_none : (i : ℕ) (q : List ℕ) (ps : List (List ℕ × Data)) → place_from i q (keys ps) ≡ None → without_key q ps ≡ ps
 without_none i q [] e = refl
 without_none i q (p ∷ ps) e =
-    let parts = none_step i p.1 (place_from (i + 1) q (keys ps)) (same_text p.0 q) e in
+    let parts = none_first i (place_from (i + 1) q (keys ps)) (same_text p.0 q) e in
     cond-false (same_text p.0 q) ps (p ∷ without_key q ps) parts.0 ∙ ap (λ xs. p ∷ xs) (without_none (i + 1) q ps parts.1)
 
 lacks_without : (key q : List ℕ) (ps : List (List ℕ × Data)) → LacksKey key ps → LacksKey key (without_key q ps)

@@ -7,10 +7,10 @@ use Rattle.prop_values.specs.Equality.{same_text}
 use Rattle.prop_values.specs.Keys.{keys}
 use Rattle.prop_values.specs.MergeSteps.{replaced}
 use Rattle.key_index.specs.Keys.{place_from}
+use Rattle.key_index.proofs.Keys.{none_first, not_below}
 use Rattle.prop_values.specs.View.{data_of, entry_view, entries_view}
 use Rattle.prop_values.specs.declared.value.Entry.{Entry}
 use Rattle.prop_values.specs.declared.value.Value.{Value}
-use Rattle.prop_values.proofs.IndexSteps.{none_step, before}
 
 -- the entry at a place with another value
 abbrev pub revalued : List Entry → ℕ → Value → Entry → List Entry
@@ -19,7 +19,7 @@ revalued es j v d = set es j (record (get_or es j d) { value = v })
 replace_step : (i : ℕ) (q : List ℕ) (v : Value) (d e : Entry) (es : List Entry) (same : Bool) → same_text e.key q ≡ same → (j : ℕ) → (if same then Some i else place_from (i + 1) q (keys (entries_view es))) ≡ Some (i + j) → ((k : ℕ) → j ≡ suc k → place_from (i + 1) q (keys (entries_view es)) ≡ Some (i + 1 + k) → entries_view (revalued es k v d) ≡ replaced q (data_of v) (entries_view es)) → entries_view (revalued (e ∷ es) j v d) ≡ (if same then (e.key, data_of v) ∷ entries_view es else entry_view e ∷ replaced q (data_of v) (entries_view es))
 replace_step i q v d e es true f zero p go = refl
 replace_step i q v d e es true f (suc j) p go = absurd (let n : i ≡ i + suc j = cc in omega arith)
-replace_step i q v d e es false f zero p go = absurd (before i q (entries_view es) (p ∙ ap Some (omega arith)))
+replace_step i q v d e es false f zero p go = absurd (not_below (i + 1) i q (keys (entries_view es)) (omega arith) (p ∙ ap Some (omega arith)))
 replace_step i q v d e es false f (suc j) p go = ap (λ ps. entry_view e ∷ ps) (go j refl (p ∙ ap Some (omega arith)))
 
 -- Where a key is at a place, a new value there is the new data at the key.
@@ -31,7 +31,7 @@ view_replaced i q (e ∷ es) v d j p = replace_step i q v d e es (same_text e.ke
 pub replaced_none : (i : ℕ) (q : List ℕ) (d : Data) (ps : List (List ℕ × Data)) → place_from i q (keys ps) ≡ None → replaced q d ps ≡ ps
 replaced_none i q d [] e = refl
 replaced_none i q d (p ∷ ps) e =
-    let parts = none_step i p.1 (place_from (i + 1) q (keys ps)) (same_text p.0 q) e in
+    let parts = none_first i (place_from (i + 1) q (keys ps)) (same_text p.0 q) e in
     cond-false (same_text p.0 q) ((p.0, d) ∷ ps) (p ∷ replaced q d ps) parts.0 ∙ ap (λ xs. p ∷ xs) (replaced_none (i + 1) q d ps parts.1)
 
 pub keys_replaced : (q : List ℕ) (d : Data) (ps : List (List ℕ × Data)) → keys (replaced q d ps) ≡ keys ps
