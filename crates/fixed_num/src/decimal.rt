@@ -2,10 +2,9 @@ ghost use Rattle.std.specs.Prelude.{◌≡◌, ◌≤◌, ◌++◌, IsTrue};
 ghost use Rattle.std.specs.Char.{is_ascii_digit};
 ghost use Rattle.std.specs.List.{list_all};
 ghost use Rattle.fixed_num.specs.Decimal.{value_of, in_range, read_exponent_digits, read_exponent_sign, read_exponent, read_fraction_digits, read_fraction, read_whole, read_text};
-ghost use Rattle.fixed_num.specs.Saturation.{past};
 
 use crate::digits::{are_digits, begins_with, magnitude, split_digits};
-use crate::fixed::Fixed;
+use crate::fixed::{Fixed, signed};
 
 /// Why bytes are no number.
 #[derive(Clone, Copy, Debug, PartialEq, Eq)]
@@ -135,14 +134,15 @@ fn number(
     requires { IsTrue (list_all is_ascii_digit (whole.now ++ fraction.now)) }
     ensures { result ≡ value_of negative whole.now fraction.now is_down exponent.now }
 {
-    signed(negative, magnitude(whole, fraction, is_down, exponent))
+    in_range(negative, magnitude(whole, fraction, is_down, exponent))
 }
 
-// The number of this sign and magnitude.
-fn signed(negative: bool, magnitude: u128) -> Result<Fixed, NumFault>
-    requires { magnitude ≤ past }
+// The number of this sign and magnitude, which has to be within the bound.
+fn in_range(negative: bool, magnitude: u128) -> Result<Fixed, NumFault>
     ensures { result ≡ in_range negative magnitude }
 {
-    let value = magnitude as i128;
-    Fixed::from_millionths(if negative { -value } else { value }).ok_or(NumFault::Range)
+    match signed(negative, magnitude) {
+        Ok(number) => Ok(number),
+        Err(_) => Err(NumFault::Range),
+    }
 }

@@ -40,8 +40,8 @@ pub(crate) const ONE: u128 = 1_000_000;
 // The same, signed.
 const UNIT: i128 = 1_000_000;
 
-// The number of this sign and magnitude.
-fn signed(negative: bool, magnitude: u128) -> Result<Fixed, Arith>
+/// The number of this sign and magnitude, which has to be within the bound.
+pub(crate) fn signed(negative: bool, magnitude: u128) -> Result<Fixed, Arith>
     ensures { result ≡ bounded (if negative then neg_ℤ (pos magnitude) else pos magnitude) }
 {
     if magnitude > BOUND {
