@@ -1,3 +1,4 @@
 mod ColorTexts
 mod JsonTrees
+pub mod Options
 mod SectionTrees

@@ -113,3 +113,8 @@ AreFonts None = Unit {0}
 pub record SaysSections (bytes : List ℕ) (said : Option (List Section)) : Type 0 where
   pub fonts : AreFonts said
   pub only : (ss : List Section) → AreSections ss → bytes ≡ sections_text ss → said ≡ Some ss
+
+-- an option of a section as an entry, where it is given
+abbrev pub option_entry : List ℕ → Option Data → List (List ℕ × Data)
+option_entry key (Some d) = (key, d) ∷ []
+option_entry key None = []
