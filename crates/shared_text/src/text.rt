@@ -110,6 +110,14 @@ impl Text {
             )
         }
     }
+
+    /// The bytes of its document from the text's first one on: the text, and what follows it there. So the
+    /// bytes of a short text can be taken a block at a time.
+    pub fn onward(&self) -> &[u8]
+        ensures { take (length self.now) result.now ≡ self.now }
+    {
+        &self.document.as_slice()[self.from as usize..]
+    }
 }
 
 impl PartialEq for Text {
