@@ -166,7 +166,7 @@ fn read_pairs(alloc: Global, cursor: &mut Cursor<'_>, depth: usize) -> Result<Me
     ensures gives { Gives (SpellsMembersOn depth []) fields_of cursor.old result cursor.new }
     ensures shorter { length cursor.new ≤ length cursor.old }
 {
-    let mut members = Members::new(alloc);
+    let mut members = Members::with_room(alloc)?;
     loop {
         let member = match read_pair(alloc, cursor, depth, &members) {
             Ok(member) => member,
