@@ -5,7 +5,7 @@ ghost use Rattle.prop_values.specs.ColorText.{color_text};
 ghost use Rattle.prop_values.specs.ValueText.{listed_text};
 ghost use Rattle.prop_values.specs.View.{data_of};
 ghost use Rattle.listing_text.specs.Listing.{zoom_line, end_line, show_mark, layer_line, outcome_text, value_line, shape_name, feature_line};
-ghost use Rattle.listing_text.specs.Parts.{parts_text};
+ghost use Rattle.listing_text.specs.Parts.{parts_text, number_line};
 
 use crate::show::Show;
 use decimal_json::write_text;
@@ -108,9 +108,27 @@ pub fn write_value(
     ensures ok { OnOk result (out.new.items ≡ out.old.items ++ value_line margin.now name.now outcome.now) }
     ensures err { OnErr result (AppendsPrefix out.old.items out.new.items (value_line margin.now name.now outcome.now)) }
 {
+    if let Outcome::Given(Value::Num(number)) = outcome {
+        return write_number_line(margin, name, *number, out);
+    }
     write_parts(&[margin, name.as_bytes(), b" "], out)?;
     write_outcome(outcome, out)?;
     write_parts(&[b"\n"], out)
+}
+
+// Appends the line of a number, of which features have millions, at once.
+fn write_number_line(
+    margin: &'static [u8],
+    name: &str,
+    number: Fixed,
+    out: &mut Vec<u8>,
+) -> Result<(), AllocError>
+    ensures ok { OnOk result (out.new.items ≡ out.old.items ++ number_line margin.now name.now number) }
+    ensures err { OnErr result (AppendsPrefix out.old.items out.new.items (number_line margin.now name.now number)) }
+{
+    let mut digits = [0; 48];
+    let number = number_bytes(number, &mut digits);
+    write_parts(&[margin, name.as_bytes(), b" ", number, b"\n"], out)
 }
 
 fn write_outcome(outcome: &Outcome, out: &mut Vec<u8>) -> Result<(), AllocError>
