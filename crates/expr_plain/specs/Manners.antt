@@ -1,9 +1,10 @@
 -- What the rule of an operator makes of its arguments, part by part.
-use Rattle.std.specs.Prelude.{List, length, Option, None, Err}
-use Rattle.prop_values.specs.Data.{Data}
+use Rattle.std.specs.Prelude.{List, length, Bool, true, false, Option, None, Err}
+use Rattle.prop_values.specs.Data.{Data, boolean, number, text}
 use Rattle.prop_values.specs.declared.fault.EvalFault.TheVariants.{WrongType}
 use Rattle.property_tables.specs.Fitting.{fit}
 use Rattle.expr_syntax.specs.declared.expression.Operator.{Operator}
+use Rattle.expr_syntax.specs.declared.expression.Operator.TheVariants.{Boolean, Number, String}
 use Rattle.operator_values.specs.Evaluated.{Evaluated, then_value}
 use Rattle.eval_face.specs.World.{World}
 use Rattle.eval_face.specs.Decisions.{first_of}
@@ -22,6 +23,13 @@ decided_by _ d = None
 abbrev pub undecided_by : Rule → Evaluated
 undecided_by (deciding decides none) = none
 undecided_by _ = Err WrongType
+
+-- whether an operator asserts the form that a value has, so that it gives the value as it is
+abbrev pub asserts : Operator → Data → Bool
+asserts Boolean (boolean b) = true
+asserts Number (number z) = true
+asserts String (text s) = true
+asserts _ _ = false
 
 -- a node whose operator evaluates all its arguments
 abbrev pub each_of : Operator → List Meaning → Meaning

@@ -37,6 +37,17 @@ pub(crate) fn fitted(alloc: Global, value: Value, want: &Want) -> Result<Value, 
     Ok(fit(alloc, value, want)??)
 }
 
+/// A copy of a value, fitted to a want. A number, of which features have millions, is made anew: that takes less than to move a
+/// value through the forms of an answer.
+pub(crate) fn fitted_copy(alloc: Global, value: &Value, want: &Want) -> Result<Value, Halt>
+    ensures { Gives result (fit want.now (data_of value.now)) }
+{
+    match (want, value) {
+        (Want::Any | Want::Number, Value::Num(number)) => Ok(Value::Num(*number)),
+        _ => fitted(alloc, copy(value)?, want),
+    }
+}
+
 // Whether it is seen at once that a value is as it is wanted. Most are, and need not be moved through the forms of an answer.
 fn is_fitted(value: &Value, want: &Want) -> bool
     ensures { result ≡ true → fit want.now (data_of value.now) ≡ Ok (data_of value.now) }

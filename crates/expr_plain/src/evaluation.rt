@@ -12,9 +12,10 @@ ghost use Rattle.expr_plain.specs.Manners.{each_of, decision_of};
 ghost use Rattle.expr_plain.specs.Frames.{in_scope, IsEntered, HoldPromises};
 ghost use Rattle.expr_plain.specs.Stack.{IsBelow, added};
 
-use crate::applying::{decided, fitted, node_value, undecided, value_above};
+use crate::applying::{decided, fitted, fitted_copy, node_value, undecided, value_above};
 use crate::bindings::{evaluate_let, evaluate_var};
 use crate::branches::{evaluate_case, evaluate_match, evaluate_ramp, evaluate_step};
+use crate::lending::{lent_decision, lent_property};
 use crate::rule::{Rule, rule_of};
 use crate::scope::{Scope, Slot};
 use crate::sequences::{as_sequence, is_sequence};
@@ -23,7 +24,7 @@ use eval_face::Context;
 use expr_syntax::{Expr, Operator};
 use host_ops::HostOp;
 use operator_values::Halt;
-use prop_values::{EvalFault, Value, Want, copy};
+use prop_values::{EvalFault, Value, Want};
 use std::alloc::{AllocError, Global};
 
 /// The value that an expression has under a want, or its first fault (MapLibre style specification, version 8, expressions). The
@@ -81,7 +82,7 @@ pub(crate) fn evaluate<'x, W: Surroundings>(
     ensures stands { IfOk result (λ _. values.new.items ≡ values.old.items) }
 {
     match expression {
-        Expr::Literal(value) => fitted(alloc, copy(value)?, want),
+        Expr::Literal(value) => fitted_copy(alloc, value, want),
         Expr::Node(op, arguments) => evaluate_node(
             alloc,
             op,
@@ -114,11 +115,17 @@ fn evaluate_node<'x, W: Surroundings>(
     ensures kept { IfOk result (λ _. HoldPromises stack.now (W.world world.now) slots.new.items) }
     ensures stands { IfOk result (λ _. values.new.items ≡ values.old.items) }
 {
+    if let Some(value) = lent_property(op, arguments, world) {
+        return fitted_copy(alloc, value, want);
+    }
     match rule_of(op) {
         Rule::Each => evaluate_each(
             alloc, op, arguments, want, scope, stack, world, slots, values,
         ),
         Rule::Deciding => {
+            if let Some(value) = lent_decision(op, arguments, world) {
+                return fitted_copy(alloc, value, want);
+            }
             let value = evaluate_first(
                 alloc, op, arguments, want, scope, stack, world, slots, values,
             )?;

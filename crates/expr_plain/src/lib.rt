@@ -14,8 +14,9 @@
 //!
 //! Arguments are evaluated from left to right, each fitted to its want at once, and the first fault ends the evaluation. `case` evaluates
 //! one output alone, and `number` nothing after the first number. A `match` finds its output in logarithmic time. A binding of a `let`
-//! is evaluated when a `var` first asks for it, and never again. Values are shared and not copied. An operator of one or two arguments
-//! takes no memory for them, and the values of more stand on one stack. The recursion is as deep as the expression.
+//! is evaluated when a `var` first asks for it, and never again. Values are shared and not copied. A property of a literal key is looked
+//! at where it is, also as the first argument of a `number`, `string` or `boolean`. An operator of one or two arguments takes no memory
+//! for them, and the values of more stand on one stack. The recursion is as deep as the expression.
 //!
 //! A new operator has its row in `expr_syntax` and its rule in `eval_face`. One that evaluates all its arguments has its line in
 //! `applied`, and one that stops at the argument that decides has its line in `decided` and in `undecided`. One whose parts decide has
@@ -28,6 +29,7 @@ mod applying;
 mod bindings;
 mod branches;
 mod evaluation;
+mod lending;
 mod lookups;
 mod outcome;
 mod rule;
