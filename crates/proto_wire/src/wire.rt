@@ -18,7 +18,7 @@ pub enum WireKind {
 ///
 /// The fault is `Varint` where the tenth byte has the high bit or the number passes 64 bits, and `Truncated` where
 /// `bytes` end first. It leaves `bytes` as they were.
-#[inline]
+#[inline(always)]
 pub fn varint(bytes: &mut &[u8]) -> Result<u64, WireKind>
     ensures ok { IfOk result (λ number. varint_at bytes.old.now ≡ Ok (number, bytes.new.now)) }
     ensures taken { OnOk result (length bytes.new.now < length bytes.old.now) }

@@ -7,6 +7,7 @@ use crate::fault::{TileFault, TileKind};
 use proto_wire::{Field, Fields, Wire};
 
 /// The next field, or `None` at the end of the message.
+#[inline(always)]
 pub(crate) fn next_field<'a>(fields: &mut Fields<'a>) -> Result<Option<Field<'a>>, TileFault>
     requires { fields.old.failed ≡ false }
     ensures front { TakesFront fields.old result fields.new }
