@@ -29,6 +29,7 @@ mod editing;
 mod fault;
 mod laws;
 mod paths;
+mod plain;
 mod reading;
 mod texts;
 mod tokens;

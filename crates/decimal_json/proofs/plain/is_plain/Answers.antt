@@ -1,6 +1,6 @@
 use Rattle.std.proofs.Common.{◌-◌, length, sym, ◌∙◌, arith}
 use Rattle.decimal_json.proofs.Appending.{unescaped_overlap}
-use Rattle.decimal_json.proofs.writing.is_plain.Goals as goal
+use Rattle.decimal_json.proofs.plain.is_plain.Goals as goal
 
 pub returns-then-count-unescaped_blocks-lt-BLOCK : goal.returns-then-count-unescaped_blocks-lt-BLOCK
 returns-then-count-unescaped_blocks-lt-BLOCK c =
