@@ -2,7 +2,8 @@
 //!
 //! `parse` reads a whole byte string, `write` appends the text of a tree, and a `Path` names a place in
 //! a tree. Nothing here turns a number into an amount: a `NumText` is the text as it stands. `parse` copies the
-//! bytes once; texts without escapes and numbers are ranges of that copy, which a tree keeps whole.
+//! bytes once, and `parse_owned` takes them over; texts without escapes and numbers are ranges of these bytes, which
+//! a tree keeps whole.
 //!
 //! ```text
 //! match parse(alloc, b"[\"+\", 0.1, 1.50]")? {
@@ -11,7 +12,7 @@
 //! }
 //! ```
 //!
-//! What is promised: `parse` gives a tree exactly where the bytes spell it by the grammar of
+//! What is promised: `parse` and `parse_owned` give a tree exactly where the bytes spell it by the grammar of
 //! `specs/Grammar.antt`, which is RFC 8259 with five rules of `json_tokens`, and no byte string spells two
 //! trees. Where they spell none, the fault's place is the length of the longest front that begins an
 //! accepted text, and its kind the one rule that, dropped alone, lets that front and the next byte begin
@@ -41,7 +42,7 @@ pub use fault::JsonFault;
 pub use json_tokens::JsonKind;
 pub use laws::{spells_one_tree, texts_have_one_fault, written_trees_are_spelled};
 pub use paths::{Here, Path, PathPart, path_to};
-pub use reading::parse;
+pub use reading::{parse, parse_owned};
 pub use shared_text::Text;
 pub use texts::{Bytes, NumText};
 pub use tree::{Items, Json, Member, Members};

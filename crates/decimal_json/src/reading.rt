@@ -24,12 +24,27 @@ pub fn parse(alloc: Global, bytes: &[u8]) -> Result<Result<Json, JsonFault>, All
     ensures { IfOk result (Parses bytes.now) }
 {
     let document = Document::copy_of(alloc, bytes)?;
-    let mut cursor = Cursor::new(&document);
+    read_document(alloc, &document)
+}
+
+/// The same of bytes that the tree takes over, as those of a file: they are not copied.
+pub fn parse_owned(alloc: Global, bytes: Vec<u8>) -> Result<Result<Json, JsonFault>, AllocError>
+    ensures { IfOk result (Parses bytes.items) }
+{
+    let document = Document::of(bytes)?;
+    read_document(alloc, &document)
+}
+
+// The tree that a document spells, or the fault.
+fn read_document(alloc: Global, document: &Document) -> Result<Result<Json, JsonFault>, AllocError>
+    ensures { IfOk result (Parses document.now) }
+{
+    let mut cursor = Cursor::new(document);
     match read_whole(alloc, &mut cursor) {
         Ok(json) => Ok(Ok(json)),
         Err(Halt::Fault(kind)) => Ok(Err(JsonFault {
             kind,
-            at: bytes.len() - cursor.rest().len(),
+            at: document.as_slice().len() - cursor.rest().len(),
         })),
         Err(Halt::NoMemory) => Err(AllocError),
     }

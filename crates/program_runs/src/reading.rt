@@ -1,6 +1,7 @@
 //! Parts of runs that read something, and hand it on or halt the run.
 
 ghost use Rattle.std.specs.Prelude.{◌≡◌, ℕ, List, Option, OnOk, IfOk, IfErr};
+ghost use Rattle.decimal_json.specs.Parses.{Parses};
 ghost use Rattle.decimal_json.specs.View.{tree_of};
 ghost use Rattle.program_runs.specs.Parts.{json_part};
 ghost use Rattle.program_runs.specs.FailedReads.{NoneFailed};
@@ -12,7 +13,7 @@ ghost use Rattle.program_runs.specs.Subjects.{subject_text, subject_number};
 use crate::halt::Halt;
 use crate::refusals::{no_json, too_long};
 use crate::subject::Subject;
-use decimal_json::{Json, parse};
+use decimal_json::{Json, JsonFault, parse, parse_owned};
 use outside_io::{Files, ReadAnswer};
 use std::alloc::Global;
 
@@ -46,10 +47,7 @@ pub fn parse_json<'a>(alloc: Global, what: &Subject<'_>, bytes: &[u8]) -> Result
     ensures halt { (files : List ℕ → Option (List ℕ)) (count : ℕ) (failed : Option (List ℕ)) →
         IfErr result (λ halt. Halts files (parses (subject_text what.now) bytes.now) count count failed failed halt) }
 {
-    match parse(alloc, bytes)? {
-        Ok(json) => Ok(json),
-        Err(fault) => Err(Halt::Refused(no_json(alloc, what, fault)?)),
-    }
+    json_or_refusal(alloc, what, parse(alloc, bytes)?)
 }
 
 /// The JSON text in a file of at most so many bytes.
@@ -67,5 +65,22 @@ pub fn read_json<'a, F: Files>(
         (F.faults files.old) (F.faults files.new) (F.failed files.old) (F.failed files.new) halt) }
 {
     let bytes = read_file(alloc, what, name, at_most, files)?;
-    parse_json(alloc, what, bytes.as_slice())
+    json_or_refusal(alloc, what, parse_owned(alloc, bytes)?)
+}
+
+// The JSON text that bytes were parsed as, or its refusal.
+fn json_or_refusal<'a>(
+    alloc: Global,
+    what: &Subject<'_>,
+    parsed: Result<Json, JsonFault>,
+) -> Result<Json, Halt<'a>>
+    ensures on { (files : List ℕ → Option (List ℕ)) (bytes : List ℕ) → Parses bytes parsed →
+        IfOk result (λ json. GoesOn files (parses (subject_text what.now) bytes) (tree_of json)) }
+    ensures halt { (files : List ℕ → Option (List ℕ)) (bytes : List ℕ) (count : ℕ) (failed : Option (List ℕ)) → Parses bytes parsed →
+        IfErr result (λ halt. Halts files (parses (subject_text what.now) bytes) count count failed failed halt) }
+{
+    match parsed {
+        Ok(json) => Ok(json),
+        Err(fault) => Err(Halt::Refused(no_json(alloc, what, fault)?)),
+    }
 }

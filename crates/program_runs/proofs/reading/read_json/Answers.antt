@@ -11,12 +11,12 @@ use Rattle.program_runs.proofs.reading.read_json.Goals as goal
 pub returns-clause-on : goal.returns-clause-on
 returns-clause-on g c =
     let files = g.F.Files.told c.args.files.now in let what = subject_text c.args.what.now in let which = subject_number c.args.what.now in
-    goes_both files (reads (too_long what which) c.args.name.now c.args.at_most) (parses what) c.in_ok-bytes.bytes.items c.as_slice.result.now c.in_ok-bytes.ensures.on c.as_slice.ensures.value files refl tree_of c.parse_json.result (c.parse_json.ensures.on files)
+    goes_both files (reads (too_long what which) c.args.name.now c.args.at_most) (parses what) c.in_ok-bytes.bytes.items c.in_ok-bytes.bytes.items c.in_ok-bytes.ensures.on refl files refl tree_of c.json_or_refusal.result (c.json_or_refusal.ensures.on files _ c.in_ok-parse_owned.ensures)
 
 pub returns-clause-halt : goal.returns-clause-halt
 returns-clause-halt g c =
     let files = g.F.Files.told c.args.files.now in let what = subject_text c.args.what.now in let which = subject_number c.args.what.now in
-    halts_second files (reads (too_long what which) c.args.name.now c.args.at_most) (parses what) c.in_ok-bytes.bytes.items c.as_slice.result.now c.in_ok-bytes.ensures.on c.as_slice.ensures.value files refl _ _ _ _ _ _ c.parse_json.result c.in_ok-bytes.ensures.failed (c.parse_json.ensures.halt files _ _)
+    halts_second files (reads (too_long what which) c.args.name.now c.args.at_most) (parses what) c.in_ok-bytes.bytes.items c.in_ok-bytes.bytes.items c.in_ok-bytes.ensures.on refl files refl _ _ _ _ _ _ c.json_or_refusal.result c.in_ok-bytes.ensures.failed (c.json_or_refusal.ensures.halt files _ _ _ c.in_ok-parse_owned.ensures)
 
 pub returns-in_err-bytes-clause-halt : goal.returns-in_err-bytes-clause-halt
 returns-in_err-bytes-clause-halt g c =
