@@ -13,9 +13,10 @@ use Rattle.legacy_filters.specs.declared.filter.Part.{Part, the_lemmas}
 use Rattle.legacy_filters.specs.declared.filter.Part.TheVariants.{Group as GroupOf}
 use Rattle.std.specs.declared.alloc.Global.{Global}
 use Rattle.legacy_filters.specs.declared.filter.FilterFault.{FilterFault}
+use Rattle.legacy_filters.specs.declared.filter.Key.{Key}
 use Rattle.legacy_filters.specs.declared.scalars.Scalar.{Scalar}
 use Rattle.legacy_filters.specs.Filter.{Filter, group, Filters, no_filters, filter, filters_of}
-use Rattle.legacy_filters.specs.Form.{and_filter, and_scalar, form, forms, parts_form, grouped, group_form, ill_formed}
+use Rattle.legacy_filters.specs.Form.{and_filter, and_scalar, form, forms, parts_form, grouped, group_form, ill_formed, scalar_form, scalars_form}
 use Rattle.legacy_filters.specs.View.{part_filter}
 
 -- filters, and then others
@@ -97,3 +98,17 @@ after_scalars vs None = None
 pub after_scalar : (vs : List Scalar) (v : Scalar) (later : Option (List Scalar)) → after_scalars (vs ++ v ∷ []) later ≡ after_scalars vs (and_scalar (Some v) later)
 after_scalar vs v (Some ws) = ap Some (append_assoc vs (v ∷ []) ws)
 after_scalar vs v None = refl
+
+-- a turn of the loop over the values of a test
+pub scalar_kept : (key : Key) (es : List Json) (i : ℕ) (e : Json) (vs ws : List Scalar) (v : Scalar) (total : Option (List Scalar))
+    → i < length es → e ≡ get_or es i e → ws ≡ vs ++ v ∷ [] → Some v ≡ scalar_form key (tree_of e)
+    → after_scalars vs (scalars_form key (trees (drop i es))) ≡ total
+    → after_scalars ws (scalars_form key (trees (drop (i + 1) es))) ≡ total
+scalar_kept key es i e vs ws v total within is pushed read kept =
+    let later = scalars_form key (trees (drop (i + 1) es)) in
+    ap (λ xs. after_scalars xs later) pushed
+    ∙ (after_scalar vs v later
+    ∙ (ap (λ r. after_scalars vs (and_scalar r later)) read
+    ∙ (ap (λ n. after_scalars vs (and_scalar (scalar_form key (tree_of e)) (scalars_form key (trees (drop n es))))) (add-one i)
+    ∙ (ap (λ ts. after_scalars vs (scalars_form key ts)) (sym (elements_from es i e within is))
+    ∙ kept))))

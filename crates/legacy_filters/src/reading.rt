@@ -241,7 +241,6 @@ fn scalars_form(alloc: Global, key: &Key, elements: &[Json]) -> Result<Option<Sc
     }
 }
 
-#[tactic(auto, using(crate::proofs::PartLists::after_scalar))]
 fn read_scalars(
     alloc: Global,
     key: &Key,
