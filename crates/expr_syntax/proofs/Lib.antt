@@ -1,6 +1,7 @@
 pub mod NameLaws
 pub mod ElementLaws
 pub mod InputLaws
+pub mod BindingLaws
 pub mod LabelLaws
 pub mod OperatorLaws
 pub mod PartLaws

@@ -1,5 +1,5 @@
 -- An index of names, one name after another.
-use Rattle.std.proofs.Common.{◌≡◌, ◌<◌, ◌≤◌, ◌+◌, List, [], ◌∷◌, ℕ, suc, length, get_or, drop, drop-cons, add-one, refl, ap, sym, subst, ◌∙◌, true, false, arith}
+use Rattle.std.proofs.Common.{◌≡◌, ◌<◌, ◌+◌, List, [], ◌∷◌, ℕ, suc, length, get_or, drop, drop-cons, add-one, refl, ap, sym, subst, ◌∙◌, true, false, arith}
 use Rattle.std.specs.Prelude.{Bool, ◌||◌, Option, Some, None, IfSome, is_some, if◌then◌else◌}
 use Rattle.std.specs.Str.{bytes_eq}
 use Rattle.expr_syntax.specs.BoundNames.{is_among, or_last, last_place}

@@ -220,7 +220,6 @@ impl Name {
 
 /// The name that a text is, or `None` exactly where it is the name of no operator. Compares the text with one
 /// name alone.
-#[tactic(auto, using(crate::proofs::NameLaws::name_found, crate::proofs::NameLaws::name_lost))]
 pub fn operator_named(text: &str) -> Option<Name>
     ensures { result ≡ name_of text.now }
 {

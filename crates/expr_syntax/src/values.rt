@@ -284,7 +284,6 @@ fn read_let(alloc: Global, items: &[Json]) -> Result<Result<Operator, SynCode>, 
     }
 }
 
-#[tactic(auto, using(crate::proofs::InputLaws::after_name))]
 fn binding_names(alloc: Global, items: &[Json]) -> Result<Option<Names>, AllocError>
     ensures { IfOk result (λ names. names ≡ names_among (length items.now) (trees items.now)) }
 {

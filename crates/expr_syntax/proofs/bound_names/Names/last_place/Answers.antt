@@ -1,5 +1,4 @@
-use Rattle.std.proofs.Common.{◌∙◌, sym, ap, rules}
-use Rattle.expr_syntax.specs.BoundNames.{last_place}
+use Rattle.std.proofs.Common.{rules}
 use Rattle.expr_syntax.proofs.NameIndexLaws.{last_within}
 use Rattle.expr_syntax.proofs.bound_names.Names.last_place.Goals as goal
 
