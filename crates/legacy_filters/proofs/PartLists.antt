@@ -90,6 +90,20 @@ group_read g es i count path ps within done kept =
     ∙ (ap (grouped g) kept
     ∙ ap (λ b. if b then grouped g whole else ill_formed path) (sym (lt-ltb count 24 within))))
 
+-- the loop has met a part that is no filter
+pub group_refused : (g : Group) (es : List Json) (i count : ℕ) (path : List PathPart) (e : Json) (ps : List Part) (fault : FilterFault)
+    → count < 24 → i < length es → e ≡ get_or es i e
+    → Err fault ≡ form (tree_of e) (count + 1) (path ++ Index (i + 1) ∷ [])
+    → after_filters (map part_filter ps) (parts_form (i + 1) (forms (trees (drop i es))) (count + 1) path) ≡ parts_form 1 (forms (trees es)) (count + 1) path
+    → Err fault ≡ group_form g (forms (trees es)) count path
+group_refused g es i count path e ps fault within before is refused kept =
+    let whole = parts_form 1 (forms (trees es)) (count + 1) path in
+    let later = parts_form (i + 1 + 1) (forms (trees (drop (suc i) es))) (count + 1) path in
+    ap (λ r. grouped g (after_filters (map part_filter ps) (and_filter r later))) refused
+    ∙ (ap (λ ts. grouped g (after_filters (map part_filter ps) (parts_form (i + 1) (forms ts) (count + 1) path))) (sym (elements_from es i e before is))
+    ∙ (ap (grouped g) kept
+    ∙ ap (λ b. if b then grouped g whole else ill_formed path) (sym (lt-ltb count 24 within))))
+
 -- the values so far, and then those to come
 abbrev pub after_scalars : List Scalar → Option (List Scalar) → Option (List Scalar)
 after_scalars vs (Some ws) = Some (vs ++ ws)
