@@ -1,9 +1,9 @@
-ghost use Rattle.std.specs.Prelude.{◌≡◌, ◌↔◌, ◌≤◌, [], ◌∷◌, ◌++◌, ℕ, List, length, take, drop, IsTrue, Some, None, IfSome, IfOk, IsUtf8};
+ghost use Rattle.std.specs.Prelude.{◌≡◌, ◌≤◌, [], ◌∷◌, ◌++◌, ℕ, List, length, take, drop, Some, None, IfOk, IsUtf8};
 ghost use Rattle.std.specs.Bool.{OnTrue, OnFalse};
-ghost use Rattle.json_tokens.specs.Runs.{first_of, Stops};
-ghost use Rattle.json_tokens.specs.Sequence.{is_space, IsSkipped};
-ghost use Rattle.std.specs.List.{list_all};
+ghost use Rattle.json_tokens.specs.Runs.{first_of};
+ghost use Rattle.json_tokens.specs.Sequence.{IsSkipped};
 
+use crate::runs::{Spaces, run_length};
 use shared_text::{Document, Text};
 use std::alloc::AllocError;
 use std::marker::Model;
@@ -49,6 +49,7 @@ impl<'a> Cursor<'a> {
     }
 
     /// The next bytes as a text. No byte is copied.
+    #[inline(always)]
     pub fn text(&self, count: usize) -> Result<Text, AllocError>
         requires within { count ≤ length self.now }
         requires utf8 { IsUtf8 (take count self.now) }
@@ -91,12 +92,13 @@ impl<'a> Cursor<'a> {
     }
 
     /// Passes the white space that stands here.
+    #[inline(always)]
     pub fn skip_spaces(&mut self)
         ensures skipped { IsSkipped self.old self.new }
         ensures shorter { length self.new ≤ length self.old }
     {
         if may_be_space(self.rest) {
-            self.take_front(spaces_length(self.rest));
+            self.take_front(run_length::<Spaces>(self.rest));
         }
     }
 
@@ -122,17 +124,4 @@ fn may_be_space(bytes: &[u8]) -> bool
         [first, ..] => *first <= b' ',
         [] => false,
     }
-}
-
-fn spaces_length(bytes: &[u8]) -> usize
-    ensures bound { result ≤ length bytes.now }
-    ensures within { IsTrue (list_all is_space (take result bytes.now)) }
-    ensures stops { Stops is_space (drop result bytes.now) }
-{
-    for (i, byte) in bytes.iter().enumerate() {
-        if !matches!(*byte, b' ' | b'\t' | b'\n' | b'\r') {
-            return i;
-        }
-    }
-    bytes.len()
 }

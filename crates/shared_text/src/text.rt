@@ -64,6 +64,7 @@ impl Text {
     }
 
     /// The bytes of a document from one place to another. No byte is copied.
+    #[inline(always)]
     pub fn of_range(document: &Document, from: usize, to: usize) -> Result<Text, AllocError>
         requires order { from ≤ to }
         requires within { to ≤ length document.now }
@@ -78,6 +79,7 @@ impl Text {
     }
 
     /// The first bytes of what is left of a document. No byte is copied.
+    #[inline(always)]
     #[tactic(auto, using(crate::proofs::Rests::part_of_rest, crate::proofs::Rests::rest_is_short))]
     pub fn of_rest(document: &Document, rest: &[u8], count: usize) -> Result<Text, AllocError>
         requires left { IsRest rest.now document.now }

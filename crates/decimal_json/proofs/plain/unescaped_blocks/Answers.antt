@@ -2,7 +2,7 @@ use Rattle.std.proofs.Common.{◌≡◌, ◌+◌, ◌-◌, take, drop, ◌∙◌
 use Rattle.std.specs.Prelude.{IsTrue}
 use Rattle.std.specs.List.{list_all}
 use Rattle.json_tokens.specs.TextToken.{is_unescaped}
-use Rattle.json_texts.proofs.Blocks.{block_more}
+use Rattle.decimal_json.proofs.Blocks.{block_more}
 use Rattle.decimal_json.proofs.plain.unescaped_blocks.Goals as goal
 
 pub loop-at-preserved : goal.loop-at-preserved
