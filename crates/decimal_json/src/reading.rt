@@ -1,16 +1,16 @@
-ghost use Rattle.std.specs.Prelude.{◌≡◌, ◌≤◌, ◌<◌, IsUtf8, ℕ, [], ◌∷◌, Some, length, IfOk};
-ghost use Rattle.json_tokens.specs.Production.{Gives, GivesSurely};
+ghost use Rattle.std.specs.Prelude.{◌≡◌, ◌≤◌, ◌<◌, IsUtf8, [], Some, length, IfOk};
+ghost use Rattle.json_tokens.specs.Production.{Gives};
 ghost use Rattle.json_tokens.specs.Runs.{first_of};
 ghost use Rattle.json_tokens.specs.Sequence.{BehindByte};
-ghost use Rattle.decimal_json.specs.Grammar.{IsNew, SpellsKey, SpellsValue, SpellsItems, SpellsTail, SpellsMembers, SpellsMore};
+ghost use Rattle.decimal_json.specs.Grammar.{IsNew, SpellsKey, SpellsValue, SpellsItems, SpellsMembers};
 ghost use Rattle.decimal_json.specs.Parses.{Parses};
 ghost use Rattle.decimal_json.specs.Reading.{AreUtf8, GivesTurn, SpellsMembersOn, SpellsNamed, SpellsPair, SpellsSome, GivesWhole, keys_of, pair_of};
-ghost use Rattle.decimal_json.specs.Tree.{no_trees, no_fields, trees_of, fields_of};
+ghost use Rattle.decimal_json.specs.Tree.{trees_of, fields_of};
 ghost use Rattle.decimal_json.specs.View.{tree_of};
 
 use crate::fault::JsonFault;
 use crate::tokens::{read_number, read_string, read_text, read_word};
-use crate::tree::{Items, Json, Member, Members};
+use crate::tree::{EXPRESSION_ROOM, Items, Json, Member, Members, PAIR_ROOM};
 use json_tokens::{Cursor, Halt, JsonKind};
 use shared_text::{Document, Text};
 use std::alloc::{AllocError, Global};
@@ -119,6 +119,15 @@ fn read_items(alloc: Global, cursor: &mut Cursor<'_>, depth: usize) -> Result<It
     read_elements(alloc, cursor, depth)
 }
 
+// How many items an array has room for at first whose first item stands next.
+#[inline(always)]
+fn first_room(cursor: &Cursor<'_>) -> usize {
+    match cursor.peek() {
+        Some(b'"') => EXPRESSION_ROOM,
+        _ => PAIR_ROOM,
+    }
+}
+
 // Reads at least one item, and the bracket that closes the array.
 #[inline(always)]
 #[cycle(read)]
@@ -127,7 +136,7 @@ fn read_elements(alloc: Global, cursor: &mut Cursor<'_>, depth: usize) -> Result
     ensures gives { Gives (SpellsSome depth) trees_of cursor.old result cursor.new }
     ensures shorter { length cursor.new ≤ length cursor.old }
 {
-    let mut items = Items::with_room(alloc)?;
+    let mut items = Items::with_room(alloc, first_room(cursor))?;
     loop {
         let item = match read_value(alloc, cursor, depth) {
             Ok(item) => item,
@@ -263,6 +272,7 @@ fn read_key(alloc: Global, cursor: &mut Cursor<'_>, members: &Members) -> Result
 }
 
 // Reads what stands behind an item or a member: true at the end, false where the next one stands.
+#[inline(always)]
 fn read_turn(cursor: &mut Cursor<'_>, close: u8) -> Result<bool, JsonKind>
     ensures gives { GivesTurn close cursor.old result cursor.new }
     ensures taken { IfOk result (λ _. length cursor.new < length cursor.old) }
