@@ -1,0 +1,11 @@
+-- To be believed.
+pub mod Objects
+pub mod Layer
+pub mod Layers
+pub mod Edited
+pub mod Faults
+pub mod Places
+pub mod Undone
+-- What only contracts and proofs use.
+pub mod ByPlace
+pub mod Taking

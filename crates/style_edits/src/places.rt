@@ -1,0 +1,94 @@
+//! The places of the layers that an edit names.
+
+ghost use Rattle.std.specs.Prelude.{◌≡◌, option_map};
+ghost use Rattle.std.specs.List.{position};
+ghost use Rattle.decimal_json.specs.View.{tree_of};
+ghost use Rattle.edit_script.specs.View.{command_seen};
+ghost use Rattle.style_edits.specs.Places.{layer_place, places_of};
+ghost use Rattle.style_edits.specs.Faults.{named_layer, named_before};
+ghost use Rattle.style_edits.specs.Layers.{is_named, layer_list};
+ghost use Rattle.style_rules.specs.Parts.{then_some};
+
+use crate::document::layers_in;
+use decimal_json::{Json, Text};
+use edit_script::Command;
+
+/// The places of the layers that an edit names, counted from 0: each where it names one that is there.
+#[derive(Clone, Copy, Debug, PartialEq, Eq)]
+pub struct EditPlaces {
+    /// Of the layer that it changes, removes or moves.
+    pub layer: Option<usize>,
+    /// Of the layer before which it puts another.
+    pub before: Option<usize>,
+}
+
+/// The places of the layers that an edit of a document names. Goes through the layers once for each name.
+pub fn edit_places(style: &Json, command: &Command) -> EditPlaces
+    ensures { result ≡ places_of (tree_of style.now) (command_seen command.now) }
+{
+    EditPlaces {
+        layer: place_named(style, layer_named(command)),
+        before: place_named(style, before_named(command)),
+    }
+}
+
+fn layer_named(command: &Command) -> Option<&Text>
+    ensures { option_map (λ id. id.now) result ≡ named_layer (command_seen command.now) }
+{
+    match command {
+        Command::SetPaint(layer, _, _) => Some(layer),
+        Command::SetLayout(layer, _, _) => Some(layer),
+        Command::SetFilter(layer, _) => Some(layer),
+        Command::SetRange(layer, _, _) => Some(layer),
+        Command::RemoveLayer(id) => Some(id),
+        Command::MoveLayer(id, _) => Some(id),
+        _ => None,
+    }
+}
+
+fn before_named(command: &Command) -> Option<&Text>
+    ensures { option_map (λ id. id.now) result ≡ named_before (command_seen command.now) }
+{
+    match command {
+        Command::AddLayer(_, before) => before.as_ref(),
+        Command::MoveLayer(_, before) => before.as_ref(),
+        _ => None,
+    }
+}
+
+fn place_named(style: &Json, name: Option<&Text>) -> Option<usize>
+    ensures { result
+        ≡ then_some (option_map (λ id. id.now) name.entry) (layer_place (layer_list (tree_of style.now))) }
+{
+    match name {
+        Some(id) => layer_place(style, id.as_str()),
+        None => None,
+    }
+}
+
+/// The place of the layer that has this text as its id, counted from 0; of the first where several have it. Goes through
+/// the layers.
+#[tactic(auto, using(crate::proofs::PlaceLaws::place_seen))]
+pub fn layer_place(style: &Json, id: &str) -> Option<usize>
+    ensures { result ≡ layer_place (layer_list (tree_of style.now)) id.now }
+{
+    place_in(layers_in(style), id)
+}
+
+fn place_in(layers: &[Json], id: &str) -> Option<usize>
+    ensures { result ≡ position (λ layer. is_named id.now (tree_of layer)) layers.now }
+{
+    layers.iter().position(|layer| is_named(layer, id))
+}
+
+fn is_named(layer: &Json, id: &str) -> bool
+    ensures { result ≡ is_named id.now (tree_of layer.now) }
+{
+    let Json::Object(members) = layer else {
+        return false;
+    };
+    match members.get("id") {
+        Some(Json::Text(own)) => own.as_str() == id,
+        _ => false,
+    }
+}
