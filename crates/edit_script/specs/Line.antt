@@ -1,5 +1,5 @@
 -- What reading a line answers.
-use Rattle.std.specs.Prelude.{◌≡◌, ℕ, List, Result, Err}
+use Rattle.std.specs.Prelude.{◌≡◌, ℕ, List, Result, Err, ◌⊎◌}
 use Rattle.json_tokens.specs.Rules.{all_rules}
 use Rattle.decimal_json.specs.Grammar.{Spells}
 use Rattle.decimal_json.specs.Parses.{IsAccepted}
@@ -9,7 +9,8 @@ use Rattle.edit_script.specs.declared.command.LineFault.TheVariants.{Json}
 use Rattle.edit_script.specs.Command.{command_of}
 use Rattle.edit_script.specs.Edit.{Edit}
 
--- The answer to the bytes of a line: what the tree gives that they spell, and Json where they spell none. Source: own.
-pub record AnswersLine (line : List ℕ) (read : Result Edit LineFault) : Type 0 where
-  pub tree : (t : Tree) → Spells all_rules line t → read ≡ command_of t
-  pub none : (IsAccepted all_rules line → ⊥) → read ≡ Err Json
+-- The answer to the bytes of a line: what the tree gives that they spell, or Json where they spell none. Source: own.
+abbrev pub AnswersLine : (line : List ℕ) (read : Result Edit LineFault) → Type 0
+AnswersLine line read =
+    ((t : Tree) × Spells all_rules line t × (read ≡ command_of t))
+    ⊎ ((IsAccepted all_rules line → ⊥) × (read ≡ Err Json))

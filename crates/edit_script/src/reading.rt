@@ -15,7 +15,6 @@ use std::alloc::{AllocError, Global};
 
 /// The command that the bytes of a line spell, without a line feed, or the line's fault. Texts and numbers are shared
 /// with a copy of the line.
-#[tactic(auto, using(crate::proofs::LinesRead::spelled))]
 pub fn read_line(alloc: Global, line: &[u8]) -> Result<Result<Command, LineFault>, AllocError>
     ensures { IfOk result (λ read. AnswersLine line.now (read_seen read)) }
 {
