@@ -9,7 +9,7 @@ use Rattle.decimal_json.proofs.OneTree.{one_tree}
 use Rattle.decimal_json.specs.Parses.{IsPlace, IsKind}
 use Rattle.program_runs.specs.Laws.{EachRunHasOneOutcome}
 use Rattle.program_runs.specs.Refusals.{no_json}
-use Rattle.program_runs.specs.Runs.{ends, reads, parses, HasOutcome}
+use Rattle.program_runs.specs.Runs.{ends, reads, parses, may_parse, HasOutcome}
 
 one_refusal : (what text : List ℕ) (kind other : JsonKind) (at place : ℕ) → IsPlace text at → IsKind kind text at → IsPlace text place → IsKind other text place → no_json what kind at ≡ no_json what other place
 one_refusal what text kind other at place at_first first at_second second =
@@ -38,3 +38,8 @@ one_outcome files (parses what bytes after) told o p (inl (s, spells, d)) (inr (
 one_outcome files (parses what bytes after) told o p (inr (kind, at, none, place, cause, d)) (inl (t, also, e)) = absurd (none (t, also))
 one_outcome files (parses what bytes after) told o p (inr (kind, at, none, place, cause, d)) (inr (other, there, neither, also, reason, e)) =
     d ∙ (one_refusal what bytes kind other at there place cause also reason ∙ sym e)
+one_outcome files (may_parse bytes after) told o p (inl (s, spells, d)) (inl (t, also, e)) =
+    one_outcome files (after (Some s)) (told.0 s spells) o p d (subst (λ x. HasOutcome files (after (Some x)) p) (one_tree all_rules bytes t s also spells) e)
+one_outcome files (may_parse bytes after) told o p (inl (s, spells, d)) (inr (none, e)) = absurd (none (s, spells))
+one_outcome files (may_parse bytes after) told o p (inr (none, d)) (inl (t, also, e)) = absurd (none (t, also))
+one_outcome files (may_parse bytes after) told o p (inr (none, d)) (inr (neither, e)) = one_outcome files (after None) (told.1 none) o p d e

@@ -12,6 +12,8 @@ pub enum Subject<'a> {
     /// An expression, which is a word.
     Expression,
     Style,
+    /// The lines of a script.
+    Script,
     /// The tile of this source, and its number among the tiles of the source.
     Tile(&'a str, usize),
 }
@@ -23,6 +25,7 @@ pub fn write_subject(what: &Subject<'_>, line: &mut Vec<u8>) -> Result<(), Alloc
     match what {
         Subject::Expression => line.extend_from_slice(b"expr")?,
         Subject::Style => line.extend_from_slice(b"style")?,
+        Subject::Script => line.extend_from_slice(b"script")?,
         Subject::Tile(source, _) => {
             line.extend_from_slice(b"tile ")?;
             write_text(source, line)?;
