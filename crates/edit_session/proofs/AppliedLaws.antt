@@ -1,0 +1,80 @@
+-- What an edit of layers or of states gives.
+use Rattle.std.proofs.Common.{◌≡◌, ℕ, List, refl, ap, sym, ◌∙◌, Bool, true}
+use Rattle.std.specs.Prelude.{Option, Some, None, option_map, if◌then◌else◌}
+use Rattle.std.specs.Option.{option_or}
+use Rattle.decimal_json.specs.Tree.{Tree}
+use Rattle.edit_script.specs.Edit as edits
+use Rattle.edit_script.specs.Edit.{Edit}
+use Rattle.feature_states.specs.Members.{same_feature}
+use Rattle.prop_values.specs.Changes.{merged}
+use Rattle.prop_values.specs.Data.{Data, pairs_of}
+use Rattle.prop_values.specs.View.{entries_of-pairs_of}
+use Rattle.style_edits.specs.Edited.{edited}
+use Rattle.style_edits.specs.Faults.{edit_fault}
+use Rattle.style_edits.specs.declared.faults.EditFault.{EditFault}
+use Rattle.style_layout.specs.Shown.{SourceTile}
+use Rattle.edit_session.specs.Applied.{States, done, refused, refusal_of, whole_refusal, unless_refused, applied}
+use Rattle.edit_session.specs.Presentation.{Presentation}
+use Rattle.edit_session.specs.View.{edits_layers}
+use Rattle.edit_session.specs.declared.answer.Refusal.{Refusal}
+
+-- no cause holds
+accepted : (fault : Option EditFault) (whole : Option Refusal) (before after : Presentation) → fault ≡ None → whole ≡ None
+    → (after, done) ≡ unless_refused (option_or (option_map refusal_of fault) (option_or whole None)) before after
+accepted fault whole before after h w =
+    λ k. unless_refused (option_or (option_map refusal_of (sym h k)) (option_or (sym w k) None)) before after
+
+-- the whole document is refused
+refused_by : (fault : Option EditFault) (whole : Option Refusal) (r : Refusal) (before after : Presentation) → fault ≡ None → whole ≡ Some r
+    → (before, refused r) ≡ unless_refused (option_or (option_map refusal_of fault) (option_or whole None)) before after
+refused_by fault whole r before after h w =
+    λ k. unless_refused (option_or (option_map refusal_of (sym h k)) (option_or (sym w k) None)) before after
+
+module _ (tiles : List SourceTile) (scripts : List ℕ → Bool) (can_change : Bool) (p : Presentation) where
+  layers_applied : (e : Edit) → edits_layers e ≡ true → applied tiles scripts can_change p e ≡ unless_refused (
+      option_or (option_map refusal_of (edit_fault p.document e)) (option_or (whole_refusal tiles p.globals (edited p.document e)) None))
+      p (record p { document = edited p.document e })
+  layers_applied (edits.set_paint layer name value) h = refl
+  layers_applied (edits.set_layout layer name value) h = refl
+  layers_applied (edits.set_filter layer filter) h = refl
+  layers_applied (edits.set_range layer min max) h = refl
+  layers_applied (edits.add_layer layer before) h = refl
+  layers_applied (edits.remove_layer id) h = refl
+  layers_applied (edits.move_layer id before) h = refl
+  layers_applied (edits.set_zoom zoom) h = absurd (cc)
+  layers_applied (edits.set_state source layer id members) h = absurd (cc)
+  layers_applied (edits.remove_state source layer id key) h = absurd (cc)
+  layers_applied (edits.add_image name) h = absurd (cc)
+  layers_applied (edits.remove_image name) h = absurd (cc)
+  layers_applied (edits.set_global name d) h = absurd (cc)
+  layers_applied edits.list h = absurd (cc)
+  layers_applied edits.stats h = absurd (cc)
+
+  module _ (e : Edit) (of_layers : edits_layers e ≡ true) (possible : edit_fault p.document e ≡ None)
+      (document : Tree) (made : document ≡ edited p.document e) where
+    -- an edit of layers is accepted
+    pub layers_accepted : whole_refusal tiles p.globals document ≡ None
+        → (record p { document = document }, done) ≡ applied tiles scripts can_change p e
+    layers_accepted w =
+        (λ k. (record p { document = made k }, done))
+        ∙ (accepted _ _ p _ possible (ap (whole_refusal tiles p.globals) (sym made) ∙ w) ∙ sym (layers_applied e of_layers))
+
+    -- it is refused, and taken back
+    pub layers_refused : (r : Refusal) (left : Tree) → whole_refusal tiles p.globals document ≡ Some r → left ≡ p.document
+        → (record p { document = left }, refused r) ≡ applied tiles scripts can_change p e
+    layers_refused r left w back =
+        (λ k. (record p { document = back k }, refused r))
+        ∙ (refused_by _ _ r p _ possible (ap (whole_refusal tiles p.globals) (sym made) ∙ w) ∙ sym (layers_applied e of_layers))
+
+  -- members are set in the state of a feature
+  pub state_set : (source layer s l : List ℕ) (id : ℕ) (members given : List (List ℕ × Data)) (states : States)
+      → whole_refusal tiles p.globals p.document ≡ None
+      → edit_fault p.document (edits.set_state source layer id (pairs_of given)) ≡ None
+      → s ≡ source → l ≡ layer → members ≡ given
+      → ((a b : List ℕ) (i : ℕ) → states a b i ≡ (if same_feature s l id a b i then merged (p.states a b i) members else p.states a b i))
+      → (record p { states = states }, done) ≡ applied tiles scripts can_change p (edits.set_state source layer id (pairs_of given))
+  state_set source layer s l id members given states w h es el em made =
+      let same = em ∙ sym (entries_of-pairs_of given) in
+      (λ k. (record p { states = λ a b i. made a b i k }, done))
+      ∙ ((λ k. (record p { states = λ a b i. if same_feature (es k) (el k) id a b i then merged (p.states a b i) (same k) else p.states a b i }, done))
+      ∙ accepted _ _ p _ h w)

@@ -1,0 +1,134 @@
+-- What an edit does to what a session stands for, and what is answered.
+use Rattle.std.specs.Prelude.{ℕ, ℤ, List, [], ◌∷◌, Bool, true, false, Option, Some, None, option_map, if◌then◌else◌}
+use Rattle.std.specs.Option.{option_or}
+use Rattle.std.specs.Str.{bytes_eq}
+use Rattle.decimal_json.specs.Tree.{Tree}
+use Rattle.decimal_json.specs.declared.paths.PathPart.{PathPart}
+use Rattle.edit_script.specs.Edit as edits
+use Rattle.edit_script.specs.Edit.{Edit}
+use Rattle.feature_states.specs.Members.{same_feature, left_of}
+use Rattle.listing_text.specs.Listing.{listing}
+use Rattle.prop_values.specs.Changes.{with_member, without_key, merged}
+use Rattle.prop_values.specs.Data.{Data, null, pairs_of, entries_of}
+use Rattle.prop_values.specs.Equality.{at_key}
+use Rattle.style_edits.specs.Edited.{edited}
+use Rattle.style_edits.specs.Faults.{edit_fault}
+use Rattle.style_edits.specs.declared.faults.EditFault.{EditFault}
+use Rattle.style_edits.specs.declared.faults.EditFault.TheVariants as faults
+use Rattle.style_layout.specs.Globals.{globals_of}
+use Rattle.style_layout.specs.Layers.{style_layers}
+use Rattle.style_layout.specs.Shown.{SourceTile}
+use Rattle.style_layout.specs.StyleLayout.{cell_count, layout_of}
+use Rattle.style_rules.specs.Findings.{findings}
+use Rattle.edit_session.specs.Opening.{within_limit}
+use Rattle.edit_session.specs.Presentation.{Presentation, scene_of}
+use Rattle.edit_session.specs.declared.answer.Refusal.{Refusal}
+use Rattle.edit_session.specs.declared.answer.Refusal.TheVariants.{UnknownLayer, UnknownBefore, UnknownSource, ZoomRange, UnknownProperty, Finding, CellLimit, FixedImages}
+
+-- ---- the states of features
+
+abbrev pub States : Type 0
+States = List ℕ → List ℕ → ℕ → List (List ℕ × Data)
+
+-- the states with that of one feature changed
+abbrev pub changed_state : List ℕ → List ℕ → ℕ → (List (List ℕ × Data) → List (List ℕ × Data)) → States → States
+changed_state source layer id change states s l i =
+    if same_feature source layer id s l i then change (states s l i) else states s l i
+
+-- ---- the test of images
+
+-- the test, with one name told to be there or not
+abbrev pub with_image : List ℕ → Bool → (List ℕ → Bool) → List ℕ → Bool
+with_image name present has_image other = if bytes_eq name other then present else has_image other
+
+-- ---- the global state
+
+-- a value that is set: null gives the default in its place
+abbrev pub value_or_default : Data → Option Data → Option Data
+value_or_default null default = default
+value_or_default d default = Some d
+
+abbrev pub with_or_without : List ℕ → Option Data → List (List ℕ × Data) → List (List ℕ × Data)
+with_or_without name (Some d) globals = with_member name d globals
+with_or_without name None globals = without_key name globals
+
+-- the default that a document has for a name, or none
+abbrev pub default_of : Tree → List ℕ → Option Data
+default_of document name = at_key name (pairs_of (globals_of document))
+
+-- A name gets a value; null gives it the default, and where there is none takes it away. Source: own.
+abbrev pub with_global : Tree → List ℕ → Data → List (List ℕ × Data) → List (List ℕ × Data)
+with_global document name d globals = with_or_without name (value_or_default d (default_of document name)) globals
+
+-- ---- what a session stands for after an edit that is accepted. Source: own.
+
+abbrev pub presented_after : Presentation → Edit → Presentation
+presented_after p (edits.set_zoom zoom) = record p { zoom = zoom }
+presented_after p (edits.set_state source layer id members) =
+    record p { states = changed_state source layer id (λ kept. merged kept (entries_of members)) p.states }
+presented_after p (edits.remove_state source layer id key) =
+    record p { states = changed_state source layer id (left_of key) p.states }
+presented_after p (edits.add_image name) = record p { has_image = with_image name true p.has_image }
+presented_after p (edits.remove_image name) = record p { has_image = with_image name false p.has_image }
+presented_after p (edits.set_global name d) = record p { globals = with_global p.document name d p.globals }
+presented_after p edit = record p { document = edited p.document edit }
+
+-- ---- why an edit is refused
+
+-- the faults of edits are refusals of the same names
+abbrev pub refusal_of : EditFault → Refusal
+refusal_of faults.UnknownLayer = UnknownLayer
+refusal_of faults.UnknownBefore = UnknownBefore
+refusal_of faults.UnknownSource = UnknownSource
+refusal_of faults.ZoomRange = ZoomRange
+refusal_of faults.UnknownProperty = UnknownProperty
+
+-- the first finding
+abbrev pub first_finding : List (List PathPart × ℕ) → Option Refusal
+first_finding [] = None
+first_finding (f ∷ fs) = Some (Finding (record { path = f.0; rule = f.1 }))
+
+abbrev pub limit_refusal : ℕ → Option Refusal
+limit_refusal count = if within_limit count then None else Some CellLimit
+
+-- images are told to a test that cannot change
+abbrev pub images_refusal : Bool → Edit → Option Refusal
+images_refusal can_change (edits.add_image name) = if can_change then None else Some FixedImages
+images_refusal can_change (edits.remove_image name) = if can_change then None else Some FixedImages
+images_refusal can_change edit = None
+
+-- ---- what is answered
+
+pub data Reply : Type 0 where
+  -- the edit is accepted
+  done : Reply
+  -- the listing's text
+  listed : List ℕ → Reply
+  -- the number of evaluations is asked for
+  stats_asked : Reply
+  refused : Refusal → Reply
+
+-- an edit that is refused changes nothing
+abbrev pub unless_refused : Option Refusal → Presentation → Presentation → Presentation × Reply
+unless_refused None before after = (after, done)
+unless_refused (Some refusal) before after = (before, refused refusal)
+
+-- a whole document over tiles breaks a rule, or has too many cells by the values of the global state
+abbrev pub whole_refusal : List SourceTile → List (List ℕ × Data) → Tree → Option Refusal
+whole_refusal tiles globals document =
+    option_or (first_finding (findings document)) (limit_refusal (cell_count tiles (style_layers globals document)))
+
+-- over tiles, with the test on texts that can be shown; `can_change` says whether the test of images can change
+module _ (tiles : List SourceTile) (scripts : List ℕ → Bool) (can_change : Bool) where
+  -- The first cause that holds: a fault of the edit, of the whole edited document, or that images cannot change. Source: own.
+  abbrev pub refusal : Presentation → Edit → Option Refusal
+  refusal p edit =
+      option_or (option_map refusal_of (edit_fault p.document edit)) (
+      option_or (whole_refusal tiles (presented_after p edit).globals (presented_after p edit).document) (
+      images_refusal can_change edit))
+
+  -- What a session stands for after an edit, and what is answered. A listing is that of the full layout. Source: own.
+  abbrev pub applied : Presentation → Edit → Presentation × Reply
+  applied p edits.list = (p, listed (listing (layout_of (scene_of scripts p) tiles p.globals p.document)))
+  applied p edits.stats = (p, stats_asked)
+  applied p edit = unless_refused (refusal p edit) p (presented_after p edit)

@@ -1,0 +1,90 @@
+-- What the program's values are to a clause.
+use Rattle.std.specs.Prelude.{◌≡◌, ℕ, List, [], map, Bool, false, true, None, if◌then◌else◌}
+use Rattle.decimal_json.specs.Tree.{Tree}
+use Rattle.decimal_json.specs.View.{tree_of}
+use Rattle.edit_script.specs.Edit as edits
+use Rattle.edit_script.specs.Edit.{Edit}
+use Rattle.feature_states.specs.Members.{members_at}
+use Rattle.prop_values.specs.Data.{Data}
+use Rattle.style_layout.specs.CodeView.{layers_seen, tile_seen}
+use Rattle.style_layout.specs.Layers.{StyleLayer, style_layers}
+use Rattle.style_layout.specs.Shown.{SourceTile}
+use Rattle.edit_session.specs.Applied.{Reply, done, listed, stats_asked, refused, whole_refusal, with_image, applied}
+use Rattle.edit_session.specs.Opening.{Fault, has_findings, unknown_source, not_vector, too_many_cells, zoom_range}
+use Rattle.edit_session.specs.Presentation.{Presentation}
+use Rattle.edit_session.specs.declared.answer.Answer.{Answer}
+use Rattle.edit_session.specs.declared.answer.Answer.TheVariants.{Done, Listing, Stats, Refused}
+use Rattle.edit_session.specs.declared.answer.Refusal.TheVariants.{FixedImages}
+use Rattle.edit_session.specs.declared.opening.OpenFault.{OpenFault}
+use Rattle.edit_session.specs.declared.opening.OpenFault.TheVariants.{Findings, UnknownSource, NotVector, CellLimit, ZoomRange}
+use Rattle.edit_session.specs.declared.session.Session.{Session}
+
+-- ---- answers
+
+abbrev pub reply_seen : Answer → Reply
+reply_seen Done = done
+reply_seen (Listing text) = listed text.items
+reply_seen Stats = stats_asked
+reply_seen (Refused refusal) = refused refusal
+
+abbrev pub fault_seen : OpenFault → Fault
+fault_seen Findings = has_findings
+fault_seen (UnknownSource source) = unknown_source source.now
+fault_seen (NotVector source) = not_vector source.now
+fault_seen (CellLimit count) = too_many_cells count
+fault_seen ZoomRange = zoom_range
+
+-- ---- a session
+
+-- What a session stands for, with the test of images that is handed in. Source: own.
+abbrev pub presented : Session → (List ℕ → Bool) → Presentation
+presented session has_image = record {
+  document = tree_of session.document;
+  zoom = session.zoom;
+  states = members_at session.states;
+  has_image = has_image;
+  globals = session.globals;
+}
+
+-- the tiles that it was opened over
+abbrev pub tiles_of : Session → List SourceTile
+tiles_of session = map tile_seen session.tiles.items
+
+-- a call on it has answered want of memory
+abbrev pub lacks_memory : Session → Bool
+lacks_memory session = session.lacks_memory
+
+-- a document over tiles that breaks no rule and is within the limit of cells, with its layers
+pub record IsWhole (tiles : List SourceTile) (globals : List (List ℕ × Data)) (document : Tree) (layers : List StyleLayer) : Type 0 where
+  pub is_accepted : whole_refusal tiles globals document ≡ None
+  pub is_prepared : layers ≡ style_layers globals document
+
+-- so it is with a session's document
+abbrev pub IsReady : Session → Type 0
+IsReady session = IsWhole (tiles_of session) session.globals (tree_of session.document) (layers_seen session.prepared)
+
+-- What holds of a session from its opening on, by the tests that are handed in, until it lacks memory.
+abbrev pub IsSound : Session → (List ℕ → Bool) → (List ℕ → Bool) → Type 0
+IsSound session has_image scripts = lacks_memory session ≡ false → IsReady session
+
+-- ---- what only contracts of private functions see
+
+-- an edit of layers of the document
+abbrev pub edits_layers : Edit → Bool
+edits_layers (edits.set_paint layer name value) = true
+edits_layers (edits.set_layout layer name value) = true
+edits_layers (edits.set_filter layer filter) = true
+edits_layers (edits.set_range layer min max) = true
+edits_layers (edits.add_layer layer before) = true
+edits_layers (edits.remove_layer id) = true
+edits_layers (edits.move_layer id before) = true
+edits_layers _ = false
+
+-- an edit turns what a session stands for into this, and has this answer
+abbrev pub IsAnswer : List SourceTile → (List ℕ → Bool) → Bool → Presentation → Presentation → Edit → Answer → Type 0
+IsAnswer tiles scripts can_change before after edit answer = (after, reply_seen answer) ≡ applied tiles scripts can_change before edit
+
+-- the test of images after it was told a name, and the answer
+abbrev pub told : Bool → List ℕ → Bool → (List ℕ → Bool) → (List ℕ → Bool) × Reply
+told can_change name present has_image =
+    if can_change then (with_image name present has_image, done) else (has_image, refused FixedImages)

@@ -1,0 +1,223 @@
+//! What each command does to a session.
+
+ghost use Rattle.std.specs.Prelude.{◌≡◌, ℕ, List, Bool, None, true, option_map, IfOk, OnOk};
+ghost use Rattle.decimal_json.specs.View.{tree_of};
+ghost use Rattle.edit_script.specs.Edit as edits;
+ghost use Rattle.edit_script.specs.View.{command_seen};
+ghost use Rattle.edit_session.specs.Applied.{listed, refusal_of};
+ghost use Rattle.edit_session.specs.Presentation.{scene_of};
+ghost use Rattle.edit_session.specs.View.{presented, reply_seen, tiles_of, IsAnswer, IsReady, edits_layers, told};
+ghost use Rattle.listing_text.specs.Listing.{listing};
+ghost use Rattle.prop_values.specs.Data.{pairs_of};
+ghost use Rattle.prop_values.specs.View.{data_of};
+ghost use Rattle.style_edits.specs.Faults.{edit_fault};
+ghost use Rattle.style_edits.specs.Places.{places_of};
+ghost use Rattle.style_layout.specs.StyleLayout.{layout_of};
+
+use crate::answer::{Answer, Refusal};
+use crate::globals::with_global;
+use crate::session::Session;
+use crate::whole::{prepared_whole, prepared_within};
+use decimal_json::Text;
+use edit_script::Command;
+use host_ops::{HostOp, TellFault};
+use prop_values::{Entries, Value, copy_entries};
+use std::alloc::{AllocError, Global};
+use style_edits::{EditFault, EditPlaces, edit_at, edit_fault, edit_places, undo_edit};
+use style_layout::{Scene, Zoom, write_listing};
+
+impl Session<'_> {
+    /// The answer to a command, of a session that has memory.
+    pub(crate) fn answer(
+        &mut self,
+        command: &Command,
+        images: &mut dyn HostOp,
+        scripts: &dyn HostOp,
+    ) -> Result<Answer, AllocError>
+        requires { IsReady self.old }
+        ensures answer { IfOk result (IsAnswer (tiles_of self.old) (test scripts.now) (changes images.old)
+            (presented self.old (test images.old)) (presented self.new (test images.new)) (command_seen command.now)) }
+        ensures tiles { tiles_of self.new ≡ tiles_of self.old }
+        ensures changes { changes images.new ≡ changes images.old }
+        ensures ready { OnOk result (IsReady self.new) }
+    {
+        let places = edit_places(&self.document, command);
+        match edit_fault(&self.document, places, command) {
+            Some(fault) => Ok(Answer::Refused(refusal_of(fault))),
+            None => self.answer_possible(command, places, images, scripts),
+        }
+    }
+
+    // The answer to a command without fault.
+    fn answer_possible(
+        &mut self,
+        command: &Command,
+        places: EditPlaces,
+        images: &mut dyn HostOp,
+        scripts: &dyn HostOp,
+    ) -> Result<Answer, AllocError>
+        requires ready { IsReady self.old }
+        requires possible { edit_fault (tree_of self.old.document) (command_seen command.now) ≡ None }
+        requires places { places ≡ places_of (tree_of self.old.document) (command_seen command.now) }
+        ensures answer { IfOk result (IsAnswer (tiles_of self.old) (test scripts.now) (changes images.old)
+            (presented self.old (test images.old)) (presented self.new (test images.new)) (command_seen command.now)) }
+        ensures tiles { tiles_of self.new ≡ tiles_of self.old }
+        ensures changes { changes images.new ≡ changes images.old }
+        ensures ready { OnOk result (IsReady self.new) }
+    {
+        match command {
+            Command::List => self.listing(images, scripts),
+            Command::Stats => Ok(Answer::Stats),
+            Command::SetZoom(zoom) => {
+                self.zoom = Zoom::new(*zoom);
+                Ok(Answer::Done)
+            }
+            Command::SetState(source, layer, id, members) => {
+                self.set_state(source, layer, *id, members)
+            }
+            Command::RemoveState(source, layer, id, key) => {
+                self.states
+                    .remove(source.as_str(), layer.as_str(), *id, text_in(key));
+                Ok(Answer::Done)
+            }
+            Command::AddImage(name) => told(self.alloc, images, name, true),
+            Command::RemoveImage(name) => told(self.alloc, images, name, false),
+            Command::SetGlobal(name, value) => self.set_global(name, value),
+            _ => self.edit_layers(command, places),
+        }
+    }
+
+    fn listing(&self, images: &dyn HostOp, scripts: &dyn HostOp) -> Result<Answer, AllocError>
+        requires { IsReady self.now }
+        ensures { IfOk result (λ answer. reply_seen answer ≡ listed (listing (layout_of
+            (scene_of (test scripts.now) (presented self.now (test images.now))) (tiles_of self.now)
+            self.now.globals (tree_of self.now.document)))) }
+    {
+        let scene = Scene {
+            zoom: self.zoom,
+            states: &self.states,
+        };
+        let mut out = Vec::new(self.alloc);
+        write_listing(
+            self.alloc,
+            &self.prepared,
+            &scene,
+            images,
+            scripts,
+            self.tiles.as_slice(),
+            &mut out,
+        )?;
+        Ok(Answer::Listing(out))
+    }
+
+    fn set_state(
+        &mut self,
+        source: &Text,
+        layer: &Text,
+        id: u64,
+        members: &Entries,
+    ) -> Result<Answer, AllocError>
+        requires ready { IsReady self.old }
+        requires possible { edit_fault (tree_of self.old.document)
+            (edits.set_state source.now layer.now id (pairs_of members.now)) ≡ None }
+        ensures answer { (has_image scripts : List ℕ → Bool) (can_change : Bool)
+            → IfOk result (IsAnswer (tiles_of self.old) scripts can_change (presented self.old has_image)
+            (presented self.new has_image) (edits.set_state source.now layer.now id (pairs_of members.now))) }
+        ensures tiles { tiles_of self.new ≡ tiles_of self.old }
+        ensures ready { OnOk result (IsReady self.new) }
+    {
+        let members = copy_entries(self.alloc, members)?;
+        self.states
+            .merge(source.as_str(), layer.as_str(), id, members)?;
+        Ok(Answer::Done)
+    }
+
+    fn set_global(&mut self, name: &Text, value: &Value) -> Result<Answer, AllocError>
+        requires ready { IsReady self.old }
+        ensures answer { (has_image scripts : List ℕ → Bool) (can_change : Bool)
+            → IfOk result (IsAnswer (tiles_of self.old) scripts can_change (presented self.old has_image)
+            (presented self.new has_image) (edits.set_global name.now (data_of value.now))) }
+        ensures tiles { tiles_of self.new ≡ tiles_of self.old }
+        ensures ready { OnOk result (IsReady self.new) }
+    {
+        let globals = with_global(self.alloc, &self.document, name, value, &self.globals)?;
+        match prepared_within(self.alloc, &self.document, &globals, self.tiles.as_slice())? {
+            Ok(prepared) => {
+                self.globals = globals;
+                self.prepared = prepared;
+                Ok(Answer::Done)
+            }
+            Err(refusal) => Ok(Answer::Refused(refusal)),
+        }
+    }
+
+    // The answer to an edit of layers, which is taken back where the whole document is refused.
+    fn edit_layers(&mut self, command: &Command, places: EditPlaces) -> Result<Answer, AllocError>
+        requires ready { IsReady self.old }
+        requires possible { edit_fault (tree_of self.old.document) (command_seen command.now) ≡ None }
+        requires places { places ≡ places_of (tree_of self.old.document) (command_seen command.now) }
+        requires layers { edits_layers (command_seen command.now) ≡ true }
+        ensures answer { (has_image scripts : List ℕ → Bool) (can_change : Bool)
+            → IfOk result (IsAnswer (tiles_of self.old) scripts can_change (presented self.old has_image)
+            (presented self.new has_image) (command_seen command.now)) }
+        ensures tiles { tiles_of self.new ≡ tiles_of self.old }
+        ensures ready { OnOk result (IsReady self.new) }
+    {
+        let undo = edit_at(self.alloc, &mut self.document, places, command)?;
+        match prepared_whole(
+            self.alloc,
+            &self.document,
+            &self.globals,
+            self.tiles.as_slice(),
+        )? {
+            Ok(prepared) => {
+                self.prepared = prepared;
+                Ok(Answer::Done)
+            }
+            Err(refusal) => {
+                undo_edit(&mut self.document, undo)?;
+                Ok(Answer::Refused(refusal))
+            }
+        }
+    }
+}
+
+// The refusal of the same name.
+fn refusal_of(fault: EditFault) -> Refusal
+    ensures { result ≡ refusal_of fault }
+{
+    match fault {
+        EditFault::UnknownLayer => Refusal::UnknownLayer,
+        EditFault::UnknownBefore => Refusal::UnknownBefore,
+        EditFault::UnknownSource => Refusal::UnknownSource,
+        EditFault::ZoomRange => Refusal::ZoomRange,
+        EditFault::UnknownProperty => Refusal::UnknownProperty,
+    }
+}
+
+fn text_in(text: &Option<Text>) -> Option<&str>
+    ensures { option_map (λ found. found.now) result ≡ text.now }
+{
+    match text {
+        Some(text) => Some(text.as_str()),
+        None => None,
+    }
+}
+
+// Tells the test of images that a name is there or not.
+fn told(
+    alloc: Global,
+    images: &mut dyn HostOp,
+    name: &Text,
+    present: bool,
+) -> Result<Answer, AllocError>
+    ensures answer { IfOk result (λ answer. (test images.new, reply_seen answer)
+        ≡ told (changes images.old) name.now present (test images.old)) }
+    ensures changes { changes images.new ≡ changes images.old }
+{
+    match images.tell(alloc, name.as_str(), present) {
+        Ok(()) => Ok(Answer::Done),
+        Err(TellFault::Fixed) => Ok(Answer::Refused(Refusal::FixedImages)),
+        Err(TellFault::NoMemory) => Err(AllocError),
+    }
+}

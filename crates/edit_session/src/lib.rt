@@ -1,0 +1,29 @@
+//! A style over tiles, under edit: a session opens it, and answers commands one by one.
+//!
+//! ```text
+//! let mut session = Session::open(alloc, style, tiles, zoom)??;
+//! session.apply(&command, images, scripts)?     // of `["set-paint","roads","line-width",2]`: Done
+//! session.apply(&Command::List, images, scripts)?           // Listing(the text)
+//! ```
+//!
+//! What is promised: `presented` says what a session stands for: a document, a zoom, states of features, images and values of the
+//! global state. `open` gives a session that stands for the style before any edit (`opened`), or exactly the first cause why it cannot
+//! (`open_fault`). `apply` answers by `applied`: a command is refused by the first cause that holds, and then nothing changes; else the
+//! session stands for what is after the edit; a listing is that of the full layout of the document as it then is. Once allocation
+//! fails a session answers so ever after.
+//!
+//! After each edit of layers the whole document is looked at and prepared anew.
+//!
+//! The text to believe is in `specs/`: `Presentation`, `Opening`, `Applied`, `View`.
+#![tactic(auto)]
+
+mod answer;
+mod commands;
+mod globals;
+mod opening;
+mod session;
+mod whole;
+
+pub use answer::{Answer, Refusal};
+pub use opening::{CELL_LIMIT, OpenFault};
+pub use session::Session;

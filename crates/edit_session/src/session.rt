@@ -1,0 +1,136 @@
+//! A session: a style over tiles, under edit.
+
+ghost use Rattle.std.specs.Prelude.{◌≡◌, ℕ, List, [], Bool, map, false, true, option_map, is_err, IfOk, IsErr};
+ghost use Rattle.std.specs.Result.{result_err};
+ghost use Rattle.decimal_json.specs.View.{tree_of};
+ghost use Rattle.edit_script.specs.View.{command_seen};
+ghost use Rattle.edit_session.specs.Applied.{applied};
+ghost use Rattle.edit_session.specs.Opening.{open_fault, tiles_fault};
+ghost use Rattle.edit_session.specs.Presentation.{opened};
+ghost use Rattle.edit_session.specs.View.{fault_seen, presented, reply_seen, tiles_of, lacks_memory, IsSound};
+ghost use Rattle.style_layout.specs.CodeView.{tile_seen};
+ghost use Rattle.style_rules.specs.Findings.{findings};
+
+use crate::answer::Answer;
+use crate::opening::{CELL_LIMIT, OpenFault, first_of_no_vector, first_unknown, is_zoom};
+use decimal_json::Json;
+use edit_script::Command;
+use feature_states::States;
+use fixed_num::Fixed;
+use host_ops::HostOp;
+use prop_values::Entries;
+use std::alloc::{AllocError, Global};
+use style_layout::{PreparedStyle, SourceTile, Zoom, cell_count, globals_of, prepare};
+use style_rules::findings;
+
+/// A style over tiles, under edit, with the zoom, the states of features and the values of the global state by which it is
+/// shown. The tests on images and scripts are handed in to each call. `presented` says to a clause what a session stands
+/// for.
+#[derive(Drop)]
+pub struct Session<'a> {
+    pub(crate) alloc: Global,
+    pub(crate) document: Json,
+    pub(crate) tiles: Vec<SourceTile<'a>>,
+    pub(crate) zoom: Zoom,
+    pub(crate) states: States,
+    pub(crate) globals: Entries,
+    /// The layers of the document, by the values of the global state.
+    pub(crate) prepared: PreparedStyle,
+    pub(crate) lacks_memory: bool,
+}
+
+impl<'a> Session<'a> {
+    /// Opens a session over a style and tiles, at a zoom; or gives the fault, the first that holds. No feature has a state
+    /// then, and the global state has its defaults.
+    pub fn open(
+        alloc: Global,
+        style: Json,
+        tiles: Vec<SourceTile<'a>>,
+        zoom: Fixed,
+    ) -> Result<Result<Session<'a>, OpenFault<'a>>, AllocError>
+        ensures fault { IfOk result (λ made. option_map fault_seen (result_err made)
+            ≡ open_fault (tree_of style) (map tile_seen tiles.entry.items) zoom) }
+        ensures opened { IfOk result (λ made. IfOk made (λ session. (has_image : List ℕ → Bool)
+            → presented session has_image ≡ opened (tree_of style) zoom has_image)) }
+        ensures tiles { IfOk result (λ made. IfOk made (λ session. tiles_of session ≡ map tile_seen tiles.entry.items)) }
+        ensures sound { IfOk result (λ made. IfOk made (λ session. (has_image scripts : List ℕ → Bool)
+            → IsSound session has_image scripts)) }
+        ensures memory { IfOk result (λ made. IfOk made (λ session. lacks_memory session ≡ false)) }
+    {
+        let found = findings(alloc, &style)?;
+        if !found.as_slice().is_empty() {
+            return Ok(Err(OpenFault::Findings));
+        }
+        Session::open_sound(alloc, style, tiles, zoom)
+    }
+
+    /// As `open`, over a style without findings, whose rules are not asked again.
+    pub fn open_sound(
+        alloc: Global,
+        style: Json,
+        tiles: Vec<SourceTile<'a>>,
+        zoom: Fixed,
+    ) -> Result<Result<Session<'a>, OpenFault<'a>>, AllocError>
+        requires { findings (tree_of style) ≡ [] }
+        ensures fault { IfOk result (λ made. option_map fault_seen (result_err made)
+            ≡ tiles_fault (tree_of style) (map tile_seen tiles.entry.items) zoom) }
+        ensures opened { IfOk result (λ made. IfOk made (λ session. (has_image : List ℕ → Bool)
+            → presented session has_image ≡ opened (tree_of style) zoom has_image)) }
+        ensures tiles { IfOk result (λ made. IfOk made (λ session. tiles_of session ≡ map tile_seen tiles.entry.items)) }
+        ensures sound { IfOk result (λ made. IfOk made (λ session. (has_image scripts : List ℕ → Bool)
+            → IsSound session has_image scripts)) }
+        ensures memory { IfOk result (λ made. IfOk made (λ session. lacks_memory session ≡ false)) }
+    {
+        if let Some(source) = first_unknown(&style, tiles.as_slice()) {
+            return Ok(Err(OpenFault::UnknownSource(source)));
+        }
+        if let Some(source) = first_of_no_vector(&style, tiles.as_slice()) {
+            return Ok(Err(OpenFault::NotVector(source)));
+        }
+        let globals = globals_of(alloc, &style)?;
+        let prepared = prepare(alloc, &style, &globals)?;
+        let cells = cell_count(&prepared, tiles.as_slice());
+        if cells > CELL_LIMIT {
+            return Ok(Err(OpenFault::CellLimit(cells)));
+        }
+        if !is_zoom(zoom) {
+            return Ok(Err(OpenFault::ZoomRange));
+        }
+        Ok(Ok(Session {
+            alloc,
+            document: style,
+            tiles,
+            zoom: Zoom::new(zoom),
+            states: States::new(alloc),
+            globals,
+            prepared,
+            lacks_memory: false,
+        }))
+    }
+
+    /// Does what a command says, and answers. A refused command changes nothing, and neither do `list` and `stats`. Once
+    /// allocation fails the session lacks memory, and every later call says so.
+    pub fn apply(
+        &mut self,
+        command: &Command,
+        images: &mut dyn HostOp,
+        scripts: &dyn HostOp,
+    ) -> Result<Answer, AllocError>
+        requires { IsSound self.old (test images.old) (test scripts.now) }
+        ensures answer { IfOk result (λ answer. (presented self.new (test images.new), reply_seen answer)
+            ≡ applied (tiles_of self.old) (test scripts.now) (changes images.old) (presented self.old (test images.old))
+            (command_seen command.now)) }
+        ensures tiles { tiles_of self.new ≡ tiles_of self.old }
+        ensures changes { changes images.new ≡ changes images.old }
+        ensures sound { IsSound self.new (test images.new) (test scripts.now) }
+        ensures lacks { lacks_memory self.new ≡ is_err result }
+        ensures memory { lacks_memory self.old ≡ true → IsErr result }
+    {
+        if self.lacks_memory {
+            return Err(AllocError);
+        }
+        let answer = self.answer(command, images, scripts);
+        self.lacks_memory = answer.is_err();
+        answer
+    }
+}

@@ -1,0 +1,94 @@
+//! What is asked of a whole document: that it breaks no rule and has not too many cells.
+
+ghost use Rattle.std.specs.Prelude.{◌≡◌, map, IfOk};
+ghost use Rattle.std.specs.Result.{result_err};
+ghost use Rattle.decimal_json.specs.View.{tree_of};
+ghost use Rattle.edit_session.specs.Applied.{first_finding, limit_refusal, whole_refusal};
+ghost use Rattle.style_layout.specs.CodeView.{layers_seen, tile_seen};
+ghost use Rattle.style_layout.specs.Layers.{style_layers};
+ghost use Rattle.style_layout.specs.StyleLayout.{cell_count};
+ghost use Rattle.style_rules.specs.Findings.{findings};
+
+use crate::answer::Refusal;
+use crate::opening::CELL_LIMIT;
+use decimal_json::{Json, Path, PathPart};
+use prop_values::Entries;
+use std::alloc::{AllocError, Global};
+use style_layout::{PreparedStyle, SourceTile, cell_count, prepare};
+use style_rules::{Finding, findings};
+
+/// A document that breaks no rule and is within the limit of cells, prepared; or its refusal.
+pub(crate) fn prepared_whole(
+    alloc: Global,
+    document: &Json,
+    globals: &Entries,
+    tiles: &[SourceTile<'_>],
+) -> Result<Result<PreparedStyle, Refusal>, AllocError>
+    ensures prepared { IfOk result (λ made. IfOk made (λ prepared.
+        layers_seen prepared ≡ style_layers globals.now (tree_of document.now))) }
+    ensures refusal { IfOk result (λ made.
+        result_err made ≡ whole_refusal (map tile_seen tiles.now) globals.now (tree_of document.now)) }
+{
+    if let Some(refusal) = first_finding(alloc, document)? {
+        return Ok(Err(refusal));
+    }
+    prepared_within(alloc, document, globals, tiles)
+}
+
+/// A document within the limit of cells, prepared; or its refusal.
+pub(crate) fn prepared_within(
+    alloc: Global,
+    document: &Json,
+    globals: &Entries,
+    tiles: &[SourceTile<'_>],
+) -> Result<Result<PreparedStyle, Refusal>, AllocError>
+    ensures prepared { IfOk result (λ made. IfOk made (λ prepared.
+        layers_seen prepared ≡ style_layers globals.now (tree_of document.now))) }
+    ensures refusal { IfOk result (λ made. result_err made
+        ≡ limit_refusal (cell_count (map tile_seen tiles.now) (style_layers globals.now (tree_of document.now)))) }
+{
+    let prepared = prepare(alloc, document, globals)?;
+    if cell_count(&prepared, tiles) > CELL_LIMIT {
+        return Ok(Err(Refusal::CellLimit));
+    }
+    Ok(Ok(prepared))
+}
+
+fn first_finding(alloc: Global, document: &Json) -> Result<Option<Refusal>, AllocError>
+    ensures { IfOk result (λ refusal. refusal ≡ first_finding (findings (tree_of document.now))) }
+{
+    let found = findings(alloc, document)?;
+    match found.as_slice() {
+        [] => Ok(None),
+        [first, ..] => Ok(Some(Refusal::Finding(copy_of(alloc, first)?))),
+    }
+}
+
+fn copy_of(alloc: Global, finding: &Finding) -> Result<Finding, AllocError>
+    ensures { IfOk result (λ copy. copy ≡ finding.now) }
+{
+    let path = copy_of_path(alloc, finding.path.as_slice())?;
+    Ok(Finding {
+        path,
+        rule: finding.rule,
+    })
+}
+
+fn copy_of_path(alloc: Global, parts: &[PathPart]) -> Result<Path, AllocError>
+    ensures { IfOk result (λ path. path ≡ parts.now) }
+{
+    let mut path = Path::new(alloc);
+    for part in parts {
+        path.push(copy_of_part(part)?)?;
+    }
+    Ok(path)
+}
+
+fn copy_of_part(part: &PathPart) -> Result<PathPart, AllocError>
+    ensures { IfOk result (λ copy. copy ≡ part.now) }
+{
+    match part {
+        PathPart::Key(key) => Ok(PathPart::Key(key.share()?)),
+        PathPart::Index(i) => Ok(PathPart::Index(*i)),
+    }
+}
