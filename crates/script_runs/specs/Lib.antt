@@ -1,0 +1,4 @@
+-- To be believed.
+pub mod ScriptLines
+pub mod AnswerTexts
+pub mod ScriptRun

@@ -1,0 +1,18 @@
+//! A script over a style under edit: its lines, what each is answered, and the run that they make.
+//!
+//! ```text
+//! let answer = answer_script(alloc, &mut session, b"[\"list\"]\n[\"set-zoom\",30]\n", images, scripts)?;
+//! // the listing, and then `refused 2 ZoomRange`; the ending is `Found`
+//! ```
+//!
+//! What is promised: the answer is the outcome of `script_run` of `specs/ScriptRun.antt`: line by line what the line's command is answered by
+//! `applied` of `edit_session`, in the texts of `specs/AnswerTexts.antt`; and the ending is `Found` exactly where a line was refused.
+//!
+//! The text to believe is in `specs/`: `ScriptLines`, `AnswerTexts`, `ScriptRun`.
+#![tactic(auto)]
+
+mod answers;
+mod lines;
+mod script;
+
+pub use script::answer_script;

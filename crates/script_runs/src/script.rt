@@ -1,0 +1,81 @@
+//! The run of a script.
+
+ghost use Rattle.std.specs.Prelude.{◌≡◌, ◌+◌, ◌<◌, ◌∷◌, ℕ, List, Bool, Option, OnOk, IfOk, ◌||◌};
+ghost use Rattle.edit_session.specs.View.{presented, tiles_of, IsSound};
+ghost use Rattle.program_runs.specs.Outcome.{Outcome};
+ghost use Rattle.program_runs.specs.Progress.{outcome_of};
+ghost use Rattle.program_runs.specs.Runs.{HasOutcome};
+ghost use Rattle.script_runs.specs.ScriptRun.{lines_run, script_run, ending_by};
+
+use crate::answers::{is_refused, write_fault, write_reply};
+use crate::lines::next_line;
+use edit_script::read_line;
+use edit_session::Session;
+use host_ops::HostOp;
+use program_runs::{Answer, Ending, answer_out};
+use std::alloc::{AllocError, Global};
+
+/// What a script is answered, over a session that was just opened or is sound.
+pub fn answer_script(
+    alloc: Global,
+    session: &mut Session<'_>,
+    script: &[u8],
+    images: &mut dyn HostOp,
+    scripts: &dyn HostOp,
+) -> Result<Answer, AllocError>
+    requires { IsSound session.old (test images.old) (test scripts.now) }
+    ensures { (files : List ℕ → Option (List ℕ)) → IfOk result (λ answer. HasOutcome files
+        (script_run (tiles_of session.old) (test scripts.now) (changes images.old) (presented session.old (test images.old)) script.now)
+        (outcome_of answer)) }
+{
+    let mut out = Vec::new(alloc);
+    let mut any = false;
+    let mut number: usize = 1;
+    let mut rest = script;
+    while let Some((line, behind)) = next_line(rest) {
+        let refused = answer_line(alloc, session, line, number, images, scripts, &mut out)?;
+        any = any || refused;
+        number += 1;
+        rest = behind;
+    }
+    Ok(answer_out(alloc, out, ending_by(any)))
+}
+
+fn ending_by(any: bool) -> Ending
+    ensures { result ≡ ending_by any }
+{
+    if any { Ending::Found } else { Ending::Fine }
+}
+
+// Appends what the line of this number is answered, and says whether it is refused.
+fn answer_line(
+    alloc: Global,
+    session: &mut Session<'_>,
+    line: &[u8],
+    number: usize,
+    images: &mut dyn HostOp,
+    scripts: &dyn HostOp,
+    out: &mut Vec<u8>,
+) -> Result<bool, AllocError>
+    requires { IsSound session.old (test images.old) (test scripts.now) }
+    ensures sound { IsSound session.new (test images.new) (test scripts.now) }
+    ensures tiles { tiles_of session.new ≡ tiles_of session.old }
+    ensures changes { changes images.new ≡ changes images.old }
+    ensures leads { (files : List ℕ → Option (List ℕ)) (any : Bool) (lines : List (List ℕ)) (o : Outcome) → IfOk result (λ refused.
+        HasOutcome files (lines_run (tiles_of session.old) (test scripts.now) (changes images.old) (number + 1)
+        (presented session.new (test images.new)) out.new.items (any || refused) lines) o →
+        HasOutcome files (lines_run (tiles_of session.old) (test scripts.now) (changes images.old) number
+        (presented session.old (test images.old)) out.old.items any (line.now ∷ lines)) o) }
+{
+    match read_line(alloc, line)? {
+        Ok(command) => {
+            let answer = session.apply(&command, images, scripts)?;
+            write_reply(number, &answer, out)?;
+            Ok(is_refused(&answer))
+        }
+        Err(fault) => {
+            write_fault(number, fault, out)?;
+            Ok(true)
+        }
+    }
+}
