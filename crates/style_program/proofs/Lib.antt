@@ -5,3 +5,6 @@ pub mod ListedFaults
 mod TypedOutcome
 pub mod TileWords
 pub mod TileRuns
+pub mod ShownRuns
+pub mod ScriptRuns
+pub mod AtFirst

@@ -52,17 +52,18 @@ module _ (every_fault_is_listed : EveryFaultIsListed) (images scripts : List ℕ
   found_reading (Ok None) read ends = absurd (cc)
   found_reading (Err fault) read ends = absurd (cc)
 
-module _ (law : EveryFaultIsListed) (files : List ℕ → Option (List ℕ)) (images scripts : List ℕ → Bool) where
-  found_asked : (ask : words.Asked) (o : Outcome) → HasOutcome files (asked_run images scripts ask) o → EndsFound o → ListsItsFault images scripts ask
+module _ (law : EveryFaultIsListed) (files : List ℕ → Option (List ℕ)) (images scripts : List ℕ → Bool) (can_change : Bool) where
+  found_asked : (ask : words.Asked) (o : Outcome) → HasOutcome files (asked_run images scripts can_change ask) o → EndsFound o → ListsItsFault images scripts ask
   found_asked (words.Value expression) o (inl (t, spelled, is)) ends = found_reading law images scripts expression t spelled (reading t) refl (sym (ap (λ p. status_of p.ending) is) ∙ ends)
   found_asked (words.Value expression) o (inr (kind, at, none, place, cause, is)) ends = absurd (let refused = ap (λ p. status_of p.ending) is in cc)
   found_asked (words.Validate style) o defined ends = tt
   found_asked (words.Migrate style) o defined ends = tt
   found_asked (words.Eval w) o defined ends = tt
+  found_asked (words.Replay w) o defined ends = tt
   found_asked words.Help o defined ends = tt
   found_asked words.Version o defined ends = tt
   found_asked words.Wrong o defined ends = tt
 
   -- of an answer to what the words ask for
-  pub found_is_listed : (ws : List (List ℕ)) (ask : words.Asked) (o : Outcome) (answer : Status) → ask ≡ words.asked ws → HasOutcome files (asked_run images scripts ask) o → answer ≡ status_of o.ending → answer ≡ status.Found → ListsItsFault images scripts (words.asked ws)
+  pub found_is_listed : (ws : List (List ℕ)) (ask : words.Asked) (o : Outcome) (answer : Status) → ask ≡ words.asked ws → HasOutcome files (asked_run images scripts can_change ask) o → answer ≡ status_of o.ending → answer ≡ status.Found → ListsItsFault images scripts (words.asked ws)
   found_is_listed ws ask o answer of_words defined is ends = subst (λ a. ListsItsFault images scripts a) of_words (found_asked ask o defined (sym is ∙ ends))

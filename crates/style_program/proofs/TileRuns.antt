@@ -9,7 +9,7 @@ use Rattle.program_runs.specs.Progress.{LeadsTo, HaltsAt, GoesOn, Halts}
 use Rattle.program_runs.specs.Runs.{Run}
 use Rattle.style_layout.specs.Shown.{SourceTile}
 use Rattle.tile_reader.specs.declared.tile.TileLayer.{TileLayer}
-use Rattle.style_program.specs.EvalRun.{tile_limit, tile_part, tiles_after}
+use Rattle.style_program.specs.ShownRun.{tile_limit, tile_part, tiles_after}
 use Rattle.style_program.specs.TileRunView.{tiles_from}
 use Rattle.style_program.specs.Words.{TileWord, source_and_tile, tile_words, count_of}
 use Rattle.style_program.proofs.TileWords.{taken, dropped}

@@ -5,7 +5,9 @@ pub mod ValueRun
 pub mod StyleFile
 pub mod ValidateRun
 pub mod MigrateRun
+pub mod ShownRun
 pub mod EvalRun
+pub mod ReplayRun
 pub mod Commands
 pub mod ListedFaults
 -- A law of these.

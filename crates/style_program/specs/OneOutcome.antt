@@ -6,5 +6,5 @@ use Rattle.style_program.specs.Commands.{run_of}
 
 -- Two outcomes of the same words are one, where the files that their run comes to read are told.
 abbrev pub EachHasOneOutcome : Type 0
-EachHasOneOutcome = (files : List ℕ → Option (List ℕ)) (images scripts : List ℕ → Bool) (ws : List (List ℕ)) (o p : Outcome) →
-    AreTold files (run_of images scripts ws) → HasOutcome files (run_of images scripts ws) o → HasOutcome files (run_of images scripts ws) p → o ≡ p
+EachHasOneOutcome = (files : List ℕ → Option (List ℕ)) (images scripts : List ℕ → Bool) (can_change : Bool) (ws : List (List ℕ)) (o p : Outcome) →
+    AreTold files (run_of images scripts can_change ws) → HasOutcome files (run_of images scripts can_change ws) o → HasOutcome files (run_of images scripts can_change ws) p → o ≡ p

@@ -6,6 +6,7 @@ use Rattle.expr_syntax.specs.FaultName.{code_name}
 use Rattle.expr_syntax.specs.declared.fault.SynFault.{SynFault}
 use Rattle.expr_types.specs.FaultName.{code_name as type_name}
 use Rattle.expr_types.specs.declared.fault.TypeFault.{TypeFault}
+use Rattle.edit_session.specs.Opening.{Fault, has_findings, unknown_source, not_vector, too_many_cells, zoom_range}
 use Rattle.proto_wire.specs.declared.wire.WireKind.TheVariants as wire
 use Rattle.tile_reader.specs.declared.fault.TileFault.{TileFault}
 use Rattle.tile_reader.specs.declared.fault.TileKind.{TileKind}
@@ -48,18 +49,14 @@ abbrev pub no_tile : (source : List ℕ) (number : ℕ) → TileFault → Outcom
 no_tile source number fault =
     refused (tile_text source ++ (codes " " ++ (tile_kind_name fault.kind ++ (codes " " ++ (decimal fault.at ++ tile_number number)))))
 
--- the style has no source of this name
-abbrev pub unknown_source : List ℕ → Outcome
-unknown_source source = refused (codes "open UnknownSource " ++ text_json source)
+-- A style that cannot be opened over tiles: the source of a tile is none of its sources, or not of type vector; there are more cells
+-- than are allowed; the zoom is not from 0 to 24. One with findings is not opened at all.
+abbrev pub open_fault_text : Fault → List ℕ
+open_fault_text has_findings = codes "Findings"
+open_fault_text (unknown_source source) = codes "UnknownSource " ++ text_json source
+open_fault_text (not_vector source) = codes "NotVector " ++ text_json source
+open_fault_text (too_many_cells count) = codes "CellLimit " ++ decimal count
+open_fault_text zoom_range = codes "ZoomRange"
 
--- the source of this name is not of type vector
-abbrev pub not_vector : List ℕ → Outcome
-not_vector source = refused (codes "open NotVector " ++ text_json source)
-
--- more cells than are allowed
-abbrev pub too_many_cells : ℕ → Outcome
-too_many_cells count = refused (codes "open CellLimit " ++ decimal count)
-
--- the zoom is not from 0 to 24
-abbrev pub no_zoom : Outcome
-no_zoom = refused (codes "open ZoomRange")
+abbrev pub not_opened : Fault → Outcome
+not_opened fault = refused (codes "open " ++ open_fault_text fault)

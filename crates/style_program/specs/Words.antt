@@ -16,6 +16,11 @@ pub record EvalWords : Type 0 where
   pub zoom : ℤ
   pub tiles : List TileWord
 
+-- what `replay` is given beside: the name of the file of a script
+pub record ReplayWords : Type 0 where
+  pub script : List ℕ
+  pub shown : EvalWords
+
 pub data Asked : Type 0 where
   -- the value of an expression, which is JSON text
   Value : (expression : List ℕ) → Asked
@@ -25,6 +30,8 @@ pub data Asked : Type 0 where
   Migrate : (style : List ℕ) → Asked
   -- what a style shows
   Eval : EvalWords → Asked
+  -- what it shows while it is edited by a script
+  Replay : ReplayWords → Asked
   Help : Asked
   Version : Asked
   -- words of no form
@@ -79,17 +86,37 @@ are_allowed tiles = are_allowed_after 0 [] tiles
 abbrev pub are_tiles : List (List ℕ) → Bool
 are_tiles words = are_pairs words && are_allowed (tile_words words)
 
--- the zoom is a decimal within the bound
-abbrev pub asked_eval : List ℕ → Result ℤ NumFault → List (List ℕ) → Asked
-asked_eval style (Ok zoom) tiles =
-    if are_tiles tiles then Eval (record { style = style; zoom = zoom; tiles = tile_words tiles }) else Wrong
-asked_eval style (Err fault) tiles = Wrong
+-- a style at a zoom, which is a decimal within the bound, over tiles
+abbrev pub shown_words : List ℕ → Result ℤ NumFault → List (List ℕ) → Option EvalWords
+shown_words style (Ok zoom) tiles =
+    if are_tiles tiles then Some (record { style = style; zoom = zoom; tiles = tile_words tiles }) else None
+shown_words style (Err fault) tiles = None
+
+abbrev pub asked_eval : Option EvalWords → Asked
+asked_eval (Some w) = Eval w
+asked_eval None = Wrong
+
+abbrev pub asked_replay : List ℕ → Option EvalWords → Asked
+asked_replay script (Some w) = Replay (record { script = script; shown = w })
+asked_replay script None = Wrong
+
+-- the script stands before the zoom
+abbrev pub asked_with_script : (style script : List ℕ) → List (List ℕ) → Asked
+asked_with_script style script (zoom ∷ tiles) = asked_replay script (shown_words style (read_text zoom) tiles)
+asked_with_script style script [] = Wrong
+
+-- `eval` has two words more and its tiles, and `replay` three and its tiles
+abbrev pub asked_of_more : (command style word : List ℕ) → List (List ℕ) → Asked
+asked_of_more command style word words =
+    if bytes_eq command (codes "eval") then asked_eval (shown_words style (read_text word) words) else
+    if bytes_eq command (codes "replay") then asked_with_script style word words else
+    Wrong
 
 -- `--help` and `--version` stand alone
 abbrev pub asked_alone : List ℕ → Asked
 asked_alone word = if bytes_eq word (codes "--help") then Help else if bytes_eq word (codes "--version") then Version else Wrong
 
--- `value`, `validate` and `migrate` have one word more, and `eval` two and its tiles
+-- `value`, `validate` and `migrate` have one word more
 abbrev pub asked_of_one : (command word : List ℕ) → Asked
 asked_of_one command word =
     if bytes_eq command (codes "value") then Value word else
@@ -100,5 +127,5 @@ asked_of_one command word =
 abbrev pub asked : List (List ℕ) → Asked
 asked (word ∷ []) = asked_alone word
 asked (command ∷ word ∷ []) = asked_of_one command word
-asked (command ∷ style ∷ zoom ∷ tiles) = if bytes_eq command (codes "eval") then asked_eval style (read_text zoom) tiles else Wrong
+asked (command ∷ style ∷ word ∷ words) = asked_of_more command style word words
 asked _ = Wrong

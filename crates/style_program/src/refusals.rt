@@ -1,10 +1,12 @@
 //! The lines on standard error that say why something is refused.
 
-ghost use Rattle.std.specs.Prelude.{◌≡◌, IfOk};
-ghost use Rattle.style_program.specs.Refusals.{outside, no_expression, no_type, tile_kind_name, no_tile, unknown_source, not_vector, too_many_cells, no_zoom};
+ghost use Rattle.std.specs.Prelude.{◌≡◌, ◌++◌, codes, decimal, IfOk, OnOk};
+ghost use Rattle.edit_session.specs.View.{fault_seen};
+ghost use Rattle.style_program.specs.Refusals.{outside, no_expression, no_type, tile_kind_name, no_tile, not_opened, open_fault_text};
 ghost use Rattle.program_runs.specs.Progress.{outcome_of};
 
 use decimal_json::{write_path, write_text};
+use edit_session::OpenFault;
 use expr_syntax::SynFault;
 use expr_types::TypeFault;
 use itoa::Buffer;
@@ -67,44 +69,42 @@ pub fn no_tile(
     answer_refused(alloc, line)
 }
 
-/// A source that the style does not have.
-pub fn unknown_source(alloc: Global, source: &str) -> Result<Answer, AllocError>
-    ensures { IfOk result (λ answer. outcome_of answer ≡ unknown_source source.now) }
+/// A style that cannot be opened over tiles.
+pub fn not_opened(alloc: Global, fault: &OpenFault<'_>) -> Result<Answer, AllocError>
+    ensures { IfOk result (λ answer. outcome_of answer ≡ not_opened (fault_seen fault.now)) }
 {
     let mut line = begin_refusal(alloc)?;
-    line.extend_from_slice(b"open UnknownSource ")?;
-    write_text(source, &mut line)?;
+    line.extend_from_slice(b"open ")?;
+    write_open_fault(fault, &mut line)?;
     answer_refused(alloc, line)
 }
 
-/// A source that is not of type vector.
-pub fn not_vector(alloc: Global, source: &str) -> Result<Answer, AllocError>
-    ensures { IfOk result (λ answer. outcome_of answer ≡ not_vector source.now) }
+fn write_open_fault(fault: &OpenFault<'_>, line: &mut Vec<u8>) -> Result<(), AllocError>
+    ensures { OnOk result (line.new.items ≡ line.old.items ++ open_fault_text (fault_seen fault.now)) }
 {
-    let mut line = begin_refusal(alloc)?;
-    line.extend_from_slice(b"open NotVector ")?;
-    write_text(source, &mut line)?;
-    answer_refused(alloc, line)
+    match fault {
+        OpenFault::Findings => line.extend_from_slice(b"Findings")?,
+        OpenFault::UnknownSource(source) => {
+            line.extend_from_slice(b"UnknownSource ")?;
+            write_text(source, line)?;
+        }
+        OpenFault::NotVector(source) => {
+            line.extend_from_slice(b"NotVector ")?;
+            write_text(source, line)?;
+        }
+        OpenFault::CellLimit(count) => write_cell_limit(*count, line)?,
+        OpenFault::ZoomRange => line.extend_from_slice(b"ZoomRange")?,
+    }
+    Ok(())
 }
 
-/// More cells than are allowed.
-pub fn too_many_cells(alloc: Global, count: u128) -> Result<Answer, AllocError>
-    ensures { IfOk result (λ answer. outcome_of answer ≡ too_many_cells count) }
+fn write_cell_limit(count: u128, line: &mut Vec<u8>) -> Result<(), AllocError>
+    ensures { OnOk result (line.new.items ≡ line.old.items ++ (codes "CellLimit " ++ decimal count)) }
 {
     let mut digits = Buffer::new();
-    let mut line = begin_refusal(alloc)?;
-    line.extend_from_slice(b"open CellLimit ")?;
+    line.extend_from_slice(b"CellLimit ")?;
     line.extend_from_slice(digits.format(count).as_bytes())?;
-    answer_refused(alloc, line)
-}
-
-/// A zoom that is not from 0 to 24.
-pub fn no_zoom(alloc: Global) -> Result<Answer, AllocError>
-    ensures { IfOk result (λ answer. outcome_of answer ≡ no_zoom) }
-{
-    let mut line = begin_refusal(alloc)?;
-    line.extend_from_slice(b"open ZoomRange")?;
-    answer_refused(alloc, line)
+    Ok(())
 }
 
 fn tile_kind_name(kind: TileKind) -> &'static [u8]

@@ -39,31 +39,31 @@ pub fn run_style<F: Files, O: Sink, E: Sink, L: Ledger>(
         Still (F.faults files.old) (F.faults files.new) →
         Still (O.faults out.old) (O.faults out.new) →
         Still (E.faults err.old) (E.faults err.new) →
-        Completes (F.told files.old) (run_of (test images) (test scripts) (map string_bytes words.now)) result
+        Completes (F.told files.old) (run_of (test images) (test scripts) (changes images) (map string_bytes words.now)) result
         (O.held out.old) (O.held out.new) (E.held err.old) (E.held err.new) }
 
     // So it is after every answer but three, whatever the counts of faults.
     ensures completes { result ≢ Status.NoMemory →
         result ≢ Status.ReadFault →
         result ≢ Status.WriteFault →
-        Completes (F.told files.old) (run_of (test images) (test scripts) (map string_bytes words.now)) result
+        Completes (F.told files.old) (run_of (test images) (test scripts) (changes images) (map string_bytes words.now)) result
         (O.held out.old) (O.held out.new) (E.held err.old) (E.held err.new) }
 
     // Where `value` ends in a fault, typing had listed it.
     ensures listed { result ≡ Status.Found → ListsItsFault (test images) (test scripts) (asked (map string_bytes words.now)) }
 
     // In every run what is written is a prefix of what is defined, or of the line of a read that failed.
-    ensures out_front { OutFront (F.told files.old) (run_of (test images) (test scripts) (map string_bytes words.now))
+    ensures out_front { OutFront (F.told files.old) (run_of (test images) (test scripts) (changes images) (map string_bytes words.now))
         (O.held out.old) (O.held out.new) }
-    ensures err_front { ErrFront (F.told files.old) (run_of (test images) (test scripts) (map string_bytes words.now))
+    ensures err_front { ErrFront (F.told files.old) (run_of (test images) (test scripts) (changes images) (map string_bytes words.now))
         (F.faults files.old) (F.faults files.new) (F.failed files.new) (E.held err.old) (E.held err.new) }
 
     // A read fault has its cause and its line, and a write fault has its cause.
     ensures read_fault { result ≡ Status.ReadFault → (name : List ℕ)
-        × ReadFails (F.told files.old) (run_of (test images) (test scripts) (map string_bytes words.now)) (F.faults files.old) (F.faults files.new) (F.failed files.new) name
+        × ReadFails (F.told files.old) (run_of (test images) (test scripts) (changes images) (map string_bytes words.now)) (F.faults files.old) (F.faults files.new) (F.failed files.new) name
         × Gains (O.held out.old) (O.held out.new) []
         × Gains (E.held err.old) (E.held err.new) (unread_line name) }
-    ensures write_fault { result ≡ Status.WriteFault → WriteFails (F.told files.old) (run_of (test images) (test scripts) (map string_bytes words.now))
+    ensures write_fault { result ≡ Status.WriteFault → WriteFails (F.told files.old) (run_of (test images) (test scripts) (changes images) (map string_bytes words.now))
         (F.faults files.old) (F.faults files.new) (F.failed files.new)
         (O.faults out.old) (O.faults out.new) (E.faults err.old) (E.faults err.new) }
 
@@ -72,12 +72,13 @@ pub fn run_style<F: Files, O: Sink, E: Sink, L: Ledger>(
     ensures writes { result ≢ Status.WriteFault →
         (O.faults out.new ≡ O.faults out.old) × (E.faults err.new ≡ E.faults err.old) }
 
-    // Only `eval`, `validate` and `migrate` read files, and no command counts a step so far.
+    // Only `validate`, `migrate`, `eval` and `replay` read files, and no command counts a step so far.
     ensures told { F.told files.new ≡ F.told files.old }
-    ensures files { IsFileless (run_of (test images) (test scripts) (map string_bytes words.now)) → files.new ≡ files.old }
+    ensures files { IsFileless (run_of (test images) (test scripts) (changes images) (map string_bytes words.now)) → files.new ≡ files.old }
     ensures steps { steps.new ≡ steps.old }
 {
-    run_with(alloc, words, files, out, err, &*images, &*scripts)
+    let mut images = images;
+    run_with(alloc, words, files, out, err, &mut *images, &*scripts)
 }
 
 // The same over tests that are lent.
@@ -87,25 +88,25 @@ fn run_with<F: Files, O: Sink, E: Sink>(
     files: &mut F,
     out: &mut O,
     err: &mut E,
-    images: &dyn HostOp,
+    images: &mut dyn HostOp,
     scripts: &dyn HostOp,
 ) -> Status
     ensures completes { result ≢ Status.NoMemory →
         result ≢ Status.ReadFault →
         result ≢ Status.WriteFault →
-        Completes (F.told files.old) (run_of (test images.now) (test scripts.now) (map string_bytes words.now)) result
+        Completes (F.told files.old) (run_of (test images.old) (test scripts.now) (changes images.old) (map string_bytes words.now)) result
         (O.held out.old) (O.held out.new) (E.held err.old) (E.held err.new) }
-    ensures listed { result ≡ Status.Found → ListsItsFault (test images.now) (test scripts.now) (asked (map string_bytes words.now)) }
-    ensures out_front { OutFront (F.told files.old) (run_of (test images.now) (test scripts.now) (map string_bytes words.now))
+    ensures listed { result ≡ Status.Found → ListsItsFault (test images.old) (test scripts.now) (asked (map string_bytes words.now)) }
+    ensures out_front { OutFront (F.told files.old) (run_of (test images.old) (test scripts.now) (changes images.old) (map string_bytes words.now))
         (O.held out.old) (O.held out.new) }
-    ensures err_front { ErrFront (F.told files.old) (run_of (test images.now) (test scripts.now) (map string_bytes words.now))
+    ensures err_front { ErrFront (F.told files.old) (run_of (test images.old) (test scripts.now) (changes images.old) (map string_bytes words.now))
         (F.faults files.old) (F.faults files.new) (F.failed files.new) (E.held err.old) (E.held err.new) }
 
     ensures read_fault { result ≡ Status.ReadFault → (name : List ℕ)
-        × ReadFails (F.told files.old) (run_of (test images.now) (test scripts.now) (map string_bytes words.now)) (F.faults files.old) (F.faults files.new) (F.failed files.new) name
+        × ReadFails (F.told files.old) (run_of (test images.old) (test scripts.now) (changes images.old) (map string_bytes words.now)) (F.faults files.old) (F.faults files.new) (F.failed files.new) name
         × Gains (O.held out.old) (O.held out.new) []
         × Gains (E.held err.old) (E.held err.new) (unread_line name) }
-    ensures write_fault { result ≡ Status.WriteFault → WriteFails (F.told files.old) (run_of (test images.now) (test scripts.now) (map string_bytes words.now))
+    ensures write_fault { result ≡ Status.WriteFault → WriteFails (F.told files.old) (run_of (test images.old) (test scripts.now) (changes images.old) (map string_bytes words.now))
         (F.faults files.old) (F.faults files.new) (F.failed files.new)
         (O.faults out.old) (O.faults out.new) (E.faults err.old) (E.faults err.new) }
 
@@ -113,7 +114,7 @@ fn run_with<F: Files, O: Sink, E: Sink>(
     ensures writes { result ≢ Status.WriteFault →
         (O.faults out.new ≡ O.faults out.old) × (E.faults err.new ≡ E.faults err.old) }
     ensures told { F.told files.new ≡ F.told files.old }
-    ensures files { IsFileless (run_of (test images.now) (test scripts.now) (map string_bytes words.now)) → files.new ≡ files.old }
+    ensures files { IsFileless (run_of (test images.old) (test scripts.now) (changes images.old) (map string_bytes words.now)) → files.new ≡ files.old }
 {
     faults_are_listed();
     let request = request_of(words);
@@ -132,16 +133,16 @@ fn settled<'a, F: Files>(
     alloc: Global,
     request: &Request<'a>,
     files: &mut F,
-    images: &dyn HostOp,
+    images: &mut dyn HostOp,
     scripts: &dyn HostOp,
 ) -> Result<Answer, Stop<'a>>
     ensures told { F.told files.new ≡ F.told files.old }
     ensures failed { OnOk result (NoneFailed (F.faults files.old) (F.faults files.new) (F.failed files.old) (F.failed files.new)) }
-    ensures fileless { IsFileless (asked_run (test images.now) (test scripts.now) (asked_by request.now)) → files.new ≡ files.old }
+    ensures fileless { IsFileless (asked_run (test images.old) (test scripts.now) (changes images.old) (asked_by request.now)) → files.new ≡ files.old }
     ensures answer { IfOk result (λ answer.
-        HasOutcome (F.told files.old) (asked_run (test images.now) (test scripts.now) (asked_by request.now)) (outcome_of answer)) }
+        HasOutcome (F.told files.old) (asked_run (test images.old) (test scripts.now) (changes images.old) (asked_by request.now)) (outcome_of answer)) }
     ensures stop { IfErr result (λ stop.
-        IsStop (F.told files.old) (asked_run (test images.now) (test scripts.now) (asked_by request.now))
+        IsStop (F.told files.old) (asked_run (test images.old) (test scripts.now) (changes images.old) (asked_by request.now))
         (F.faults files.old) (F.faults files.new) (F.failed files.old) (F.failed files.new) stop) }
 {
     match answer_to(alloc, request, files, images, scripts) {

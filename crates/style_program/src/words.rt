@@ -1,8 +1,7 @@
-ghost use Rattle.std.specs.Prelude.{◌≡◌, ◌+◌, ◌^◌, ◌<◌, ◌≤◌, false, length, map, string_bytes, IfSome, IfNone, option_map, codes, if◌then◌else◌};
-ghost use Rattle.std.specs.Str.{bytes_eq};
+ghost use Rattle.std.specs.Prelude.{◌≡◌, ◌+◌, ◌^◌, ◌<◌, ◌≤◌, false, length, map, string_bytes, IfSome, IfNone, option_map};
 ghost use Rattle.fixed_num.specs.Decimal.{read_text};
-ghost use Rattle.style_program.specs.Words.{Wrong, asked, asked_alone, asked_of_one, asked_eval, source_and_tile, are_tiles, are_pairs, are_allowed, is_allowed, with_source, count_of, tile_words};
-ghost use Rattle.style_program.specs.WordsView.{asked_by, is_tile_of, are_allowed_from};
+ghost use Rattle.style_program.specs.Words.{asked, asked_alone, asked_of_one, asked_of_more, asked_with_script, shown_words, source_and_tile, are_tiles, are_pairs, are_allowed, is_allowed, with_source, count_of, tile_words};
+ghost use Rattle.style_program.specs.WordsView.{asked_by, eval_words, is_tile_of, are_allowed_from};
 
 use fixed_num::{Fixed, read_decimal};
 
@@ -12,6 +11,13 @@ pub struct EvalRequest<'a> {
     pub style: &'a str,
     pub zoom: Fixed,
     pub tiles: &'a [String],
+}
+
+/// What `replay` is given: the name of the file of a script, and what `eval` is given.
+#[derive(Clone, Copy, Debug)]
+pub struct ReplayRequest<'a> {
+    pub script: &'a str,
+    pub shown: EvalRequest<'a>,
 }
 
 /// What the words ask for.
@@ -25,6 +31,8 @@ pub enum Request<'a> {
     Migrate(&'a str),
     /// What a style shows.
     Eval(EvalRequest<'a>),
+    /// What it shows while it is edited by a script.
+    Replay(ReplayRequest<'a>),
     Help,
     Version,
     /// Nothing that the program knows.
@@ -38,8 +46,8 @@ pub fn request_of(words: &[String]) -> Request<'_>
     match words {
         [word] => request_alone(word.as_str()),
         [command, word] => request_of_one(command.as_str(), word.as_str()),
-        [command, style, zoom, tiles @ ..] => {
-            request_eval(command.as_str(), style.as_str(), zoom.as_str(), tiles)
+        [command, style, word, words @ ..] => {
+            request_of_more(command.as_str(), style.as_str(), word.as_str(), words)
         }
         _ => Request::Wrong,
     }
@@ -66,19 +74,46 @@ fn request_of_one<'a>(command: &str, word: &'a str) -> Request<'a>
     }
 }
 
-fn request_eval<'a>(command: &str, style: &'a str, zoom: &str, tiles: &'a [String]) -> Request<'a>
-    ensures { asked_by result ≡ (if bytes_eq command.now (codes "eval") then asked_eval style.now (read_text zoom.now) (map string_bytes tiles.now) else Wrong) }
+fn request_of_more<'a>(
+    command: &str,
+    style: &'a str,
+    word: &'a str,
+    words: &'a [String],
+) -> Request<'a>
+    ensures { asked_by result ≡ asked_of_more command.now style.now word.now (map string_bytes words.now) }
 {
-    if command != "eval" {
-        return Request::Wrong;
+    match command {
+        "eval" => match shown_request(style, word, words) {
+            Some(request) => Request::Eval(request),
+            None => Request::Wrong,
+        },
+        "replay" => request_replay(style, word, words),
+        _ => Request::Wrong,
     }
-    let Ok(zoom) = read_decimal(zoom.as_bytes()) else {
+}
+
+fn request_replay<'a>(style: &'a str, script: &'a str, words: &'a [String]) -> Request<'a>
+    ensures { asked_by result ≡ asked_with_script style.now script.now (map string_bytes words.now) }
+{
+    let [zoom, tiles @ ..] = words else {
         return Request::Wrong;
     };
-    if !are_tiles(tiles) {
-        return Request::Wrong;
+    match shown_request(style, zoom.as_str(), tiles) {
+        Some(shown) => Request::Replay(ReplayRequest { script, shown }),
+        None => Request::Wrong,
     }
-    Request::Eval(EvalRequest { style, zoom, tiles })
+}
+
+fn shown_request<'a>(style: &'a str, zoom: &str, tiles: &'a [String]) -> Option<EvalRequest<'a>>
+    ensures { option_map eval_words result ≡ shown_words style.now (read_text zoom.now) (map string_bytes tiles.now) }
+{
+    let Ok(zoom) = read_decimal(zoom.as_bytes()) else {
+        return None;
+    };
+    if !are_tiles(tiles) {
+        return None;
+    }
+    Some(EvalRequest { style, zoom, tiles })
 }
 
 fn are_tiles(words: &[String]) -> bool

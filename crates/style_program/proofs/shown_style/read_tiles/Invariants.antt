@@ -4,10 +4,10 @@ use Rattle.program_runs.specs.Progress.{LeadsTo}
 use Rattle.program_runs.specs.Runs.{Run}
 use Rattle.style_layout.specs.CodeView.{tile_seen}
 use Rattle.style_layout.specs.Shown.{SourceTile}
-use Rattle.style_program.specs.EvalRun.{tiles_part}
+use Rattle.style_program.specs.ShownRun.{tiles_part}
 use Rattle.style_program.specs.TileRunView.{tiles_from}
 use Rattle.style_program.specs.Words.{tile_words}
-use Rattle.style_program.proofs.eval_command.read_tiles.Given as goal
+use Rattle.style_program.proofs.shown_style.read_tiles.Given as goal
 
 abbrev pub invariant-loop-i : goal.invariant-loop-i
 invariant-loop-i g l = record {

@@ -5,7 +5,7 @@ use Rattle.program_runs.proofs.Going.{at_residual}
 use Rattle.style_layout.specs.CodeView.{tile_seen}
 use Rattle.style_program.specs.TileRunView.{tiles_from}
 use Rattle.style_program.proofs.TileRuns.{leads_over, leads_turn, halts_turn}
-use Rattle.style_program.proofs.eval_command.read_next.Goals as goal
+use Rattle.style_program.proofs.shown_style.read_next.Goals as goal
 
 pub returns-in_default-clause-on : goal.returns-in_default-clause-on
 returns-in_default-clause-on g c =

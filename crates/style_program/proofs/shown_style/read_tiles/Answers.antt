@@ -3,10 +3,10 @@ use Rattle.std.proofs.lemmas.List.{drop_all}
 use Rattle.program_runs.specs.Progress.{Halts, HaltsAt, LeadsTo}
 use Rattle.program_runs.proofs.Going.{at_residual, halts_on}
 use Rattle.style_layout.specs.CodeView.{tile_seen}
-use Rattle.style_program.specs.EvalRun.{tiles_after, tiles_part}
+use Rattle.style_program.specs.ShownRun.{tiles_after, tiles_part}
 use Rattle.style_program.specs.TileRunView.{tiles_from}
 use Rattle.style_program.specs.Words.{tile_words}
-use Rattle.style_program.proofs.eval_command.read_tiles.Goals as goal
+use Rattle.style_program.proofs.shown_style.read_tiles.Goals as goal
 
 pub returns-in_err-left-clause-halt : goal.returns-in_err-left-clause-halt
 returns-in_err-left-clause-halt g c =

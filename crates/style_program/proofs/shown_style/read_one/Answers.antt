@@ -3,8 +3,8 @@ use Rattle.program_runs.specs.Progress.{Halts}
 use Rattle.program_runs.specs.Refusals.{too_long, tile_text, tile_number}
 use Rattle.program_runs.specs.Runs.{reads}
 use Rattle.program_runs.proofs.Going.{halts_first, goes_both, halts_second, at_residual}
-use Rattle.style_program.specs.EvalRun.{tile_from, tile_part}
-use Rattle.style_program.proofs.eval_command.read_one.Goals as goal
+use Rattle.style_program.specs.ShownRun.{tile_from, tile_part}
+use Rattle.style_program.proofs.shown_style.read_one.Goals as goal
 
 pub returns-clause-on : goal.returns-clause-on
 returns-clause-on g c =

@@ -1,9 +1,0 @@
-use Rattle.std.proofs.Common.{◌≡◌, drop, map}
-use Rattle.decimal_json.specs.View.{tree_of}
-use Rattle.style_layout.specs.CodeView.{tile_seen}
-use Rattle.style_program.specs.EvalRun.{first_failing, has_source}
-use Rattle.style_program.proofs.eval_command.first_unknown.Given as goal
-
-abbrev pub invariant-loop-tile : goal.invariant-loop-tile
-invariant-loop-tile l =
-    first_failing (has_source (tree_of l.style)) (map tile_seen (drop l.tile-index l.tiles)) ≡ first_failing (has_source (tree_of l.style)) (map tile_seen l.tiles)
