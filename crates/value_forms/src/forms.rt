@@ -1,0 +1,73 @@
+//! What the value of a property is.
+
+ghost use Rattle.std.specs.Prelude.{◌≡◌};
+ghost use Rattle.decimal_json.specs.Tree.{list};
+ghost use Rattle.decimal_json.specs.View.{tree_of, trees};
+ghost use Rattle.property_tables.specs.RowView.{row_seen};
+ghost use Rattle.property_tables.specs.Rows.{takes_tokens};
+ghost use Rattle.value_forms.specs.Forms.{form_of, is_expression, is_token_text};
+
+use decimal_json::Json;
+use expr_syntax::operator_named;
+use legacy_functions::has_tokens;
+use property_tables::Row;
+
+/// What the value of a property is, well formed or not.
+#[derive(Clone, Copy, Debug, PartialEq, Eq)]
+pub enum Form {
+    /// A non-empty array whose first item is the name of an operator.
+    Expression,
+    /// An object.
+    Function,
+    /// A text with tokens, where the property takes them.
+    TokenText,
+    Literal,
+}
+
+/// The form of a value of a row. `visibility` takes a literal alone.
+pub fn form_of(row: &Row, json: &Json) -> Form
+    requires { row.now.tokens ≡ takes_tokens row.now.name.now }
+    ensures { result ≡ form_of (row_seen row.now) (tree_of json.now) }
+{
+    if row.name == "visibility" {
+        return Form::Literal;
+    }
+    if is_expression(json) {
+        return Form::Expression;
+    }
+    if json.is_object() {
+        return Form::Function;
+    }
+    if is_token_text(row, json) {
+        return Form::TokenText;
+    }
+    Form::Literal
+}
+
+fn is_expression(json: &Json) -> bool
+    ensures { result ≡ is_expression (tree_of json.now) }
+{
+    match json {
+        Json::List(items) => is_call(items.as_slice()),
+        _ => false,
+    }
+}
+
+fn is_call(items: &[Json]) -> bool
+    ensures { result ≡ is_expression (list (trees items.now)) }
+{
+    match items {
+        [Json::Text(name), ..] => operator_named(name.as_str()).is_some(),
+        _ => false,
+    }
+}
+
+fn is_token_text(row: &Row, json: &Json) -> bool
+    requires { row.now.tokens ≡ takes_tokens row.now.name.now }
+    ensures { result ≡ is_token_text (row_seen row.now) (tree_of json.now) }
+{
+    match json {
+        Json::Text(text) => row.tokens && has_tokens(text.as_str()),
+        _ => false,
+    }
+}
