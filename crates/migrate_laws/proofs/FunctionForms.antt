@@ -25,7 +25,7 @@ use Rattle.legacy_functions.proofs.SoundFunctions.{read_is_sound}
 use Rattle.legacy_laws.specs.LegacyFunctionLaw.{IsTableRow}
 use Rattle.legacy_laws.proofs.TableRows.{is_property_want, IsRegular, table_rows}
 use Rattle.legacy_laws.proofs.FunctionProperties.{GoesBy, read_goes}
-use Rattle.style_rules.specs.Values.{is_expression, is_token_text, target_of}
+use Rattle.value_forms.specs.Forms.{is_expression, is_token_text, target_of}
 
 -- ---- a literal of a row of the table is no object
 

@@ -11,8 +11,8 @@ use Rattle.listing_text.specs.declared.show.Show.{Show}
 use Rattle.listing_text.specs.declared.show.Show.TheVariants.{Plain, Hidden, Unread, OutsideFilter}
 use Rattle.stable_order.specs.InOrder.{in_order}
 use Rattle.stable_order.specs.Keys.{key_before}
-use Rattle.style_rules.specs.Ground.{is_unread_type}
-use Rattle.style_rules.specs.Parts.{then_some}
+use Rattle.value_forms.specs.LayerTypes.{is_unread_type}
+use Rattle.std.specs.Option.{option_and_then}
 use Rattle.style_layout.specs.Forms.{Scene, Property, outcome_of, FilterSource}
 use Rattle.style_layout.specs.Layers.{StyleLayer, layer_properties, feature_properties, sort_row, property_named}
 use Rattle.style_layout.specs.Layers.{sort_property, is_hidden, shown_plainly, show_of}
@@ -84,7 +84,7 @@ named_alike name (p ∷ ps) (q ∷ qs) h =
 
 sorting_alike : (row : Option (List ℕ)) (ps qs : List Property) → AreListedAs ps qs
     → BothAreListed
-    (then_some row (λ name. property_named name ps)) (then_some row (λ name. property_named name qs))
+    (option_and_then (λ name. property_named name ps) row) (option_and_then (λ name. property_named name qs) row)
 sorting_alike (Some name) ps qs h = named_alike name ps qs h
 sorting_alike None ps qs h = tt
 
