@@ -3,16 +3,16 @@ use Rattle.std.proofs.Common.{◌≡◌, ◌∙◌, ℕ, List, [], ◌∷◌, �
 use Rattle.std.specs.List.{AllZip}
 use Rattle.std.specs.Prelude.{Bool, not, cond, filter, Option, Some, None, if◌then◌else◌}
 use Rattle.std.specs.Str.{bytes_eq}
+use Rattle.std.specs.Option.{option_and_then}
 use Rattle.fixed_num.specs.Number.{floor_of}
 use Rattle.property_tables.specs.Rows.{RowData}
 use Rattle.tile_reader.specs.declared.tile.Feature.{Feature}
 use Rattle.eval_face.specs.World.{no_feature}
+use Rattle.value_forms.specs.LayerTypes.{is_unread_type}
 use Rattle.listing_text.specs.declared.show.Show.{Show}
 use Rattle.listing_text.specs.declared.show.Show.TheVariants.{Plain, Hidden, Unread, OutsideFilter}
 use Rattle.stable_order.specs.InOrder.{in_order}
 use Rattle.stable_order.specs.Keys.{key_before}
-use Rattle.value_forms.specs.LayerTypes.{is_unread_type}
-use Rattle.std.specs.Option.{option_and_then}
 use Rattle.style_layout.specs.Forms.{Scene, Property, outcome_of, FilterSource}
 use Rattle.style_layout.specs.Layers.{StyleLayer, layer_properties, feature_properties, sort_row, property_named}
 use Rattle.style_layout.specs.Layers.{sort_property, is_hidden, shown_plainly, show_of}

@@ -2,15 +2,15 @@
 use Rattle.std.proofs.Common.{◌≡◌, ◌∙◌, ℕ, List, [], ◌∷◌, refl, ap, sym, false}
 use Rattle.std.specs.Prelude.{codes, Option, Some, None, option_map}
 use Rattle.std.specs.Str.{bytes_eq}
+use Rattle.std.specs.Option.{option_and_then}
 use Rattle.decimal_json.specs.Tree.{Tree, null, boolean, number, text, list, object}
+use Rattle.decimal_json.specs.Accessors.{member, text_in, text_at, fields_in, trees_in}
 use Rattle.property_tables.specs.Rows.{RowData, row_of}
 use Rattle.property_tables.specs.declared.layer_type.LayerType.{LayerType}
 use Rattle.property_tables.specs.declared.property_row.Place.{Place}
 use Rattle.property_tables.specs.declared.property_row.Place.TheVariants.{Layout, Paint}
-use Rattle.value_forms.specs.LayerTypes.{layer_type, tested_type, place_named}
-use Rattle.std.specs.Option.{option_and_then}
-use Rattle.decimal_json.specs.Accessors.{member, text_in, text_at, fields_in, trees_in}
 use Rattle.style_parts.specs.Parts.{is_among, layers_of}
+use Rattle.value_forms.specs.LayerTypes.{layer_type, tested_type, place_named}
 use Rattle.style_migrate.specs.Migrated.{mapped_items, with_values, value_of_row, migrated_property}
 use Rattle.style_migrate.specs.Migrated.{migrated_properties, migrated_member, migrated_layer}
 use Rattle.style_migrate.specs.Migrated.{migrated_part, migrated}

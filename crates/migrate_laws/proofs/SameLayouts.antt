@@ -1,18 +1,18 @@
 -- A migrated document has the layout that the document has.
 use Rattle.std.proofs.Common.{◌≡◌, ◌∙◌, ℕ, List, [], ◌∷◌, map, refl, ap, sym, subst, true, false}
 use Rattle.std.specs.Prelude.{Bool, codes, flat_map, Option, Some, None, option_map, if◌then◌else◌}
+use Rattle.std.specs.Option.{option_and_then}
 use Rattle.decimal_json.specs.Tree.{Tree, Trees, no_trees, tree}
+use Rattle.decimal_json.specs.Accessors.{member, text_in}
 use Rattle.prop_values.specs.Data.{Data}
 use Rattle.property_tables.specs.Rows.{RowData, rows_of}
 use Rattle.property_tables.specs.TableLaws.{TableKeepsRules}
 use Rattle.property_tables.specs.declared.layer_type.LayerType.{LayerType}
-use Rattle.legacy_laws.specs.LegacyFunctionLaw.{IsTableRow}
-use Rattle.listing_text.specs.Layout.{LayerOut}
-use Rattle.value_forms.specs.LayerTypes.{is_unread_type, layer_type, tested_type}
-use Rattle.std.specs.Option.{option_and_then}
-use Rattle.decimal_json.specs.Accessors.{member, text_in}
 use Rattle.style_parts.specs.Numbers.{number_in}
 use Rattle.style_parts.specs.Parts.{layers_of}
+use Rattle.value_forms.specs.LayerTypes.{is_unread_type, layer_type, tested_type}
+use Rattle.legacy_laws.specs.LegacyFunctionLaw.{IsTableRow}
+use Rattle.listing_text.specs.Layout.{LayerOut}
 use Rattle.style_migrate.specs.Migrated.{mapped_items, value_of_row, migrated_value}
 use Rattle.style_migrate.specs.Migrated.{migrated_member, migrated_layer}
 use Rattle.style_layout.specs.Forms.{Scene, Property, property_of, reads_feature, FilterSource, filter_source}

@@ -6,25 +6,25 @@ use Rattle.std.proofs.lemmas.Slice.Eq.{bytes_eq-Decides}
 use Rattle.std.specs.Prelude.{Bool, not, ◌&&◌, ◌||◌, if◌then◌else◌, codes, nat_le}
 use Rattle.std.specs.Prelude.{Option, Some, None, is_some, option_map}
 use Rattle.std.specs.Str.{bytes_eq}
+use Rattle.std.specs.Option.{option_and_then}
 use Rattle.decimal_json.specs.Sound.{members_of}
 use Rattle.decimal_json.specs.Tree.{Tree, null, boolean, number, text, list, object, Trees, no_trees, tree}
 use Rattle.decimal_json.specs.Tree.{Fields, HasDistinctKeys}
 use Rattle.decimal_json.specs.declared.paths.PathPart.{PathPart}
 use Rattle.decimal_json.specs.declared.paths.PathPart.TheVariants.{Key, Index}
+use Rattle.decimal_json.specs.Accessors.{member, has, is_object, text_in, fields_in}
 use Rattle.property_tables.specs.Rows.{RowData, row_of}
 use Rattle.property_tables.specs.declared.layer_type.LayerType.{LayerType}
 use Rattle.property_tables.specs.declared.property_row.Place.{Place}
 use Rattle.property_tables.specs.declared.property_row.Place.TheVariants.{Layout, Paint}
-use Rattle.style_rules.specs.Findings.{told, told_or}
+use Rattle.style_parts.specs.Parts.{equals_id, layers_of, sources_of, is_layers}
 use Rattle.value_forms.specs.LayerTypes.{layer_type, tested_type, place_named}
+use Rattle.style_rules.specs.Findings.{told, told_or}
 use Rattle.style_rules.specs.Ground.{Ground, sources_for, named_type, ground_of}
 use Rattle.style_rules.specs.Levels.{fields_told, fields_or_none, items_or_none, property_told, member_told}
 use Rattle.style_rules.specs.Levels.{grounded_told, layer_told, layers_told, named_told}
 use Rattle.style_rules.specs.Levels.{document_told, WalksByLevels}
-use Rattle.std.specs.Option.{option_and_then}
-use Rattle.decimal_json.specs.Accessors.{member, has, is_object, text_in, fields_in}
 use Rattle.style_rules.specs.Places.{unless_broken, least_broken, root_mark, root_member_mark}
-use Rattle.style_parts.specs.Parts.{equals_id, layers_of, sources_of, is_layers}
 use Rattle.style_rules.specs.Places.{properties_mark, row_mark, used_in}
 use Rattle.style_rules.specs.Rules.{is_on_vector, count_of}
 use Rattle.style_migrate.specs.Migrated.{mapped_fields, mapped_items, with_values, with_items, value_of_row}
