@@ -1,6 +1,6 @@
 -- What an edit of layers or of states gives.
-use Rattle.std.proofs.Common.{◌≡◌, ℕ, List, refl, ap, sym, ◌∙◌, Bool, true}
-use Rattle.std.specs.Prelude.{Option, Some, None, option_map, if◌then◌else◌}
+use Rattle.std.proofs.Common.{◌≡◌, ℕ, List, [], ◌∷◌, map, refl, ap, sym, ◌∙◌, Bool, true}
+use Rattle.std.specs.Prelude.{slice_get, Option, Some, None, option_map, if◌then◌else◌}
 use Rattle.std.specs.Option.{option_or}
 use Rattle.decimal_json.specs.Tree.{Tree}
 use Rattle.edit_script.specs.Edit as edits
@@ -13,10 +13,18 @@ use Rattle.style_edits.specs.Edited.{edited}
 use Rattle.style_edits.specs.Faults.{edit_fault}
 use Rattle.style_edits.specs.declared.faults.EditFault.{EditFault}
 use Rattle.style_layout.specs.Shown.{SourceTile}
-use Rattle.edit_session.specs.Applied.{States, done, refused, refusal_of, whole_refusal, unless_refused, applied}
+use Rattle.style_rules.specs.CodeView.{finding_seen}
+use Rattle.style_rules.specs.declared.lists.Finding.{Finding}
+use Rattle.edit_session.specs.Applied.{States, first_finding, done, refused, refusal_of, whole_refusal, unless_refused, applied}
 use Rattle.edit_session.specs.Presentation.{Presentation}
 use Rattle.edit_session.specs.View.{edits_layers}
 use Rattle.edit_session.specs.declared.answer.Refusal.{Refusal}
+use Rattle.edit_session.specs.declared.answer.Refusal.TheVariants.{Finding as Refused}
+
+-- the refusal by the first finding
+pub first_refused : (fs : List Finding) → first_finding (map finding_seen fs) ≡ option_map Refused (slice_get fs 0)
+first_refused [] = refl
+first_refused (f ∷ fs) = refl
 
 -- no cause holds
 accepted : (fault : Option EditFault) (whole : Option Refusal) (before after : Presentation) → fault ≡ None → whole ≡ None

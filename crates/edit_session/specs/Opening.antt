@@ -1,25 +1,24 @@
 -- Why a session over a document and tiles cannot be opened: the first cause that holds, in their order.
 use Rattle.std.specs.Prelude.{ℕ, ℤ, List, [], ◌∷◌, codes, Bool, not, nat_le, Option, Some, None, is_some, if◌then◌else◌}
+use Rattle.std.specs.Option.{option_and_then}
 use Rattle.decimal_json.specs.Tree.{Tree}
 use Rattle.decimal_json.specs.declared.paths.PathPart.{PathPart}
-use Rattle.style_edits.specs.Faults.{is_zoom}
+use Rattle.decimal_json.specs.Accessors.{text_at}
+use Rattle.style_parts.specs.Numbers.{is_zoom}
+use Rattle.style_parts.specs.Parts.{is_among, source_at}
 use Rattle.style_layout.specs.Globals.{globals_of}
 use Rattle.style_layout.specs.Layers.{style_layers}
 use Rattle.style_layout.specs.Shown.{SourceTile}
 use Rattle.style_layout.specs.StyleLayout.{cell_count}
 use Rattle.style_rules.specs.Findings.{findings}
-use Rattle.style_rules.specs.Parts.{then_some, member, text_at, is_among}
 
 -- ---- the sources of a style
-
-abbrev pub source_at : Tree → List ℕ → Option Tree
-source_at document name = then_some (member (codes "sources") document) (member name)
 
 abbrev pub has_source : Tree → List ℕ → Bool
 has_source document name = is_some (source_at document name)
 
 abbrev pub is_vector : Tree → List ℕ → Bool
-is_vector document name = is_among (codes "vector" ∷ []) (then_some (source_at document name) (text_at (codes "type")))
+is_vector document name = is_among (codes "vector" ∷ []) (option_and_then (text_at (codes "type")) (source_at document name))
 
 -- the source of the first tile whose source fails a test
 abbrev pub first_failing : (List ℕ → Bool) → List SourceTile → Option (List ℕ)

@@ -2,14 +2,13 @@
 
 ghost use Rattle.std.specs.Prelude.{◌≡◌, map, option_map};
 ghost use Rattle.decimal_json.specs.View.{tree_of};
-ghost use Rattle.edit_session.specs.Opening.{first_failing, has_source, is_vector, source_at};
-ghost use Rattle.style_edits.specs.Faults.{is_zoom};
-ghost use Rattle.std.specs.Prelude.{Some};
-ghost use Rattle.style_layout.specs.CodeView.{tile_seen, tree_at};
+ghost use Rattle.style_parts.specs.Parts.{source_at};
+ghost use Rattle.edit_session.specs.Opening.{first_failing, has_source, is_vector};
+ghost use Rattle.style_layout.specs.CodeView.{tile_seen};
 
 use decimal_json::Json;
-use fixed_num::Fixed;
 use style_layout::SourceTile;
+use style_parts::source_at;
 
 /// Why a session cannot be opened, in the order in which the causes are looked for.
 #[derive(Clone, Copy, Debug, PartialEq, Eq)]
@@ -28,9 +27,6 @@ pub enum OpenFault<'a> {
 
 /// The most cells that a style may have over the tiles of a session.
 pub const CELL_LIMIT: u128 = 8_000_000;
-
-/// The greatest zoom, in millionths.
-const MOST_ZOOM: i128 = 24_000_000;
 
 pub(crate) fn first_unknown<'a>(style: &Json, tiles: &[SourceTile<'a>]) -> Option<&'a str>
     ensures { option_map (λ source. source.now) result ≡ first_failing (has_source (tree_of style.now)) (map tile_seen tiles.now) }
@@ -54,32 +50,14 @@ pub(crate) fn first_of_no_vector<'a>(style: &Json, tiles: &[SourceTile<'a>]) -> 
     None
 }
 
-fn source_at<'a>(style: &'a Json, name: &str) -> Option<&'a Json>
-    ensures { tree_at result ≡ source_at (tree_of style.now) name.now }
-{
-    let Json::Object(members) = style else {
-        return None;
-    };
-    match members.get("sources") {
-        Some(Json::Object(sources)) => sources.get(name),
-        _ => None,
-    }
-}
-
 fn is_vector(style: &Json, name: &str) -> bool
     ensures { result ≡ is_vector (tree_of style.now) name.now }
 {
-    match source_at(style, name) {
-        Some(Json::Object(members)) => match members.get("type") {
-            Some(Json::Text(name)) => name.as_str() == "vector",
-            _ => false,
-        },
-        _ => false,
+    let Some(source) = source_at(style, name) else {
+        return false;
+    };
+    match source.get("type").and_then(Json::as_text) {
+        Some(source_type) => source_type == "vector",
+        None => false,
     }
-}
-
-pub(crate) fn is_zoom(zoom: Fixed) -> bool
-    ensures { result ≡ is_zoom (Some zoom) }
-{
-    0 <= zoom.millionths() && zoom.millionths() <= MOST_ZOOM
 }

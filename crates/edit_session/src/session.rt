@@ -12,7 +12,7 @@ ghost use Rattle.style_layout.specs.CodeView.{tile_seen};
 ghost use Rattle.style_rules.specs.Findings.{findings};
 
 use crate::answer::Answer;
-use crate::opening::{CELL_LIMIT, OpenFault, first_of_no_vector, first_unknown, is_zoom};
+use crate::opening::{CELL_LIMIT, OpenFault, first_of_no_vector, first_unknown};
 use decimal_json::Json;
 use edit_script::Command;
 use feature_states::States;
@@ -21,6 +21,7 @@ use host_ops::HostOp;
 use prop_values::Entries;
 use std::alloc::{AllocError, Global};
 use style_layout::{PreparedStyle, SourceTile, Zoom, cell_count, globals_of, prepare};
+use style_parts::is_zoom;
 use style_rules::findings;
 
 /// A style over tiles, under edit, with the zoom, the states of features and the values of the global state by which it is

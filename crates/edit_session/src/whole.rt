@@ -11,11 +11,11 @@ ghost use Rattle.style_rules.specs.Findings.{findings};
 
 use crate::answer::Refusal;
 use crate::opening::CELL_LIMIT;
-use decimal_json::{Json, Path, PathPart};
+use decimal_json::Json;
 use prop_values::Entries;
 use std::alloc::{AllocError, Global};
 use style_layout::{PreparedStyle, SourceTile, cell_count, prepare};
-use style_rules::{Finding, findings};
+use style_rules::findings;
 
 /// A document that breaks no rule and is within the limit of cells, prepared; or its refusal.
 pub(crate) fn prepared_whole(
@@ -54,41 +54,12 @@ pub(crate) fn prepared_within(
     Ok(Ok(prepared))
 }
 
+#[tactic(auto, using(crate::proofs::AppliedLaws::first_refused))]
 fn first_finding(alloc: Global, document: &Json) -> Result<Option<Refusal>, AllocError>
     ensures { IfOk result (λ refusal. refusal ≡ first_finding (findings (tree_of document.now))) }
 {
-    let found = findings(alloc, document)?;
-    match found.as_slice() {
-        [] => Ok(None),
-        [first, ..] => Ok(Some(Refusal::Finding(copy_of(alloc, first)?))),
-    }
-}
-
-fn copy_of(alloc: Global, finding: &Finding) -> Result<Finding, AllocError>
-    ensures { IfOk result (λ copy. copy ≡ finding.now) }
-{
-    let path = copy_of_path(alloc, finding.path.as_slice())?;
-    Ok(Finding {
-        path,
-        rule: finding.rule,
-    })
-}
-
-fn copy_of_path(alloc: Global, parts: &[PathPart]) -> Result<Path, AllocError>
-    ensures { IfOk result (λ path. path ≡ parts.now) }
-{
-    let mut path = Path::new(alloc);
-    for part in parts {
-        path.push(copy_of_part(part)?)?;
-    }
-    Ok(path)
-}
-
-fn copy_of_part(part: &PathPart) -> Result<PathPart, AllocError>
-    ensures { IfOk result (λ copy. copy ≡ part.now) }
-{
-    match part {
-        PathPart::Key(key) => Ok(PathPart::Key(key.share()?)),
-        PathPart::Index(i) => Ok(PathPart::Index(*i)),
+    match findings(alloc, document)?.into_first() {
+        Some(first) => Ok(Some(Refusal::Finding(first))),
+        None => Ok(None),
     }
 }

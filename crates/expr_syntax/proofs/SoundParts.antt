@@ -4,6 +4,7 @@ use Rattle.std.proofs.lemmas.Int.{ints}
 use Rattle.std.specs.Prelude.{Bool, ◌&&◌, ◌||◌, int_lt, ◌<ℤ◌, Option, Some, None, Result, Ok, Err, if◌then◌else◌, codes}
 use Rattle.std.specs.Str.{bytes_eq}
 use Rattle.std.specs.List.{list_all}
+use Rattle.decimal_json.specs.Accessors.{text_in}
 use Rattle.decimal_json.specs.Tree.{Tree, null, boolean, number, text, list, object, Trees, no_trees, tree}
 use Rattle.fixed_num.specs.Decimal.{read_text}
 use Rattle.fixed_num.specs.declared.decimal.NumFault.{NumFault}
@@ -19,7 +20,6 @@ use Rattle.expr_syntax.specs.declared.parts.Labelled.{Labelled}
 use Rattle.expr_syntax.specs.declared.labels.Collected.{Collected}
 use Rattle.expr_syntax.specs.BoundNames.{is_among}
 use Rattle.expr_syntax.specs.Parts.{inputs_of, and_input, value_in, steps_up, binding_names, and_name, is_binding_name, base_of, linear, exponential, base_in, curve_from, curve_of, curve_in, with_label, collect_number, collect_label, collect_labels, collect_part, collect_parts, then_collect, is_whole}
-use Rattle.expr_syntax.specs.Elements.{text_in}
 use Rattle.expr_syntax.specs.ReadTerms.{NameOutputs}
 use Rattle.expr_syntax.specs.Scopes.{Scope, globals, frame, is_known}
 

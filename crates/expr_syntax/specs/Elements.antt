@@ -1,16 +1,13 @@
 -- The elements of a node: how they are found, and what walks over them are given.
-use Rattle.std.specs.Prelude.{ℕ, ◌+◌, List, [], ◌∷◌, Bool, true, false, Option, Some, None, if◌then◌else◌}
+use Rattle.std.specs.Prelude.{ℕ, ◌+◌, List, [], ◌∷◌, Bool, Option, Some, None, if◌then◌else◌}
 use Rattle.std.specs.Str.{bytes_eq}
 use Rattle.std.specs.Prelude.{codes}
-use Rattle.decimal_json.specs.Tree.{Tree, text, object, Trees, no_trees, tree}
+use Rattle.decimal_json.specs.Accessors.{text_in}
+use Rattle.decimal_json.specs.Tree.{Tree, Trees, no_trees, tree}
 use Rattle.expr_syntax.specs.declared.names.Name.{Name}
 use Rattle.expr_syntax.specs.declared.parts.Role.{Role}
 use Rattle.expr_syntax.specs.declared.parts.Role.TheVariants.{Scale, Font, Color}
 use Rattle.expr_syntax.specs.Names.{name_of}
-
-abbrev pub text_in : Tree → Option (List ℕ)
-text_in (text s) = Some s
-text_in _ = None
 
 -- the text that an array begins with
 abbrev pub head_text : Trees → Option (List ℕ)
@@ -49,10 +46,6 @@ second_text ts = text_of (second ts)
 abbrev pub taken : (ℕ → ℕ → Bool) → ℕ → ℕ → Trees → List Tree
 taken test n i no_trees = []
 taken test n i (tree t ts) = if test n i then t ∷ taken test n (i + 1) ts else taken test n (i + 1) ts
-
-abbrev pub is_object : Tree → Bool
-is_object (object fs) = true
-is_object _ = false
 
 -- the option of `format` that a key names
 abbrev pub option_named : List ℕ → Option Role

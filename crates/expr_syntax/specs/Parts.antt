@@ -3,6 +3,7 @@ use Rattle.std.specs.Prelude.{ℕ, ◌+◌, ◌/◌, ◌%◌, ℤ, pos, int_lt, 
 use Rattle.std.specs.Str.{bytes_eq}
 use Rattle.std.specs.Char.{is_ascii_alphanumeric}
 use Rattle.std.specs.List.{list_all}
+use Rattle.decimal_json.specs.Accessors.{text_in}
 use Rattle.decimal_json.specs.Tree.{Tree, number, text, list, Trees, no_trees, tree}
 use Rattle.fixed_num.specs.declared.decimal.NumFault.{NumFault}
 use Rattle.fixed_num.specs.Decimal.{read_text}
@@ -23,7 +24,7 @@ use Rattle.expr_syntax.specs.declared.rows.Layout.{Layout}
 use Rattle.expr_syntax.specs.declared.rows.Layout.TheVariants as layouts
 use Rattle.expr_syntax.specs.Rows.{is_input, is_label, is_binder}
 use Rattle.expr_syntax.specs.Operators.{plain_operator}
-use Rattle.expr_syntax.specs.Elements.{after_head, second, second_text, taken, text_in}
+use Rattle.expr_syntax.specs.Elements.{after_head, second, second_text, taken}
 use Rattle.expr_syntax.specs.Scopes.{Scope, is_known}
 
 -- ---- `array`

@@ -2,6 +2,7 @@
 -- elements that its row does not allow, has no argument nodes.
 use Rattle.std.specs.Prelude.{ℕ, ◌+◌, ◌-◌, List, [], ◌∷◌, length, Bool, true, false, not, ◌&&◌, ◌||◌, nat_lt, Option, Some, None, is_none, if◌then◌else◌, codes}
 use Rattle.std.specs.Str.{bytes_eq}
+use Rattle.decimal_json.specs.Accessors.{is_object}
 use Rattle.decimal_json.specs.Tree.{Tree, null, boolean, number, text, list, object, Trees, no_trees, tree, Fields, no_fields, field}
 use Rattle.prop_values.specs.declared.outcome.Curve.{Curve}
 use Rattle.expr_syntax.specs.declared.names.Name.{Name}
@@ -13,7 +14,7 @@ use Rattle.expr_syntax.specs.declared.standing.Sought.{Sought}
 use Rattle.expr_syntax.specs.declared.standing.Sought.TheVariants.{Outside, Global}
 use Rattle.expr_syntax.specs.Rows.{allows, element_place}
 use Rattle.expr_syntax.specs.Names.{row}
-use Rattle.expr_syntax.specs.Elements.{Element, head_text, head_name, second, is_object, option_named}
+use Rattle.expr_syntax.specs.Elements.{Element, head_text, head_name, second, option_named}
 use Rattle.expr_syntax.specs.Parts.{curve_of}
 
 -- ---- which nodes are outside

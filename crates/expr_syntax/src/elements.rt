@@ -1,8 +1,9 @@
 //! How the elements of a node are found.
 
 ghost use Rattle.std.specs.Prelude.{◌≡◌, option_map};
+ghost use Rattle.decimal_json.specs.Accessors.{text_in};
 ghost use Rattle.decimal_json.specs.View.{tree_of, trees};
-ghost use Rattle.expr_syntax.specs.Elements.{after_head, head_name, head_text, second, second_text, text_in};
+ghost use Rattle.expr_syntax.specs.Elements.{after_head, head_name, head_text, second, second_text};
 
 use crate::names::{Name, operator_named};
 use decimal_json::{Json, Text};

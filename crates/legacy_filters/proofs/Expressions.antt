@@ -2,6 +2,7 @@
 use Rattle.std.proofs.Common.{◌≡◌, ℕ, ◌+◌, List, [], ◌∷◌, ◌++◌, refl, ap, subst, true, false}
 use Rattle.std.specs.Prelude.{Bool, not, ◌&&◌, ◌||◌, codes, Option, Some, None, option_map, Result, Ok, Err, nat_lt, if◌then◌else◌}
 use Rattle.std.specs.Str.{bytes_eq}
+use Rattle.decimal_json.specs.Accessors.{is_text}
 use Rattle.decimal_json.specs.Tree.{Tree, null, boolean, number, text, list, object, Trees, no_trees, tree, trees_of}
 use Rattle.decimal_json.specs.declared.paths.PathPart.{PathPart}
 use Rattle.decimal_json.specs.declared.paths.PathPart.TheVariants.{Index}
@@ -15,7 +16,7 @@ use Rattle.legacy_filters.specs.declared.filter.Order.TheVariants.{Below, AtMost
 use Rattle.legacy_filters.specs.declared.scalars.Scalar.TheVariants.{Flag, Number, Text}
 use Rattle.legacy_filters.specs.declared.filter.Test.{Test}
 use Rattle.legacy_filters.specs.declared.filter.Test.TheVariants.{Has, HasNot, Equal, NotEqual, Ordered, Among, NotAmong}
-use Rattle.legacy_filters.specs.Split.{is_array, is_text, is_named, is_legacy, some_legacy}
+use Rattle.legacy_filters.specs.Split.{is_array, is_named, is_legacy, some_legacy}
 use Rattle.legacy_filters.specs.Filter.{Filter, flag, test, group, Filters, no_filters, filter}
 use Rattle.legacy_filters.specs.Form.{Read, Reader, ill_formed, key_named, keyed_form, test_form, or_ill_formed, group_named, and_filter, parts_form, grouped, most_open, unless_group, form, array_form, forms}
 use Rattle.legacy_filters.specs.ToExpression.{call, value_expression, scalar_tree, order_name, kind_and_order, test_expression, expression, expressions}

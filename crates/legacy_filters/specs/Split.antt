@@ -2,11 +2,8 @@
 use Rattle.std.specs.Prelude.{ℕ, List, [], ◌∷◌, Bool, true, false, not, ◌&&◌, ◌||◌, codes, if◌then◌else◌}
 use Rattle.std.specs.List.{list_any}
 use Rattle.std.specs.Str.{bytes_eq}
+use Rattle.decimal_json.specs.Accessors.{is_text}
 use Rattle.decimal_json.specs.Tree.{Tree, boolean, text, list, Trees, no_trees, tree}
-
-abbrev pub is_text : Tree → Bool
-is_text (text s) = true
-is_text _ = false
 
 abbrev pub is_array : Tree → Bool
 is_array (list ts) = true

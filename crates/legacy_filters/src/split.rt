@@ -1,6 +1,6 @@
 ghost use Rattle.std.specs.Prelude.{◌≡◌};
 ghost use Rattle.decimal_json.specs.View.{tree_of, trees};
-ghost use Rattle.legacy_filters.specs.Split.{is_text, is_array, is_special_key, has_is_legacy, in_is_legacy, comparison_is_legacy, named_is_legacy, is_legacy, array_is_legacy, some_legacy};
+ghost use Rattle.legacy_filters.specs.Split.{is_array, is_special_key, has_is_legacy, in_is_legacy, comparison_is_legacy, named_is_legacy, is_legacy, array_is_legacy, some_legacy};
 
 use decimal_json::Json;
 
@@ -82,7 +82,7 @@ fn in_is_legacy(others: &[Json]) -> bool
     ensures { result ≡ in_is_legacy (trees others.now) }
 {
     match others {
-        [needle, place, ..] => is_text(needle) && !is_array(place),
+        [needle, place, ..] => needle.is_text() && !is_array(place),
         _ => true,
     }
 }
@@ -95,12 +95,6 @@ fn comparison_is_legacy(others: &[Json]) -> bool
         [a, b] => !is_array(a) && !is_array(b),
         _ => false,
     }
-}
-
-fn is_text(json: &Json) -> bool
-    ensures { result ≡ is_text (tree_of json.now) }
-{
-    matches!(json, Json::Text(_))
 }
 
 fn is_array(json: &Json) -> bool

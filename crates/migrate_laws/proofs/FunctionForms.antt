@@ -22,10 +22,10 @@ use Rattle.legacy_functions.specs.ToExpression.{identity_expression, body_expres
 use Rattle.legacy_functions.specs.ToExpression.{function_expression, default_by}
 use Rattle.legacy_functions.proofs.SoundRules.{HasSome, IsOutputOf, AreNumberStops, IsBodyOf}
 use Rattle.legacy_functions.proofs.SoundFunctions.{read_is_sound}
+use Rattle.value_forms.specs.Forms.{is_expression, is_token_text, target_of}
 use Rattle.legacy_laws.specs.LegacyFunctionLaw.{IsTableRow}
 use Rattle.legacy_laws.proofs.TableRows.{is_property_want, IsRegular, table_rows}
 use Rattle.legacy_laws.proofs.FunctionProperties.{GoesBy, read_goes}
-use Rattle.style_rules.specs.Values.{is_expression, is_token_text, target_of}
 
 -- ---- a literal of a row of the table is no object
 

@@ -3,16 +3,16 @@ use Rattle.std.proofs.Common.{◌≡◌, ◌∙◌, ℕ, List, [], ◌∷◌, �
 use Rattle.std.specs.List.{AllZip}
 use Rattle.std.specs.Prelude.{Bool, not, cond, filter, Option, Some, None, if◌then◌else◌}
 use Rattle.std.specs.Str.{bytes_eq}
+use Rattle.std.specs.Option.{option_and_then}
 use Rattle.fixed_num.specs.Number.{floor_of}
 use Rattle.property_tables.specs.Rows.{RowData}
 use Rattle.tile_reader.specs.declared.tile.Feature.{Feature}
 use Rattle.eval_face.specs.World.{no_feature}
+use Rattle.value_forms.specs.LayerTypes.{is_unread_type}
 use Rattle.listing_text.specs.declared.show.Show.{Show}
 use Rattle.listing_text.specs.declared.show.Show.TheVariants.{Plain, Hidden, Unread, OutsideFilter}
 use Rattle.stable_order.specs.InOrder.{in_order}
 use Rattle.stable_order.specs.Keys.{key_before}
-use Rattle.style_rules.specs.Ground.{is_unread_type}
-use Rattle.style_rules.specs.Parts.{then_some}
 use Rattle.style_layout.specs.Forms.{Scene, Property, outcome_of, FilterSource}
 use Rattle.style_layout.specs.Layers.{StyleLayer, layer_properties, feature_properties, sort_row, property_named}
 use Rattle.style_layout.specs.Layers.{sort_property, is_hidden, shown_plainly, show_of}
@@ -84,7 +84,7 @@ named_alike name (p ∷ ps) (q ∷ qs) h =
 
 sorting_alike : (row : Option (List ℕ)) (ps qs : List Property) → AreListedAs ps qs
     → BothAreListed
-    (then_some row (λ name. property_named name ps)) (then_some row (λ name. property_named name qs))
+    (option_and_then (λ name. property_named name ps) row) (option_and_then (λ name. property_named name qs) row)
 sorting_alike (Some name) ps qs h = named_alike name ps qs h
 sorting_alike None ps qs h = tt
 

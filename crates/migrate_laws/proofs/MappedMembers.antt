@@ -3,14 +3,13 @@ use Rattle.std.proofs.Common.{◌≡◌, ◌∙◌, ℕ, List, refl, ap, true, f
 use Rattle.std.proofs.lemmas.Slice.Eq.{bytes_eq-Decides}
 use Rattle.std.specs.Prelude.{Bool, codes, Option, Some, None, is_some, option_map, if◌then◌else◌}
 use Rattle.std.specs.Str.{bytes_eq}
+use Rattle.std.specs.Option.{option_and_then}
 use Rattle.decimal_json.specs.Tree.{Tree, null, boolean, number, text, list, object, Trees, no_trees, tree}
 use Rattle.decimal_json.specs.Tree.{Fields, no_fields, field, field_at}
 use Rattle.legacy_filters.specs.Migrated.{migrated_filter}
 use Rattle.property_tables.specs.declared.layer_type.LayerType.{LayerType}
 use Rattle.property_tables.specs.declared.property_row.Place.{Place}
-use Rattle.style_rules.specs.Ground.{layer_type, tested_type}
-use Rattle.style_rules.specs.Parts.{then_some, type_in}
-use Rattle.style_rules.specs.Places.{place_named}
+use Rattle.value_forms.specs.LayerTypes.{layer_type, tested_type, type_in, place_named}
 use Rattle.style_migrate.specs.Migrated.{mapped_fields, mapped_items, migrated_properties}
 use Rattle.style_migrate.specs.Migrated.{migrated_member, migrated_layer}
 
@@ -84,4 +83,4 @@ type_kept (object fs) =
     let change = migrated_member tested in
     let ref = kept_at change (codes "ref") fs (member_kept tested (codes "ref") refl refl) in
     let named = kept_at change (codes "type") fs (member_kept tested (codes "type") refl refl) in
-    λ i. if is_some (ref i) then None else then_some (named i) type_in
+    λ i. if is_some (ref i) then None else option_and_then type_in (named i)

@@ -2,14 +2,15 @@
 use Rattle.std.proofs.Common.{◌≡◌, ◌∙◌, ℕ, List, [], ◌∷◌, refl, ap, sym, false}
 use Rattle.std.specs.Prelude.{codes, Option, Some, None, option_map}
 use Rattle.std.specs.Str.{bytes_eq}
+use Rattle.std.specs.Option.{option_and_then}
 use Rattle.decimal_json.specs.Tree.{Tree, null, boolean, number, text, list, object}
+use Rattle.decimal_json.specs.Accessors.{member, text_in, text_at, fields_in, trees_in}
 use Rattle.property_tables.specs.Rows.{RowData, row_of}
 use Rattle.property_tables.specs.declared.layer_type.LayerType.{LayerType}
 use Rattle.property_tables.specs.declared.property_row.Place.{Place}
 use Rattle.property_tables.specs.declared.property_row.Place.TheVariants.{Layout, Paint}
-use Rattle.style_rules.specs.Ground.{layer_type, tested_type}
-use Rattle.style_rules.specs.Parts.{then_some, member, text_in, text_at, fields_in, is_among}
-use Rattle.style_rules.specs.Places.{place_named, trees_in, layers_of}
+use Rattle.style_parts.specs.Parts.{is_among, layers_of}
+use Rattle.value_forms.specs.LayerTypes.{layer_type, tested_type, place_named}
 use Rattle.style_migrate.specs.Migrated.{mapped_items, with_values, value_of_row, migrated_property}
 use Rattle.style_migrate.specs.Migrated.{migrated_properties, migrated_member, migrated_layer}
 use Rattle.style_migrate.specs.Migrated.{migrated_part, migrated}
@@ -64,8 +65,8 @@ at_place_key type Layout t = refl
 at_place_key type Paint t = refl
 
 value_in : (type : Option LayerType) (place : Place) (name : List ℕ) (o : Option Tree)
-    → then_some (option_map (migrated_member type (place_key place)) o) (member name)
-    ≡ option_map (value_change type place name) (then_some o (member name))
+    → option_and_then (member name) (option_map (migrated_member type (place_key place)) o)
+    ≡ option_map (value_change type place name) (option_and_then (member name) o)
 value_in type place name (Some t) = ap (member name) (at_place_key type place t) ∙ properties_at type place name t
 value_in type place name None = refl
 
@@ -73,7 +74,7 @@ pub set_value_at : (layer : Tree) (place : Place) (name : List ℕ)
     → set_value (migrated_layer layer) place name
     ≡ option_map (value_change (tested layer) place name) (set_value layer place name)
 set_value_at layer place name =
-    ap (λ o. then_some o (member name)) (layer_member (place_key place) layer)
+    ap (option_and_then (member name)) (layer_member (place_key place) layer)
     ∙ value_in (tested layer) place name (member (place_key place) layer)
 
 -- ---- visibility
@@ -89,7 +90,7 @@ visibility_kept (Some type) t =
 visibility_kept None t = refl
 
 text_in_place : (key : List ℕ) (o : Option Tree)
-    → then_some o (text_at key) ≡ then_some (then_some o (member key)) text_in
+    → option_and_then (text_at key) o ≡ option_and_then text_in (option_and_then (member key) o)
 text_in_place key (Some t) = refl
 text_in_place key None = refl
 
@@ -101,7 +102,7 @@ invisible_kept layer =
     ∙ map_kept change (set_value layer Layout key) (visibility_kept (tested layer)) in
     let new = text_in_place key (member (codes "layout") (migrated_layer layer)) in
     let old = text_in_place key (member (codes "layout") layer) in
-    ap (is_among (codes "none" ∷ [])) (new ∙ (ap (λ o. then_some o text_in) value ∙ sym old))
+    ap (is_among (codes "none" ∷ [])) (new ∙ (ap (option_and_then text_in) value ∙ sym old))
 
 -- ---- documents
 
@@ -126,4 +127,4 @@ globals_kept document =
     let key = codes "state" in
     let state = values_at migrated_part key document
     ∙ map_kept (migrated_part key) (member key document) (λ t. refl) in
-    ap (λ o. defaults_of (then_some o fields_in)) state
+    ap (λ o. defaults_of (option_and_then fields_in o)) state

@@ -1,16 +1,18 @@
 -- A migrated document has the layout that the document has.
 use Rattle.std.proofs.Common.{◌≡◌, ◌∙◌, ℕ, List, [], ◌∷◌, map, refl, ap, sym, subst, true, false}
 use Rattle.std.specs.Prelude.{Bool, codes, flat_map, Option, Some, None, option_map, if◌then◌else◌}
+use Rattle.std.specs.Option.{option_and_then}
 use Rattle.decimal_json.specs.Tree.{Tree, Trees, no_trees, tree}
+use Rattle.decimal_json.specs.Accessors.{member, text_in}
 use Rattle.prop_values.specs.Data.{Data}
 use Rattle.property_tables.specs.Rows.{RowData, rows_of}
 use Rattle.property_tables.specs.TableLaws.{TableKeepsRules}
 use Rattle.property_tables.specs.declared.layer_type.LayerType.{LayerType}
+use Rattle.style_parts.specs.Numbers.{number_in}
+use Rattle.style_parts.specs.Parts.{layers_of}
+use Rattle.value_forms.specs.LayerTypes.{is_unread_type, layer_type, tested_type}
 use Rattle.legacy_laws.specs.LegacyFunctionLaw.{IsTableRow}
 use Rattle.listing_text.specs.Layout.{LayerOut}
-use Rattle.style_rules.specs.Ground.{is_unread_type, layer_type, tested_type}
-use Rattle.style_rules.specs.Parts.{then_some, member, text_in, number_in}
-use Rattle.style_rules.specs.Places.{layers_of}
 use Rattle.style_migrate.specs.Migrated.{mapped_items, value_of_row, migrated_value}
 use Rattle.style_migrate.specs.Migrated.{migrated_member, migrated_layer}
 use Rattle.style_layout.specs.Forms.{Scene, Property, property_of, reads_feature, FilterSource, filter_source}
@@ -123,13 +125,13 @@ module _ (values : MigratedValuesAreTheSame) (filters : MigratedFiltersAreTheSam
         let least = kept_member (codes "minzoom") layer refl refl in
         let most = kept_member (codes "maxzoom") layer refl refl in
         λ i. record {
-          id = text_or_empty (then_some (id i) text_in);
+          id = text_or_empty (option_and_then text_in (id i));
           type = type;
-          source = text_or_empty (then_some (source i) text_in);
-          source_layer = text_or_empty (then_some (source_layer i) text_in);
+          source = text_or_empty (option_and_then text_in (source i));
+          source_layer = text_or_empty (option_and_then text_in (source_layer i));
           is_invisible = invisible i;
-          least_zoom = then_some (least i) number_in;
-          most_zoom = then_some (most i) number_in;
+          least_zoom = option_and_then number_in (least i);
+          most_zoom = option_and_then number_in (most i);
           filter = chosen;
           properties = properties_of globals type new;
         }

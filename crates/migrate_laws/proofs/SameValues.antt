@@ -23,12 +23,11 @@ use Rattle.legacy_functions.specs.Function.{Function}
 use Rattle.legacy_functions.specs.Meaning as meanings
 use Rattle.legacy_functions.specs.ToExpression.{function_expression}
 use Rattle.legacy_functions.specs.Tokens.{token_expression}
+use Rattle.value_forms.specs.Forms.{takes_literals_alone, is_expression, is_function, is_token_text, form_of, target_of}
+use Rattle.value_forms.specs.declared.forms.Form.{Form}
 use Rattle.legacy_laws.specs.LegacyFunctionLaw.{IsTableRow, GivesAlways, ReadsAlways}
 use Rattle.legacy_laws.specs.LegacyFunctionLaw.{ExpressionsMeanTheirFunctions, TokenExpressionsMeanTheirTexts}
-use Rattle.style_rules.specs.Values.{takes_literals_alone, is_expression, is_function, is_token_text}
-use Rattle.style_rules.specs.Values.{form_of, target_of}
-use Rattle.style_rules.specs.declared.forms.Form.{Form}
-use Rattle.style_rules.specs.declared.forms.Form.TheVariants as forms
+use Rattle.value_forms.specs.declared.forms.Form.TheVariants as forms
 use Rattle.style_migrate.specs.Migrated.{function_or, tokens_or, value_by_form}
 use Rattle.style_layout.specs.Forms.{Source, fixed, term, legacy_function, tokens, source_of}
 use Rattle.style_layout.specs.Forms.{literal_source, term_source, function_source, formed_source}

@@ -6,10 +6,10 @@ use Rattle.decimal_json.specs.Tree.{Tree, null, boolean, number, text, list, obj
 use Rattle.property_tables.specs.Rows.{RowData, row_of}
 use Rattle.property_tables.specs.declared.layer_type.LayerType.{LayerType}
 use Rattle.property_tables.specs.declared.property_row.Place.{Place}
+use Rattle.style_parts.specs.Parts.{is_layers}
 use Rattle.legacy_filters.specs.Migrated.{migrated_filter}
+use Rattle.value_forms.specs.LayerTypes.{layer_type, tested_type, place_named}
 use Rattle.legacy_laws.specs.LegacyFilterLaw.{MigratedFiltersStay}
-use Rattle.style_rules.specs.Ground.{layer_type, tested_type}
-use Rattle.style_rules.specs.Places.{is_layers, place_named}
 use Rattle.style_migrate.specs.Migrated.{mapped_fields, with_values, with_items, value_of_row, migrated_property}
 use Rattle.style_migrate.specs.Migrated.{migrated_properties, migrated_member, migrated_layer, migrated_part}
 use Rattle.migrate_laws.specs.MigratedLaw.{MigratingTwiceChangesNothing}

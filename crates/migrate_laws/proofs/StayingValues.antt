@@ -7,11 +7,10 @@ use Rattle.property_tables.specs.Rows.{RowData}
 use Rattle.legacy_functions.specs.Form as functions
 use Rattle.legacy_functions.specs.Function.{Function}
 use Rattle.legacy_functions.specs.Tokens.{token_expression}
+use Rattle.value_forms.specs.Forms.{takes_literals_alone, is_expression, is_function, is_token_text, form_of, target_of}
+use Rattle.value_forms.specs.declared.forms.Form.{Form}
 use Rattle.legacy_laws.specs.LegacyFunctionLaw.{IsTableRow}
-use Rattle.style_rules.specs.Values.{takes_literals_alone, is_expression, is_function, is_token_text}
-use Rattle.style_rules.specs.Values.{form_of, target_of}
-use Rattle.style_rules.specs.declared.forms.Form.{Form}
-use Rattle.style_rules.specs.declared.forms.Form.TheVariants as forms
+use Rattle.value_forms.specs.declared.forms.Form.TheVariants as forms
 use Rattle.style_migrate.specs.Migrated.{function_or, tokens_or, value_by_form, migrated_value}
 use Rattle.migrate_laws.proofs.FunctionForms.{is_scalar, IsBareLiteral, IsMigratedForm, function_forms}
 

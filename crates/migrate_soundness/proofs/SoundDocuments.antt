@@ -6,24 +6,26 @@ use Rattle.std.proofs.lemmas.Slice.Eq.{bytes_eq-Decides}
 use Rattle.std.specs.Prelude.{Bool, not, ◌&&◌, ◌||◌, if◌then◌else◌, codes, nat_le}
 use Rattle.std.specs.Prelude.{Option, Some, None, is_some, option_map}
 use Rattle.std.specs.Str.{bytes_eq}
+use Rattle.std.specs.Option.{option_and_then}
 use Rattle.decimal_json.specs.Sound.{members_of}
 use Rattle.decimal_json.specs.Tree.{Tree, null, boolean, number, text, list, object, Trees, no_trees, tree}
 use Rattle.decimal_json.specs.Tree.{Fields, HasDistinctKeys}
 use Rattle.decimal_json.specs.declared.paths.PathPart.{PathPart}
 use Rattle.decimal_json.specs.declared.paths.PathPart.TheVariants.{Key, Index}
+use Rattle.decimal_json.specs.Accessors.{member, has, is_object, text_in, fields_in}
 use Rattle.property_tables.specs.Rows.{RowData, row_of}
 use Rattle.property_tables.specs.declared.layer_type.LayerType.{LayerType}
 use Rattle.property_tables.specs.declared.property_row.Place.{Place}
 use Rattle.property_tables.specs.declared.property_row.Place.TheVariants.{Layout, Paint}
+use Rattle.style_parts.specs.Parts.{equals_id, layers_of, sources_of, is_layers}
+use Rattle.value_forms.specs.LayerTypes.{layer_type, tested_type, place_named}
 use Rattle.style_rules.specs.Findings.{told, told_or}
-use Rattle.style_rules.specs.Ground.{Ground, layer_type, tested_type, sources_for, named_type, ground_of}
+use Rattle.style_rules.specs.Ground.{Ground, sources_for, named_type, ground_of}
 use Rattle.style_rules.specs.Levels.{fields_told, fields_or_none, items_or_none, property_told, member_told}
 use Rattle.style_rules.specs.Levels.{grounded_told, layer_told, layers_told, named_told}
 use Rattle.style_rules.specs.Levels.{document_told, WalksByLevels}
-use Rattle.style_rules.specs.Parts.{then_some, member, has, is_object, text_in, fields_in}
 use Rattle.style_rules.specs.Places.{unless_broken, least_broken, root_mark, root_member_mark}
-use Rattle.style_rules.specs.Places.{properties_mark, place_named, row_mark, has_text_id, used_in}
-use Rattle.style_rules.specs.Places.{layers_of, sources_of, is_layers}
+use Rattle.style_rules.specs.Places.{properties_mark, row_mark, used_in}
 use Rattle.style_rules.specs.Rules.{is_on_vector, count_of}
 use Rattle.style_migrate.specs.Migrated.{mapped_fields, mapped_items, with_values, with_items, value_of_row}
 use Rattle.style_migrate.specs.Migrated.{migrated_property, migrated_properties, migrated_member}
@@ -89,7 +91,7 @@ ground_kept : (sources : Option Fields) (layer : Tree)
 ground_kept sources layer =
     let type = type_kept layer in
     let source = kept_member (codes "source") layer refl refl in
-    λ i. ground_with sources (type i) (then_some (source i) text_in)
+    λ i. ground_with sources (type i) (option_and_then text_in (source i))
 
 -- the rules that are tested at a layer, by which members it has
 abbrev layer_rules : Ground → (form id type ref source source_layer : Bool) → List (ℕ × Bool)
@@ -281,7 +283,7 @@ module _ (laws : HaveSoundExpressions) where
   used_kept (tree t ts) (suc n) id =
       let here = kept_member (codes "id") t refl refl in
       let before = used_kept ts n id in
-      λ i. has_text_id id (then_some (here i) text_in) || before i
+      λ i. equals_id id (option_and_then text_in (here i)) || before i
 
   root_kept : (key : List ℕ) (document : Tree) → is_layers key ≡ false
       → member key (migrated document) ≡ member key document
@@ -302,7 +304,7 @@ module _ (laws : HaveSoundExpressions) where
       let used = used_kept (layers_of document) in
       let first : part_told (sources_of (migrated document)) (used_in (layers_of (migrated document)))
       ≡ part_told (sources_of document) (used_in (mapped_items migrated_layer (layers_of document))) =
-      λ i. part_told (then_some (sources i) fields_in) (used_in (layers i)) in
+      λ i. part_told (option_and_then fields_in (sources i)) (used_in (layers i)) in
       first ∙ (λ i. part_told (sources_of document) (λ n id. used n id i))
 
   abbrev root_rules : (form version sources layers : Bool) → List (ℕ × Bool)

@@ -26,17 +26,17 @@ use Rattle.legacy_functions.specs.Form as functions
 use Rattle.legacy_functions.specs.Function.{Function, has_zooms}
 use Rattle.legacy_functions.specs.ToExpression.{function_expression}
 use Rattle.legacy_functions.specs.Tokens.{has_tokens, token_expression}
+use Rattle.value_forms.specs.Forms.{takes_literals_alone, is_expression, is_function, is_token_text, form_of, target_of}
+use Rattle.value_forms.specs.declared.forms.Form.{Form}
 use Rattle.legacy_laws.specs.LegacyFilterLaw.{ExpressionsMeanTheirFilters, MigratedFiltersAreTyped}
 use Rattle.legacy_laws.specs.LegacyFunctionLaw.{IsTableRow, IsAllowedOn}
 use Rattle.legacy_laws.specs.LegacyFunctionLaw.{ExpressionsMeanTheirFunctions, TokenExpressionsMeanTheirTexts}
 use Rattle.legacy_laws.specs.LegacyFunctionLaw.{MigratedFunctionsAreTyped, MigratedTokenTextsAreTyped}
 use Rattle.style_rules.specs.Findings.{told_or, findings_in}
-use Rattle.style_rules.specs.Values.{takes_literals_alone, is_expression, is_function, is_token_text, form_of}
 use Rattle.style_rules.specs.Values.{literal_mark, typed_mark, read_mark, expression_mark}
-use Rattle.style_rules.specs.Values.{function_reads, function_mark, target_of, form_mark, value_mark}
+use Rattle.style_rules.specs.Values.{function_reads, function_mark, form_mark, value_mark}
 use Rattle.style_rules.specs.Values.{legacy_mark, filter_mark}
-use Rattle.style_rules.specs.declared.forms.Form.{Form}
-use Rattle.style_rules.specs.declared.forms.Form.TheVariants as forms
+use Rattle.value_forms.specs.declared.forms.Form.TheVariants as forms
 use Rattle.style_migrate.specs.Migrated.{function_or, tokens_or, value_by_form, migrated_value}
 use Rattle.migrate_laws.proofs.FunctionForms.{IsBareLiteral, IsMigratedForm, function_forms}
 use Rattle.migrate_laws.proofs.StayingValues.{form_by, call_form, bare_form}

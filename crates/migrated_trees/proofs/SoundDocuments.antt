@@ -5,12 +5,12 @@ use Rattle.std.specs.Str.{bytes_eq}
 use Rattle.decimal_json.specs.RoundTrip.{EachWrittenTreeIsSpelled}
 use Rattle.decimal_json.specs.Sound.{IsSound}
 use Rattle.decimal_json.specs.Tree.{Tree}
+use Rattle.style_parts.specs.Parts.{is_layers}
 use Rattle.legacy_filters.specs.Migrated.{migrated_filter}
 use Rattle.property_tables.specs.Rows.{RowData, row_of}
 use Rattle.property_tables.specs.declared.layer_type.LayerType.{LayerType}
 use Rattle.property_tables.specs.declared.property_row.Place.{Place}
-use Rattle.style_rules.specs.Ground.{layer_type, tested_type}
-use Rattle.style_rules.specs.Places.{is_layers, place_named}
+use Rattle.value_forms.specs.LayerTypes.{layer_type, tested_type, place_named}
 use Rattle.style_migrate.specs.Migrated.{value_of_row, migrated_property, migrated_properties}
 use Rattle.style_migrate.specs.Migrated.{with_items, migrated_member, migrated_layer, migrated_part, migrated}
 use Rattle.migrated_trees.specs.SoundTreesLaw.{MigratedValuesAreSound, MigratedDocumentsAreSound}

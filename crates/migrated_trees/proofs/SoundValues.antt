@@ -22,9 +22,9 @@ use Rattle.legacy_functions.specs.ToExpression.{identity_expression, named_prope
 use Rattle.legacy_functions.specs.ToExpression.{body_expression}
 use Rattle.legacy_functions.specs.Tokens.{call, property_expression}
 use Rattle.legacy_functions.proofs.SoundRules.{OfSome}
-use Rattle.style_rules.specs.Values.{form_of, target_of}
-use Rattle.style_rules.specs.declared.forms.Form.{Form}
-use Rattle.style_rules.specs.declared.forms.Form.TheVariants as forms
+use Rattle.value_forms.specs.declared.forms.Form.TheVariants as forms
+use Rattle.value_forms.specs.Forms.{form_of, target_of}
+use Rattle.value_forms.specs.declared.forms.Form.{Form}
 use Rattle.style_migrate.specs.Migrated.{function_or, tokens_or, value_by_form}
 use Rattle.migrated_trees.specs.SoundTreesLaw.{MigratedValuesAreSound}
 use Rattle.migrated_trees.proofs.AsciiTexts.{ascii_is_utf8}

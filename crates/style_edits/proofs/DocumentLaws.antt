@@ -1,14 +1,20 @@
 -- Documents whose layers are taken out and put back.
 use Rattle.std.proofs.Common.{◌≡◌, List, ap, sym, ◌∙◌, subst}
 use Rattle.std.specs.Prelude.{codes, Some, Result, Ok, Err, IfOk, OnOk, OnErr}
+use Rattle.decimal_json.specs.Accessors.{member, trees_in}
 use Rattle.decimal_json.specs.Tree.{Tree, null, list, trees_of}
+use Rattle.decimal_json.specs.View.{items_view, trees}
+use Rattle.decimal_json.specs.declared.tree.Json.{Json}
 use Rattle.style_edits.specs.Layers.{list_of, layer_list, with_list, with_changed, with_layers}
 use Rattle.style_edits.specs.Taking.{HasLayers, TakesLayers}
 use Rattle.style_edits.specs.Undone.{undone_layers, IsWithin, IsUndo}
 use Rattle.style_edits.specs.declared.undo.Undo.{Undo}
+use Rattle.style_parts.specs.Parts.{layers_of}
 use Rattle.style_edits.proofs.ObjectLaws.{items_trees, object_replaced_again, member_replaced, object_itself}
-use Rattle.style_rules.specs.Parts.{member}
-use Rattle.style_rules.specs.Places.{trees_in}
+
+-- the layers of a document of the program, as a list
+pub layers_listed : (document : Tree) (js : List Json) → trees js ≡ layers_of document → items_view js ≡ layer_list document
+layers_listed document js h = sym (items_trees (items_view js)) ∙ ap list_of h
 
 -- the layers are there after they were put
 layers_put : (before after : Tree) (ts ls : List Tree) → HasLayers before ts → after ≡ with_list ls before → HasLayers after ls

@@ -2,20 +2,21 @@
 use Rattle.std.proofs.Common.{◌≡◌, ◌<◌, ℕ, suc, List, [], ◌∷◌, length, refl, ap, sym, ◌∙◌, subst, Bool, true, false}
 use Rattle.std.specs.Prelude.{codes, not, ◌&&◌, Option, Some, None, IfSome, is_none, option_map, if◌then◌else◌}
 use Rattle.std.specs.List.{list_all}
+use Rattle.std.specs.Option.{option_and_then}
 use Rattle.decimal_json.specs.Tree.{Tree}
 use Rattle.edit_script.specs.Edit.{Edit, set_paint, set_layout, set_filter, set_range, add_layer, remove_layer, move_layer, set_zoom, set_state, remove_state, add_image, remove_image, set_global, list, stats}
 use Rattle.style_edits.specs.ByPlace.{layer_at, changed_at, removed_at, inserted_at, moved_at, edited_at, is_missing, unsets_nothing_at, fault_at}
 use Rattle.style_edits.specs.Places.{layer_place, places_in, places_of}
 use Rattle.style_edits.specs.Edited.{edited_layers}
-use Rattle.style_edits.specs.Faults.{named_layer, named_before, named_source, named_zooms, lacks_layer, lacks_source, lacks_property, is_zoom, unsets_nothing, first_cause, edit_fault}
+use Rattle.style_edits.specs.Faults.{named_layer, named_before, named_source, named_zooms, lacks_layer, lacks_source, lacks_property, is_zoom_or_none, unsets_nothing, first_cause, edit_fault}
 use Rattle.style_edits.specs.Layer.{is_null, with_property, with_filter, with_range}
-use Rattle.style_edits.specs.Layers.{is_named, layer_list, layer_named, changed_layer}
+use Rattle.style_edits.specs.Layers.{layer_list, layer_named, changed_layer}
 use Rattle.style_edits.specs.declared.faults.EditFault.TheVariants.{UnknownLayer, UnknownBefore, UnknownSource, ZoomRange, UnknownProperty}
 use Rattle.style_edits.specs.declared.places.EditPlaces.{EditPlaces}
 use Rattle.style_edits.proofs.PlaceLaws.{place, place_is, place_if, named_at, changed_is, removed_is, inserted_is, moved_is, placed_within}
-use Rattle.style_rules.specs.Parts.{then_some, member}
+use Rattle.style_parts.specs.Parts.{is_id_of}
 
-place_if_is : (before : Option (List ℕ)) (ts : List Tree) → then_some before (layer_place ts) ≡ place_if before ts
+place_if_is : (before : Option (List ℕ)) (ts : List Tree) → option_and_then (layer_place ts) before ≡ place_if before ts
 place_if_is (Some id) ts = place_is ts id
 place_if_is None ts = refl
 
@@ -48,20 +49,20 @@ lacks_step false t found (Some i) h = h
 
 unplaced : (id : List ℕ) (ts : List Tree) → is_none (layer_named id ts) ≡ is_none (place id ts)
 unplaced id [] = refl
-unplaced id (t ∷ ts) = lacks_step (is_named id t) t (layer_named id ts) (place id ts) (unplaced id ts)
+unplaced id (t ∷ ts) = lacks_step (is_id_of id t) t (layer_named id ts) (place id ts) (unplaced id ts)
 
 missing : (id : List ℕ) (o : Option ℕ) → is_none o ≡ is_missing (Some id) o
 missing id None = refl
 missing id (Some i) = refl
 
-lacks_is : (ts : List Tree) (name : Option (List ℕ)) → lacks_layer ts name ≡ is_missing name (then_some name (layer_place ts))
+lacks_is : (ts : List Tree) (name : Option (List ℕ)) → lacks_layer ts name ≡ is_missing name (option_and_then (layer_place ts) name)
 lacks_is ts None = refl
 lacks_is ts (Some id) = unplaced id ts ∙ (missing id (place id ts) ∙ ap (is_missing (Some id)) (sym (place_is ts id)))
 
 named_by : (id : List ℕ) (ts : List Tree) → layer_named id ts ≡ layer_at (layer_place ts id) ts
 named_by id ts = named_at id ts ∙ ap (λ o. layer_at o ts) (sym (place_is ts id))
 
-unsets_is : (edit : Edit) (ts : List Tree) → unsets_nothing ts edit ≡ unsets_nothing_at (layer_at (then_some (named_layer edit) (layer_place ts)) ts) edit
+unsets_is : (edit : Edit) (ts : List Tree) → unsets_nothing ts edit ≡ unsets_nothing_at (layer_at (option_and_then (layer_place ts) (named_layer edit)) ts) edit
 unsets_is (set_paint id name value) ts = ap (λ layer. is_null value && lacks_property (codes "paint") name layer) (named_by id ts)
 unsets_is (set_layout id name value) ts = ap (λ layer. is_null value && lacks_property (codes "layout") name layer) (named_by id ts)
 unsets_is (set_filter id filter) ts = refl
@@ -82,8 +83,8 @@ pub fault_by_place : (document : Tree) (edit : Edit) → edit_fault document edi
 fault_by_place document edit = λ i. first_cause (
     (UnknownLayer, lacks_is (layer_list document) (named_layer edit) i) ∷
     (UnknownBefore, lacks_is (layer_list document) (named_before edit) i) ∷
-    (UnknownSource, lacks_source (member (codes "sources") document) (named_source edit)) ∷
-    (ZoomRange, not (list_all is_zoom (named_zooms edit))) ∷
+    (UnknownSource, lacks_source document (named_source edit)) ∷
+    (ZoomRange, not (list_all is_zoom_or_none (named_zooms edit))) ∷
     (UnknownProperty, unsets_is edit (layer_list document) i) ∷ [])
 
 -- ---- places that a caller hands in

@@ -3,12 +3,12 @@ use Rattle.std.proofs.Common.{◌≡◌, ℕ, List, [], ◌∷◌, refl, ap, sym
 use Rattle.std.specs.Prelude.{Some, None, if◌then◌else◌}
 use Rattle.std.specs.Str.{bytes_eq}
 use Rattle.std.proofs.lemmas.Bool.{cond-true, cond-false}
+use Rattle.decimal_json.specs.Accessors.{member}
 use Rattle.decimal_json.specs.Editing.{members_with, replaced_members, members_without}
 use Rattle.decimal_json.specs.Sound.{members_of}
 use Rattle.decimal_json.specs.Tree.{Tree, null, boolean, number, text, list, object, Trees, no_trees, tree, trees_of, Fields, no_fields, field, fields_of, field_at}
 use Rattle.style_edits.specs.Layers.{list_of}
 use Rattle.style_edits.specs.Objects.{object_with, object_replacing, object_without}
-use Rattle.style_rules.specs.Parts.{member}
 
 -- ---- lists and the parts of a tree
 

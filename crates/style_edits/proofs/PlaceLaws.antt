@@ -2,6 +2,7 @@
 use Rattle.std.proofs.Common.{◌≡◌, ◌<◌, ℕ, zero, suc, ◌-◌, ◌+◌, List, [], ◌∷◌, ◌++◌, length, get_or, refl, ap, sym, ◌∙◌, subst, arith, Bool, true, false}
 use Rattle.std.specs.Prelude.{insert, remove, nat_lt, nat_eq, slice_get, Option, Some, None, not, IfSome, option_map, if◌then◌else◌}
 use Rattle.std.specs.List.{position, position_from, position_or_len}
+use Rattle.std.specs.Option.{option_and_then}
 use Rattle.std.specs.Str.{bytes_eq}
 use Rattle.std.proofs.lemmas.Bool.{cond-false, true≢false, false_from_ne_true}
 use Rattle.std.proofs.lemmas.Iterator.Adapters.{position_from-zero}
@@ -14,38 +15,37 @@ use Rattle.decimal_json.specs.View.{tree_of, items_view}
 use Rattle.decimal_json.specs.declared.tree.Json.{Json}
 use Rattle.style_edits.specs.ByPlace.{layer_at, changed_at, removed_at, inserted_at, place_moved_to, is_own_place, moved_at}
 use Rattle.style_edits.specs.Places.{layer_place}
-use Rattle.style_edits.specs.Layers.{is_named, layer_named, changed_layer, without_layer, layer_before, with_layer, is_itself, moved_if_there, moved_layer}
+use Rattle.style_edits.specs.Layers.{layer_named, changed_layer, without_layer, layer_before, with_layer, is_itself, moved_if_there, moved_layer}
 use Rattle.style_edits.proofs.ListLaws.{insert_last}
-use Rattle.style_rules.specs.Parts.{then_some}
-use Rattle.style_rules.specs.Places.{has_text_id}
+use Rattle.style_parts.specs.Parts.{equals_id, is_id_of}
 
 -- the place of the first that has an id, from the front on
 abbrev pub place : List ℕ → List Tree → Option ℕ
 place id [] = None
-place id (t ∷ ts) = if is_named id t then Some 0 else option_map suc (place id ts)
+place id (t ∷ ts) = if is_id_of id t then Some 0 else option_map suc (place id ts)
 
 from_step : (i : ℕ) (same : Bool) (o r : Option ℕ) → r ≡ option_map (λ k. (i + 1) + k) o → (if same then Some i else r) ≡ option_map (λ k. i + k) (if same then Some 0 else option_map suc o)
 from_step i true o r h = ap Some (omega arith)
 from_step i false None r h = h
 from_step i false (Some k) r h = h ∙ ap Some (omega arith)
 
-from_place : (id : List ℕ) (i : ℕ) (ts : List Tree) → position_from (is_named id) i ts ≡ option_map (λ k. i + k) (place id ts)
+from_place : (id : List ℕ) (i : ℕ) (ts : List Tree) → position_from (is_id_of id) i ts ≡ option_map (λ k. i + k) (place id ts)
 from_place id i [] = refl
-from_place id i (t ∷ ts) = from_step i (is_named id t) (place id ts) (position_from (is_named id) (i + 1) ts) (from_place id (i + 1) ts)
+from_place id i (t ∷ ts) = from_step i (is_id_of id t) (place id ts) (position_from (is_id_of id) (i + 1) ts) (from_place id (i + 1) ts)
 
 plus_none : (o : Option ℕ) → option_map (λ k. 0 + k) o ≡ o
 plus_none None = refl
 plus_none (Some k) = ap Some (omega arith)
 
 pub place_is : (ts : List Tree) (id : List ℕ) → layer_place ts id ≡ place id ts
-place_is ts id = position_from-zero (is_named id) ts ∙ (from_place id 0 ts ∙ plus_none (place id ts))
+place_is ts id = position_from-zero (is_id_of id) ts ∙ (from_place id 0 ts ∙ plus_none (place id ts))
 
 -- ---- each change of the layers, at the first that has an id
 
 -- What goes through the layers up to the first that has an id is what is done at its place.
 module _ {R : Type 0} (id : List ℕ) (through : List Tree → R) (at : Option ℕ → List Tree → R) (hit : Tree → List Tree → R) (miss : Tree → R → R)
     (end : through [] ≡ at None [])
-    (turn : (t : Tree) (ts : List Tree) → through (t ∷ ts) ≡ (if is_named id t then hit t ts else miss t (through ts)))
+    (turn : (t : Tree) (ts : List Tree) → through (t ∷ ts) ≡ (if is_id_of id t then hit t ts else miss t (through ts)))
     (here : (t : Tree) (ts : List Tree) → hit t ts ≡ at (Some 0) (t ∷ ts))
     (later : (t : Tree) (ts : List Tree) (o : Option ℕ) → miss t (at o ts) ≡ at (option_map suc o) (t ∷ ts)) where
   turn_at : (t : Tree) (ts : List Tree) (o : Option ℕ) (r : R) (same : Bool) → r ≡ at o ts
@@ -55,7 +55,7 @@ module _ {R : Type 0} (id : List ℕ) (through : List Tree → R) (at : Option �
 
   through_at : (ts : List Tree) → through ts ≡ at (place id ts) ts
   through_at [] = end
-  through_at (t ∷ ts) = turn t ts ∙ turn_at t ts (place id ts) (through ts) (is_named id t) (through_at ts)
+  through_at (t ∷ ts) = turn t ts ∙ turn_at t ts (place id ts) (through ts) (is_id_of id t) (through_at ts)
 
 named_later : (t : Tree) (ts : List Tree) (o : Option ℕ) → layer_at o ts ≡ layer_at (option_map suc o) (t ∷ ts)
 named_later t ts None = refl
@@ -102,9 +102,9 @@ inserted_is None layer ts = refl
 -- there is a layer at a place, and it has the id
 pub record IsThere (id : List ℕ) (ts : List Tree) (i : ℕ) : Type 0 where
   pub within : i < length ts
-  pub named : is_named id (get_or ts i null) ≡ true
+  pub named : is_id_of id (get_or ts i null) ≡ true
 
-there_step : (id : List ℕ) (t : Tree) (ts : List Tree) (o : Option ℕ) (i : ℕ) (same : Bool) → is_named id t ≡ same → ((k : ℕ) → o ≡ Some k → IsThere id ts k) → (if same then Some 0 else option_map suc o) ≡ Some i → IsThere id (t ∷ ts) i
+there_step : (id : List ℕ) (t : Tree) (ts : List Tree) (o : Option ℕ) (i : ℕ) (same : Bool) → is_id_of id t ≡ same → ((k : ℕ) → o ≡ Some k → IsThere id ts k) → (if same then Some 0 else option_map suc o) ≡ Some i → IsThere id (t ∷ ts) i
 there_step id t ts o zero true e go h = record { within = omega arith; named = e }
 there_step id t ts o (suc i) true e go h = absurd (cc)
 there_step id t ts None i false e go h = absurd (cc)
@@ -116,7 +116,7 @@ there_step id t ts (Some k) (suc i) false e go h =
 
 pub there : (id : List ℕ) (ts : List Tree) (i : ℕ) → place id ts ≡ Some i → IsThere id ts i
 there id [] i h = absurd (cc)
-there id (t ∷ ts) i h = there_step id t ts (place id ts) i (is_named id t) refl (there id ts) h
+there id (t ∷ ts) i h = there_step id t ts (place id ts) i (is_id_of id t) refl (there id ts) h
 
 -- ---- a layer that is moved
 
@@ -138,14 +138,14 @@ left_step i true o r h = ap Some (grind arith)
 left_step i false o r h = ap (option_map suc) h ∙ lowered_later i o
 
 -- the place of another layer in the layers that are left
-left_place : (id : List ℕ) (ts : List Tree) (i : ℕ) → i < length ts → is_named id (get_or ts i null) ≡ false → place id (remove ts i) ≡ lowered i (place id ts)
+left_place : (id : List ℕ) (ts : List Tree) (i : ℕ) → i < length ts → is_id_of id (get_or ts i null) ≡ false → place id (remove ts i) ≡ lowered i (place id ts)
 left_place id [] i h other = absurd (omega arith)
 left_place id (t ∷ ts) zero h other =
-    lowered_first (place id ts) ∙ ap (lowered 0) (sym (cond-false (is_named id t) (Some 0) (option_map suc (place id ts)) other))
-left_place id (t ∷ ts) (suc i) h other = left_step i (is_named id t) (place id ts) (place id (remove ts i)) (left_place id ts i (omega arith) other)
+    lowered_first (place id ts) ∙ ap (lowered 0) (sym (cond-false (is_id_of id t) (Some 0) (option_map suc (place id ts)) other))
+left_place id (t ∷ ts) (suc i) h other = left_step i (is_id_of id t) (place id ts) (place id (remove ts i)) (left_place id ts i (omega arith) other)
 
 -- a layer has one id
-one_id : (id other : List ℕ) (own : Option (List ℕ)) → has_text_id id own ≡ true → has_text_id other own ≡ true → bytes_eq id other ≡ true
+one_id : (id other : List ℕ) (own : Option (List ℕ)) → equals_id id own ≡ true → equals_id other own ≡ true → bytes_eq id other ≡ true
 one_id id other None h k = absurd (cc)
 one_id id other (Some s) h k = (bytes_eq-Decides id other).1 (sym ((bytes_eq-Decides s id).0 h) ∙ (bytes_eq-Decides s other).0 k)
 
@@ -159,7 +159,7 @@ other_place i j h = grind arith
 apart : (id other : List ℕ) (ts : List Tree) (i : ℕ) (o : Option ℕ) → place id ts ≡ Some i → bytes_eq id other ≡ false → place other ts ≡ o → is_own_place i o ≡ false
 apart id other ts i None h e p = refl
 apart id other ts i (Some j) h e p =
-    other_place i j (λ same. true≢false (sym (one_id id other _ (there id ts i h).named (subst (λ k. is_named other (get_or ts k null) ≡ true) same (there other ts j p).named)) ∙ e))
+    other_place i j (λ same. true≢false (sym (one_id id other _ (there id ts i h).named (subst (λ k. is_id_of other (get_or ts k null) ≡ true) same (there other ts j p).named)) ∙ e))
 
 itself_step : (id other : List ℕ) (ts : List Tree) (i : ℕ) (same : Bool) → place id ts ≡ Some i → bytes_eq id other ≡ same → same ≡ is_own_place i (place other ts)
 itself_step id other ts i true h e =
@@ -179,9 +179,9 @@ lowered_inserted : (layer : Tree) (ts : List Tree) (i : ℕ) (o : Option ℕ) �
 lowered_inserted layer ts i None h = last_inserted layer ts i h
 lowered_inserted layer ts i (Some j) h = refl
 
-other_named : (id other : List ℕ) (ts : List Tree) (i : ℕ) → place id ts ≡ Some i → bytes_eq id other ≡ false → is_named other (get_or ts i null) ≡ false
+other_named : (id other : List ℕ) (ts : List Tree) (i : ℕ) → place id ts ≡ Some i → bytes_eq id other ≡ false → is_id_of other (get_or ts i null) ≡ false
 other_named id other ts i h e =
-    false_from_ne_true (is_named other (get_or ts i null)) (λ k. true≢false (sym (one_id id other _ (there id ts i h).named k) ∙ e))
+    false_from_ne_true (is_id_of other (get_or ts i null)) (λ k. true≢false (sym (one_id id other _ (there id ts i h).named k) ∙ e))
 
 moved_there : (id : List ℕ) (before : Option (List ℕ)) (ts : List Tree) (i : ℕ) → place id ts ≡ Some i → is_itself id before ≡ false
     → with_layer before (get_or ts i null) (remove ts i) ≡ moved_items i (place_moved_to i (place_if before ts) (length ts)) ts
@@ -225,14 +225,14 @@ or_len_seen : (p : Tree → Bool) (js : List Json) → position_or_len p (items_
 or_len_seen p [] = refl
 or_len_seen p (j ∷ js) = ap (λ n. if not (p (tree_of j)) then 1 + n else 0) (or_len_seen p js)
 
-pub place_seen : (js : List Json) (id : List ℕ) → layer_place (items_view js) id ≡ position (λ j. is_named id (tree_of j)) js
-place_seen js id = λ i. if nat_lt (or_len_seen (is_named id) js i) (length-map js tree_of i) then Some (or_len_seen (is_named id) js i) else None
+pub place_seen : (js : List Json) (id : List ℕ) → layer_place (items_view js) id ≡ position (λ j. is_id_of id (tree_of j)) js
+place_seen js id = λ i. if nat_lt (or_len_seen (is_id_of id) js i) (length-map js tree_of i) then Some (or_len_seen (is_id_of id) js i) else None
 
 placed_by : (id : List ℕ) (ts : List Tree) (o : Option ℕ) → place id ts ≡ o → IfSome o (λ i. i < length ts)
 placed_by id ts None h = tt
 placed_by id ts (Some i) h = (there id ts i h).within
 
 -- the place of a layer that is named is one of a layer
-pub placed_within : (ts : List Tree) (name : Option (List ℕ)) → IfSome (then_some name (layer_place ts)) (λ i. i < length ts)
+pub placed_within : (ts : List Tree) (name : Option (List ℕ)) → IfSome (option_and_then (layer_place ts) name) (λ i. i < length ts)
 placed_within ts None = tt
 placed_within ts (Some id) = subst (λ (o : Option ℕ). IfSome o (λ i. i < length ts)) (sym (place_is ts id)) (placed_by id ts (place id ts) refl)

@@ -1,13 +1,16 @@
 -- Why an edit cannot be made: the first cause that holds, in their order.
-use Rattle.std.specs.Prelude.{ℕ, ℤ, pos, List, [], ◌∷◌, codes, Bool, true, false, ◌&&◌, not, Option, Some, None, is_none, if◌then◌else◌}
+use Rattle.std.specs.Prelude.{ℕ, ℤ, List, [], ◌∷◌, codes, Bool, true, false, ◌&&◌, not, Option, Some, None, is_none, if◌then◌else◌}
 use Rattle.std.specs.List.{list_all}
+use Rattle.std.specs.Option.{option_and_then}
+use Rattle.decimal_json.specs.Accessors.{member}
 use Rattle.decimal_json.specs.Tree.{Tree}
 use Rattle.edit_script.specs.Edit.{Edit, set_paint, set_layout, set_filter, set_range, add_layer, remove_layer, move_layer, set_zoom, set_state, remove_state}
 use Rattle.style_edits.specs.Layer.{is_null}
 use Rattle.style_edits.specs.Layers.{layer_list, layer_named}
 use Rattle.style_edits.specs.declared.faults.EditFault.{EditFault}
 use Rattle.style_edits.specs.declared.faults.EditFault.TheVariants.{UnknownLayer, UnknownBefore, UnknownSource, ZoomRange, UnknownProperty}
-use Rattle.style_rules.specs.Parts.{then_some, member, is_between}
+use Rattle.style_parts.specs.Numbers.{is_zoom}
+use Rattle.style_parts.specs.Parts.{source_at}
 
 -- ---- what an edit names
 
@@ -44,18 +47,18 @@ abbrev pub lacks_layer : List Tree → Option (List ℕ) → Bool
 lacks_layer ts (Some id) = is_none (layer_named id ts)
 lacks_layer ts None = false
 
-abbrev pub lacks_source : Option Tree → Option (List ℕ) → Bool
-lacks_source sources (Some name) = is_none (then_some sources (member name))
-lacks_source sources None = false
+abbrev pub lacks_source : Tree → Option (List ℕ) → Bool
+lacks_source document (Some name) = is_none (source_at document name)
+lacks_source document None = false
 
--- a zoom is from 0 to 24
-abbrev pub is_zoom : Option ℤ → Bool
-is_zoom (Some zoom) = is_between (pos 0) (pos 24000000) (Some zoom)
-is_zoom None = true
+-- a zoom that is given is from 0 to 24
+abbrev pub is_zoom_or_none : Option ℤ → Bool
+is_zoom_or_none (Some zoom) = is_zoom (Some zoom)
+is_zoom_or_none None = true
 
 -- a layer has no property of this name among those at a key, which is `paint` or `layout`
 abbrev pub lacks_property : List ℕ → List ℕ → Option Tree → Bool
-lacks_property key name layer = is_none (then_some (then_some layer (member key)) (member name))
+lacks_property key name layer = is_none (option_and_then (member name) (option_and_then (member key) layer))
 
 -- null is given for a property that is not set
 abbrev pub unsets_nothing : List Tree → Edit → Bool
@@ -74,6 +77,6 @@ abbrev pub edit_fault : Tree → Edit → Option EditFault
 edit_fault document edit = first_cause (
     (UnknownLayer, lacks_layer (layer_list document) (named_layer edit)) ∷
     (UnknownBefore, lacks_layer (layer_list document) (named_before edit)) ∷
-    (UnknownSource, lacks_source (member (codes "sources") document) (named_source edit)) ∷
-    (ZoomRange, not (list_all is_zoom (named_zooms edit))) ∷
+    (UnknownSource, lacks_source document (named_source edit)) ∷
+    (ZoomRange, not (list_all is_zoom_or_none (named_zooms edit))) ∷
     (UnknownProperty, unsets_nothing (layer_list document) edit) ∷ [])

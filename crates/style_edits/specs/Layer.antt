@@ -1,9 +1,9 @@
 -- A layer after an edit of one of its parts.
 use Rattle.std.specs.Prelude.{ℕ, ℤ, List, codes, Bool, true, false, Option, Some, None, unwrap_or, if◌then◌else◌}
 use Rattle.fixed_num.specs.NumberText.{number_text}
+use Rattle.decimal_json.specs.Accessors.{member}
 use Rattle.decimal_json.specs.Tree.{Tree, null, number}
 use Rattle.style_edits.specs.Objects.{object_with, object_replacing, object_without}
-use Rattle.style_rules.specs.Parts.{member}
 
 abbrev pub is_null : Tree → Bool
 is_null null = true

@@ -2,10 +2,10 @@
 -- each layer has an id of its own; else the first that has an id is the one that it names.
 use Rattle.std.specs.Prelude.{ℕ, List, [], ◌∷◌, ◌++◌, codes, Bool, false, Option, Some, None, if◌then◌else◌}
 use Rattle.std.specs.Str.{bytes_eq}
+use Rattle.decimal_json.specs.Accessors.{member}
 use Rattle.decimal_json.specs.Tree.{Tree, list, Trees, no_trees, tree, trees_of}
 use Rattle.style_edits.specs.Objects.{object_replacing}
-use Rattle.style_rules.specs.Parts.{member, text_at}
-use Rattle.style_rules.specs.Places.{has_text_id, layers_of}
+use Rattle.style_parts.specs.Parts.{is_id_of, layers_of}
 
 -- ---- the layers of a document
 
@@ -32,28 +32,24 @@ with_layers change document = with_changed change (member (codes "layers") docum
 
 -- ---- layers by their ids
 
--- a layer has this text as its id
-abbrev pub is_named : List ℕ → Tree → Bool
-is_named id layer = has_text_id id (text_at (codes "id") layer)
-
 abbrev pub layer_named : List ℕ → List Tree → Option Tree
 layer_named id [] = None
-layer_named id (t ∷ ts) = if is_named id t then Some t else layer_named id ts
+layer_named id (t ∷ ts) = if is_id_of id t then Some t else layer_named id ts
 
 -- one layer is changed
 abbrev pub changed_layer : List ℕ → (Tree → Tree) → List Tree → List Tree
 changed_layer id change [] = []
-changed_layer id change (t ∷ ts) = if is_named id t then change t ∷ ts else t ∷ changed_layer id change ts
+changed_layer id change (t ∷ ts) = if is_id_of id t then change t ∷ ts else t ∷ changed_layer id change ts
 
 -- one layer is taken out
 abbrev pub without_layer : List ℕ → List Tree → List Tree
 without_layer id [] = []
-without_layer id (t ∷ ts) = if is_named id t then ts else t ∷ without_layer id ts
+without_layer id (t ∷ ts) = if is_id_of id t then ts else t ∷ without_layer id ts
 
 -- a layer is put before another, or last where no layer has that id
 abbrev pub layer_before : List ℕ → Tree → List Tree → List Tree
 layer_before id layer [] = layer ∷ []
-layer_before id layer (t ∷ ts) = if is_named id t then layer ∷ t ∷ ts else t ∷ layer_before id layer ts
+layer_before id layer (t ∷ ts) = if is_id_of id t then layer ∷ t ∷ ts else t ∷ layer_before id layer ts
 
 -- a layer is put before another, or last
 abbrev pub with_layer : Option (List ℕ) → Tree → List Tree → List Tree

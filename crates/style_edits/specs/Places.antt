@@ -1,21 +1,22 @@
 -- Where the layers are that an edit names.
 use Rattle.std.specs.Prelude.{ℕ, List, Option}
 use Rattle.std.specs.List.{position}
+use Rattle.std.specs.Option.{option_and_then}
 use Rattle.decimal_json.specs.Tree.{Tree}
 use Rattle.edit_script.specs.Edit.{Edit}
 use Rattle.style_edits.specs.Faults.{named_layer, named_before}
-use Rattle.style_edits.specs.Layers.{is_named, layer_list}
+use Rattle.style_edits.specs.Layers.{layer_list}
 use Rattle.style_edits.specs.declared.places.EditPlaces.{EditPlaces}
-use Rattle.style_rules.specs.Parts.{then_some}
+use Rattle.style_parts.specs.Parts.{is_id_of}
 
 -- the place of the layer that an id names: of the first that has it, counted from 0
 abbrev pub layer_place : List Tree → List ℕ → Option ℕ
-layer_place ts id = position (is_named id) ts
+layer_place ts id = position (is_id_of id) ts
 
 abbrev pub places_in : List Tree → Edit → EditPlaces
 places_in ts edit = record {
-  layer = then_some (named_layer edit) (layer_place ts);
-  before = then_some (named_before edit) (layer_place ts);
+  layer = option_and_then (layer_place ts) (named_layer edit);
+  before = option_and_then (layer_place ts) (named_before edit);
 }
 
 -- The places of the layers that an edit of a document names. Source: own.

@@ -1,9 +1,9 @@
 -- Layers that are taken out of a document for an edit.
 use Rattle.std.specs.Prelude.{◌≡◌, List, [], codes, Bool, true, false, Option, Some, None}
+use Rattle.decimal_json.specs.Accessors.{member}
 use Rattle.decimal_json.specs.Tree.{Tree, null, list, trees_of}
 use Rattle.style_edits.specs.Layers.{layer_list, with_layers}
 use Rattle.style_edits.specs.Objects.{object_replacing}
-use Rattle.style_rules.specs.Parts.{member}
 
 abbrev pub has_array : Option Tree → Bool
 has_array (Some (list ts)) = true

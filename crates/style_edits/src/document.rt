@@ -1,27 +1,13 @@
-//! The layers of a document: looked at, and taken out and put back for an edit.
+//! The layers of a document, taken out and put back for an edit.
 
 ghost use Rattle.std.specs.Prelude.{◌≡◌, codes};
-ghost use Rattle.decimal_json.specs.View.{tree_of, items_view};
-ghost use Rattle.style_edits.specs.Layers.{layer_list, with_list};
+ghost use Rattle.decimal_json.specs.Accessors.{member};
+ghost use Rattle.decimal_json.specs.View.{tree_of};
+ghost use Rattle.style_edits.specs.Layers.{with_list};
 ghost use Rattle.style_edits.specs.Taking.{has_array, TakesLayers};
-ghost use Rattle.style_rules.specs.Parts.{member};
 
 use crate::objects::replace_member;
 use decimal_json::{Items, Json};
-
-/// The layers of a document; none where `layers` is no array.
-#[tactic(auto, using(crate::proofs::DocumentLaws::listed))]
-pub(crate) fn layers_in(style: &Json) -> &[Json]
-    ensures { items_view result.now ≡ layer_list (tree_of style.now) }
-{
-    match style {
-        Json::Object(members) => match members.get("layers") {
-            Some(Json::List(layers)) => layers.as_slice(),
-            _ => &[],
-        },
-        _ => &[],
-    }
-}
 
 /// Takes the layers out of a document, which has a null in their place until they are put back. Where `layers` is no
 /// array, nothing changes.
@@ -40,13 +26,7 @@ pub(crate) fn take_layers(style: &mut Json) -> Option<Items>
 fn has_array(style: &Json) -> bool
     ensures { result ≡ has_array (member (codes "layers") (tree_of style.now)) }
 {
-    let Json::Object(members) = style else {
-        return false;
-    };
-    match members.get("layers") {
-        Some(Json::List(_)) => true,
-        _ => false,
-    }
+    matches!(style.get("layers"), Some(Json::List(_)))
 }
 
 /// Puts layers in place of what `layers` is.

@@ -1,23 +1,21 @@
 //! The fault of an edit.
 
-ghost use Rattle.std.specs.Prelude.{◌≡◌, codes, Some, None, is_none, ◌&&◌, if◌then◌else◌};
-ghost use Rattle.decimal_json.specs.View.{tree_of};
+ghost use Rattle.std.specs.Prelude.{◌≡◌, Some, None, is_none, ◌&&◌, if◌then◌else◌};
+ghost use Rattle.decimal_json.specs.View.{tree_at, tree_of};
 ghost use Rattle.edit_script.specs.View.{command_seen};
 ghost use Rattle.style_edits.specs.ByPlace.{fault_at, is_missing, layer_at};
 ghost use Rattle.style_edits.specs.Places.{places_of};
-ghost use Rattle.style_edits.specs.Faults.{edit_fault, lacks_property, lacks_source, is_zoom};
+ghost use Rattle.style_edits.specs.Faults.{edit_fault, lacks_property, lacks_source, is_zoom_or_none};
 ghost use Rattle.style_edits.specs.Layer.{is_null};
 ghost use Rattle.style_edits.specs.Layers.{layer_list};
 ghost use Rattle.style_edits.specs.declared.faults.EditFault.{EditFault};
-ghost use Rattle.style_rules.specs.CodeView.{tree_at};
-ghost use Rattle.style_rules.specs.Parts.{then_some, member};
 
-use crate::document::layers_in;
 use crate::layer::is_null;
 use crate::places::EditPlaces;
 use decimal_json::{Json, Text};
 use edit_script::Command;
 use fixed_num::Fixed;
+use style_parts::{is_zoom, layers_of, source_at};
 
 /// Why an edit cannot be made, in the order in which the causes are looked for.
 #[derive(Clone, Copy, Debug, PartialEq, Eq)]
@@ -33,9 +31,6 @@ pub enum EditFault {
     /// It takes away a property that is not set.
     UnknownProperty,
 }
-
-/// The greatest zoom, in millionths.
-const MOST_ZOOM: i128 = 24_000_000;
 
 /// The fault of an edit of a document, or `None` exactly where it can be made. It asks the places of the layers that the
 /// edit names, and looks up a few keys.
@@ -84,33 +79,34 @@ fn before_fault(places: EditPlaces, before: &Option<Text>) -> Option<EditFault>
 }
 
 fn range_fault(min: Option<Fixed>, max: Option<Fixed>) -> Option<EditFault>
-    ensures { result ≡ (if is_zoom min && is_zoom max then None else Some EditFault.ZoomRange) }
+    ensures { result ≡ (if is_zoom_or_none min && is_zoom_or_none max then None else Some EditFault.ZoomRange) }
 {
-    if is_zoom(min) && is_zoom(max) {
+    if is_zoom_or_none(min) && is_zoom_or_none(max) {
         return None;
     }
     Some(EditFault::ZoomRange)
 }
 
-fn is_zoom(zoom: Option<Fixed>) -> bool
-    ensures { result ≡ is_zoom zoom }
+fn is_zoom_or_none(zoom: Option<Fixed>) -> bool
+    ensures { result ≡ is_zoom_or_none zoom }
 {
     match zoom {
-        Some(zoom) => 0 <= zoom.millionths() && zoom.millionths() <= MOST_ZOOM,
+        Some(zoom) => is_zoom(zoom),
         None => true,
     }
 }
 
 fn source_fault(style: &Json, source: &Text) -> Option<EditFault>
-    ensures { result ≡ (if lacks_source (member (codes "sources") (tree_of style.now)) (Some source.now)
+    ensures { result ≡ (if lacks_source (tree_of style.now) (Some source.now)
         then Some EditFault.UnknownSource else None) }
 {
-    match member_at(member_at(Some(style), "sources"), source.as_str()) {
+    match source_at(style, source.as_str()) {
         Some(_) => None,
         None => Some(EditFault::UnknownSource),
     }
 }
 
+#[tactic(auto, using(crate::proofs::DocumentLaws::layers_listed))]
 fn property_fault(
     style: &Json,
     places: EditPlaces,
@@ -126,7 +122,7 @@ fn property_fault(
     let Some(place) = places.layer else {
         return Some(EditFault::UnknownLayer);
     };
-    if is_null(value) && lacks_property(layers_in(style).get(place), key, name.as_str()) {
+    if is_null(value) && lacks_property(layers_of(style).get(place), key, name.as_str()) {
         return Some(EditFault::UnknownProperty);
     }
     None
@@ -135,15 +131,8 @@ fn property_fault(
 fn lacks_property(layer: Option<&Json>, key: &str, name: &str) -> bool
     ensures { result ≡ lacks_property key.now name.now (tree_at layer.entry) }
 {
-    member_at(member_at(layer, key), name).is_none()
-}
-
-// A member of a tree, where both are there.
-fn member_at<'a>(json: Option<&'a Json>, key: &str) -> Option<&'a Json>
-    ensures { tree_at result ≡ then_some (tree_at json.entry) (member key.now) }
-{
-    match json {
-        Some(Json::Object(members)) => members.get(key),
-        _ => None,
-    }
+    layer
+        .and_then(|layer| layer.get(key))
+        .and_then(|properties| properties.get(name))
+        .is_none()
 }

@@ -1,9 +1,9 @@
 //! Objects that get, change or lose a member.
 
 ghost use Rattle.std.specs.Prelude.{◌≡◌, IfOk, option_map};
+ghost use Rattle.decimal_json.specs.Accessors.{member};
 ghost use Rattle.decimal_json.specs.View.{tree_of};
 ghost use Rattle.style_edits.specs.Objects.{object_with, object_replacing, object_without};
-ghost use Rattle.style_rules.specs.Parts.{member};
 
 use decimal_json::{Json, Members, Text};
 use std::alloc::{AllocError, Global};

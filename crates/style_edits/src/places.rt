@@ -2,16 +2,17 @@
 
 ghost use Rattle.std.specs.Prelude.{◌≡◌, option_map};
 ghost use Rattle.std.specs.List.{position};
+ghost use Rattle.std.specs.Option.{option_and_then};
 ghost use Rattle.decimal_json.specs.View.{tree_of};
 ghost use Rattle.edit_script.specs.View.{command_seen};
 ghost use Rattle.style_edits.specs.Places.{layer_place, places_of};
 ghost use Rattle.style_edits.specs.Faults.{named_layer, named_before};
-ghost use Rattle.style_edits.specs.Layers.{is_named, layer_list};
-ghost use Rattle.style_rules.specs.Parts.{then_some};
+ghost use Rattle.style_edits.specs.Layers.{layer_list};
+ghost use Rattle.style_parts.specs.Parts.{is_id_of};
 
-use crate::document::layers_in;
 use decimal_json::{Json, Text};
 use edit_script::Command;
+use style_parts::{is_id_of, layers_of};
 
 /// The places of the layers that an edit names, counted from 0: each where it names one that is there.
 #[derive(Clone, Copy, Debug, PartialEq, Eq)]
@@ -58,7 +59,7 @@ fn before_named(command: &Command) -> Option<&Text>
 
 fn place_named(style: &Json, name: Option<&Text>) -> Option<usize>
     ensures { result
-        ≡ then_some (option_map (λ id. id.now) name.entry) (layer_place (layer_list (tree_of style.now))) }
+        ≡ option_and_then (layer_place (layer_list (tree_of style.now))) (option_map (λ id. id.now) name.entry) }
 {
     match name {
         Some(id) => layer_place(style, id.as_str()),
@@ -68,27 +69,15 @@ fn place_named(style: &Json, name: Option<&Text>) -> Option<usize>
 
 /// The place of the layer that has this text as its id, counted from 0; of the first where several have it. Goes through
 /// the layers.
-#[tactic(auto, using(crate::proofs::PlaceLaws::place_seen))]
+#[tactic(auto, using(crate::proofs::PlaceLaws::place_seen, crate::proofs::DocumentLaws::layers_listed))]
 pub fn layer_place(style: &Json, id: &str) -> Option<usize>
     ensures { result ≡ layer_place (layer_list (tree_of style.now)) id.now }
 {
-    place_in(layers_in(style), id)
+    place_in(layers_of(style), id)
 }
 
 fn place_in(layers: &[Json], id: &str) -> Option<usize>
-    ensures { result ≡ position (λ layer. is_named id.now (tree_of layer)) layers.now }
+    ensures { result ≡ position (λ layer. is_id_of id.now (tree_of layer)) layers.now }
 {
-    layers.iter().position(|layer| is_named(layer, id))
-}
-
-fn is_named(layer: &Json, id: &str) -> bool
-    ensures { result ≡ is_named id.now (tree_of layer.now) }
-{
-    let Json::Object(members) = layer else {
-        return false;
-    };
-    match members.get("id") {
-        Some(Json::Text(own)) => own.as_str() == id,
-        _ => false,
-    }
+    layers.iter().position(|layer| is_id_of(id, layer))
 }

@@ -1,9 +1,5 @@
 -- What contracts of private functions see of the program's values.
 use Rattle.std.specs.Prelude.{ℕ, ℤ, List, map, Bool, Option, option_map}
-use Rattle.std.specs.Borrow.{Bor}
-use Rattle.decimal_json.specs.Tree.{Tree}
-use Rattle.decimal_json.specs.View.{tree_of}
-use Rattle.decimal_json.specs.declared.tree.Json.{Json}
 use Rattle.prop_values.specs.View.{data_of}
 use Rattle.stable_order.specs.Keys.{key_before}
 use Rattle.tile_reader.specs.declared.tile.Feature.{Feature}
@@ -38,10 +34,6 @@ filter_seen filters.Every = forms.every
 filter_seen (filters.Condition e) = forms.condition (term_of e)
 filter_seen (filters.Legacy f) = forms.legacy_filter (filter_of f)
 filter_seen filters.Outside = forms.outside_filter
-
--- the tree of a member, where it is there
-abbrev pub tree_at : Option (Bor Json) → Option Tree
-tree_at = option_map (λ (member : Bor Json). tree_of member.now)
 
 abbrev pub property_seen : Property → forms.Property
 property_seen p = record { row = row_seen p.row; source = source_seen p.source; fallback = option_map data_of p.fallback; is_per_feature = p.is_per_feature }

@@ -28,9 +28,9 @@ use Rattle.legacy_functions.specs.Function.{Function}
 use Rattle.legacy_functions.specs.Meaning as meanings
 use Rattle.legacy_functions.specs.ToExpression.{function_expression}
 use Rattle.legacy_functions.specs.Tokens.{token_text, token_expression}
-use Rattle.style_rules.specs.Values as values
-use Rattle.style_rules.specs.declared.forms.Form.{Form}
-use Rattle.style_rules.specs.declared.forms.Form.TheVariants as forms
+use Rattle.value_forms.specs.Forms as values
+use Rattle.value_forms.specs.declared.forms.Form.TheVariants as forms
+use Rattle.value_forms.specs.declared.forms.Form.{Form}
 
 -- What all layers of a layout see.
 pub record Scene : Type 0 where

@@ -1,18 +1,20 @@
 -- What a layer of a document is for its layout: how it is shown, its properties, its source and its filter.
 use Rattle.std.specs.Prelude.{ℕ, ℤ, int_lt, int_le, List, [], ◌∷◌, flat_map, filter, codes, Bool, true, false, not, ◌||◌, ◌&&◌, Option, Some, None, option_map, if◌then◌else◌}
 use Rattle.std.specs.Str.{bytes_eq}
+use Rattle.std.specs.Option.{option_and_then}
 use Rattle.decimal_json.specs.Tree.{Tree, Trees, no_trees, tree}
+use Rattle.decimal_json.specs.Accessors.{member, text_at}
 use Rattle.prop_values.specs.Data.{Data}
 use Rattle.property_tables.specs.Rows.{RowData, rows_of}
 use Rattle.property_tables.specs.declared.layer_type.LayerType.{LayerType}
 use Rattle.property_tables.specs.declared.layer_type.LayerType.TheVariants.{Background, Fill, Line, Symbol, Circle, Raster, Hillshade, ColorRelief}
 use Rattle.property_tables.specs.declared.property_row.Place.{Place}
 use Rattle.property_tables.specs.declared.property_row.Place.TheVariants.{Layout, Paint}
+use Rattle.style_parts.specs.Parts.{is_among, layers_of}
+use Rattle.style_parts.specs.Numbers.{number_in}
+use Rattle.value_forms.specs.LayerTypes.{is_unread_type, layer_type}
 use Rattle.listing_text.specs.declared.show.Show.{Show}
 use Rattle.listing_text.specs.declared.show.Show.TheVariants.{Plain, Hidden, Unread, OutsideFilter}
-use Rattle.style_rules.specs.Ground.{is_unread_type, layer_type}
-use Rattle.style_rules.specs.Parts.{then_some, member, text_at, is_among, number_in}
-use Rattle.style_rules.specs.Places.{layers_of}
 use Rattle.style_layout.specs.Forms.{Property, property_of, FilterSource, filter_source, is_outside}
 
 -- ---- how a layer is shown
@@ -23,11 +25,11 @@ place_key Paint = codes "paint"
 
 -- the value of a name in `layout` or `paint`
 abbrev pub set_value : Tree → Place → List ℕ → Option Tree
-set_value layer place name = then_some (member (place_key place) layer) (member name)
+set_value layer place name = option_and_then (member name) (member (place_key place) layer)
 
 -- `visibility` is the text `none`, also of a type whose properties are not read
 abbrev pub is_invisible : Tree → Bool
-is_invisible layer = is_among (codes "none" ∷ []) (then_some (member (codes "layout") layer) (text_at (codes "visibility")))
+is_invisible layer = is_among (codes "none" ∷ []) (option_and_then (text_at (codes "visibility")) (member (codes "layout") layer))
 
 abbrev pub is_below : ℤ → Option ℤ → Bool
 is_below zoom (Some least) = int_lt zoom least
@@ -38,7 +40,7 @@ is_from zoom (Some most) = int_le most zoom
 is_from zoom None = false
 
 abbrev pub limit_at : List ℕ → Tree → Option ℤ
-limit_at key layer = then_some (member key layer) number_in
+limit_at key layer = option_and_then number_in (member key layer)
 
 -- the types that show features of tiles
 abbrev pub has_features : LayerType → Bool
@@ -84,7 +86,7 @@ property_named name [] = None
 property_named name (p ∷ ps) = if bytes_eq p.row.name name then Some p else property_named name ps
 
 abbrev pub sort_property : LayerType → List Property → Option Property
-sort_property type ps = then_some (sort_row type) (λ name. property_named name ps)
+sort_property type ps = option_and_then (λ name. property_named name ps) (sort_row type)
 
 -- ---- a layer as its layout reads it
 

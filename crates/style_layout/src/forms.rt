@@ -1,7 +1,7 @@
 //! What the value of a property is, and what a filter is.
 
 ghost use Rattle.std.specs.Prelude.{◌≡◌, IfOk};
-ghost use Rattle.decimal_json.specs.View.{tree_of};
+ghost use Rattle.decimal_json.specs.View.{tree_of, tree_at};
 ghost use Rattle.property_tables.specs.RowView.{row_seen};
 ghost use Rattle.property_tables.specs.Rows.{takes_tokens};
 ghost use Rattle.expr_syntax.specs.Mentioned.{mentions};
@@ -9,8 +9,8 @@ ghost use Rattle.expr_syntax.specs.Reading.{reading_with};
 ghost use Rattle.expr_syntax.specs.TermView.{term_of};
 ghost use Rattle.legacy_functions.specs.Form.{form};
 ghost use Rattle.property_tables.specs.Literals.{literal_of};
-ghost use Rattle.style_rules.specs.Values.{target_of};
-ghost use Rattle.style_layout.specs.CodeView.{source_seen, filter_seen, tree_at};
+ghost use Rattle.value_forms.specs.Forms.{target_of};
+ghost use Rattle.style_layout.specs.CodeView.{source_seen, filter_seen};
 ghost use Rattle.style_layout.specs.Forms.{source_of, is_per_feature, filter_source, literal_source, term_source, function_source, text_source, reads_feature, term_mentions};
 
 use decimal_json::{Json, Text};
@@ -21,7 +21,7 @@ use legacy_functions::{Function, FunctionReading, token_expr};
 use prop_values::{Entries, Value};
 use property_tables::{Row, literal};
 use std::alloc::{AllocError, Global};
-use style_rules::{Form, form_of};
+use value_forms::{Form, form_of};
 
 /// The value of a property.
 #[derive(Drop)]

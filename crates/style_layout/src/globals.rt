@@ -1,12 +1,13 @@
 //! The values of the global state that a document gives.
 
 ghost use Rattle.std.specs.Prelude.{◌≡◌, [], codes, OnOk, IfOk, option_map};
+ghost use Rattle.std.specs.Option.{option_and_then};
 ghost use Rattle.decimal_json.specs.Tree.{fields_of};
 ghost use Rattle.decimal_json.specs.View.{tree_of, fields};
+ghost use Rattle.decimal_json.specs.Accessors.{member, fields_in};
 ghost use Rattle.prop_values.specs.JsonData.{json_data};
 ghost use Rattle.prop_values.specs.View.{data_of};
 ghost use Rattle.style_layout.specs.Globals.{globals_of, with_defaults, with_default, default_in, data_read};
-ghost use Rattle.style_rules.specs.Parts.{then_some, member, fields_in};
 
 use decimal_json::{Json, Member, Members};
 use prop_values::{Entries, Value, from_json};
@@ -24,15 +25,9 @@ pub fn globals_of(alloc: Global, document: &Json) -> Result<Entries, AllocError>
 
 fn state_of(document: &Json) -> Option<&Members>
     ensures { option_map (λ members. fields_of members.now) result
-        ≡ then_some (member (codes "state") (tree_of document.now)) fields_in }
+        ≡ option_and_then fields_in (member (codes "state") (tree_of document.now)) }
 {
-    let Json::Object(members) = document else {
-        return None;
-    };
-    match members.get("state") {
-        Some(Json::Object(state)) => Some(state),
-        _ => None,
-    }
+    document.get("state").and_then(Json::as_members)
 }
 
 fn defaults_of(alloc: Global, state: &[Member]) -> Result<Entries, AllocError>
@@ -57,10 +52,7 @@ fn put_default(alloc: Global, member: &Member, globals: &mut Entries) -> Result<
 fn default_in(alloc: Global, json: &Json) -> Result<Option<Value>, AllocError>
     ensures { IfOk result (λ found. option_map data_of found ≡ default_in (tree_of json.now)) }
 {
-    let Json::Object(members) = json else {
-        return Ok(None);
-    };
-    match members.get("default") {
+    match json.get("default") {
         Some(default) => value_in(alloc, default),
         None => Ok(None),
     }

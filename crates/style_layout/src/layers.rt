@@ -3,7 +3,7 @@
 ghost use Rattle.std.specs.Prelude.{◌≡◌, map, IfOk, option_map};
 ghost use Rattle.decimal_json.specs.Tree.{object, fields_of};
 ghost use Rattle.decimal_json.specs.View.{tree_of};
-ghost use Rattle.style_rules.specs.Ground.{is_unread_type};
+ghost use Rattle.value_forms.specs.LayerTypes.{is_unread_type};
 ghost use Rattle.style_layout.specs.CodeView.{filter_seen, layer_seen, property_seen};
 ghost use Rattle.style_layout.specs.Forms.{is_outside};
 ghost use Rattle.style_layout.specs.Layers.{layer_of, typed_layer, text_of, limit_at, is_invisible, is_hidden, is_below, is_from, show_of, sort_property, sort_row, property_named};
@@ -17,7 +17,8 @@ use listing_text::Show;
 use prop_values::Entries;
 use property_tables::{LayerType, Place};
 use std::alloc::{AllocError, Global};
-use style_rules::{layer_type, number_in};
+use style_parts::number_in;
+use value_forms::{is_unread_type, layer_type};
 
 /// A layer.
 #[derive(Drop)]
@@ -159,16 +160,6 @@ fn is_outside(filter: &FilterSource) -> bool
 {
     match filter {
         FilterSource::Outside => true,
-        _ => false,
-    }
-}
-
-fn is_unread_type(layer_type: LayerType) -> bool
-    ensures { result ≡ is_unread_type layer_type }
-{
-    match layer_type {
-        LayerType::Hillshade => true,
-        LayerType::ColorRelief => true,
         _ => false,
     }
 }

@@ -1,9 +1,8 @@
 //! A style, of which each value is read once.
 
 ghost use Rattle.std.specs.Prelude.{◌≡◌, IfOk};
-ghost use Rattle.decimal_json.specs.Tree.{trees_of};
-ghost use Rattle.decimal_json.specs.View.{tree_of, trees};
-ghost use Rattle.style_rules.specs.Places.{layers_of};
+ghost use Rattle.decimal_json.specs.View.{tree_of};
+ghost use Rattle.style_parts.specs.Parts.{layers_of};
 ghost use Rattle.style_layout.specs.CodeView.{layers_seen};
 ghost use Rattle.style_layout.specs.Layers.{style_layers};
 
@@ -11,6 +10,7 @@ use crate::layers::{StyleLayer, layer_of};
 use decimal_json::Json;
 use prop_values::Entries;
 use std::alloc::{AllocError, Global};
+use style_parts::layers_of;
 
 /// A style as its layout reads it.
 #[derive(Drop)]
@@ -35,16 +35,4 @@ pub fn prepare(
         }
     }
     Ok(PreparedStyle { layers })
-}
-
-fn layers_of(document: &Json) -> &[Json]
-    ensures { trees result.now ≡ layers_of (tree_of document.now) }
-{
-    let Json::Object(members) = document else {
-        return &[];
-    };
-    match members.get("layers") {
-        Some(Json::List(items)) => items.as_slice(),
-        _ => &[],
-    }
 }

@@ -2,11 +2,10 @@
 
 ghost use Rattle.std.specs.Prelude.{◌≡◌, ◌++◌, ◌<◌, length, get_or, map, OnOk, IfOk, IfSome, Some, option_map};
 ghost use Rattle.decimal_json.specs.Tree.{object, fields_of};
-ghost use Rattle.decimal_json.specs.View.{tree_of};
+ghost use Rattle.decimal_json.specs.View.{tree_of, tree_at};
 ghost use Rattle.property_tables.specs.RowView.{row_seen};
 ghost use Rattle.property_tables.specs.Rows.{RowData, rows_of, takes_tokens};
-ghost use Rattle.style_rules.specs.Parts.{then_some, member};
-ghost use Rattle.style_layout.specs.CodeView.{property_seen, tree_at};
+ghost use Rattle.style_layout.specs.CodeView.{property_seen};
 ghost use Rattle.style_layout.specs.Forms.{property_of};
 ghost use Rattle.style_layout.specs.Layers.{properties_of, set_property, set_value};
 
@@ -102,16 +101,7 @@ pub(crate) fn set_value<'a>(layer: &'a Members, place: Place, name: &str) -> Opt
         Place::Layout => layer.get("layout"),
         Place::Paint => layer.get("paint"),
     };
-    member(placed, name)
-}
-
-fn member<'a>(json: Option<&'a Json>, key: &str) -> Option<&'a Json>
-    ensures { tree_at result ≡ then_some (tree_at json.entry) (member key.now) }
-{
-    match json {
-        Some(Json::Object(members)) => members.get(key),
-        _ => None,
-    }
+    placed.and_then(|properties| properties.get(name))
 }
 
 fn read_property(

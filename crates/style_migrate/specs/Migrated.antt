@@ -6,16 +6,16 @@ use Rattle.decimal_json.specs.Tree.{Tree, text, list, object, Trees, no_trees, t
 use Rattle.property_tables.specs.Rows.{RowData, row_of}
 use Rattle.property_tables.specs.declared.layer_type.LayerType.{LayerType}
 use Rattle.property_tables.specs.declared.property_row.Place.{Place}
+use Rattle.style_parts.specs.Parts.{is_layers}
 use Rattle.legacy_functions.specs.Form as functions
 use Rattle.legacy_functions.specs.Function.{Function}
 use Rattle.legacy_functions.specs.ToExpression.{function_expression}
 use Rattle.legacy_functions.specs.Tokens.{token_expression}
 use Rattle.legacy_filters.specs.Migrated.{migrated_filter}
-use Rattle.style_rules.specs.Ground.{layer_type, tested_type}
-use Rattle.style_rules.specs.Places.{is_layers, place_named}
-use Rattle.style_rules.specs.Values.{form_of, target_of}
-use Rattle.style_rules.specs.declared.forms.Form.{Form}
-use Rattle.style_rules.specs.declared.forms.Form.TheVariants as forms
+use Rattle.value_forms.specs.declared.forms.Form.TheVariants as forms
+use Rattle.value_forms.specs.LayerTypes.{layer_type, tested_type, place_named}
+use Rattle.value_forms.specs.Forms.{form_of, target_of}
+use Rattle.value_forms.specs.declared.forms.Form.{Form}
 
 -- ---- the value of a property, by the form that it has
 

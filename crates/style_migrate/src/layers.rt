@@ -11,7 +11,7 @@ use decimal_json::{Json, Member, Members, copy};
 use legacy_filters::{is_legacy, read};
 use property_tables::{LayerType, Place};
 use std::alloc::{AllocError, Global};
-use style_rules::{layer_type, tested_type};
+use value_forms::{layer_type, tested_type};
 
 #[tactic(auto, using(crate::proofs::MappedLaws::fields_mapped))]
 pub(crate) fn migrate_layer(alloc: Global, layer: &Json) -> Result<Json, AllocError>

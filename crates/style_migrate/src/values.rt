@@ -5,14 +5,14 @@ ghost use Rattle.decimal_json.specs.View.{tree_of};
 ghost use Rattle.property_tables.specs.RowView.{row_seen};
 ghost use Rattle.property_tables.specs.Rows.{takes_tokens};
 ghost use Rattle.legacy_functions.specs.Form.{form};
-ghost use Rattle.style_rules.specs.Values.{target_of};
+ghost use Rattle.value_forms.specs.Forms.{target_of};
 ghost use Rattle.style_migrate.specs.Migrated.{migrated_value, function_or, tokens_or};
 
 use decimal_json::{Json, copy};
 use legacy_functions::{FunctionReading, read, token_expr};
 use property_tables::Row;
 use std::alloc::{AllocError, Global};
-use style_rules::{Form, form_of};
+use value_forms::{Form, form_of};
 
 /// The migrated value of a property of a row. A row of literals alone keeps its value.
 pub(crate) fn migrate_value(alloc: Global, row: &Row, json: &Json) -> Result<Json, AllocError>

@@ -1,18 +1,18 @@
 -- Laws of the walk over a document.
-use Rattle.std.specs.Prelude.{◌≡◌, ℕ, zero, suc, ◌+◌, ◌<◌, List, [], ◌∷◌, ◌++◌, length, drop, codes, Bool, true, false, ◌||◌, Option}
+use Rattle.std.specs.Prelude.{◌≡◌, ℕ, zero, suc, ◌+◌, ◌<◌, List, [], ◌∷◌, ◌++◌, length, drop, Bool, true, false, ◌||◌, Option}
 use Rattle.std.proofs.Common.{refl, sym, ap, ◌∙◌, arith}
 use Rattle.std.proofs.Math.ListN.{get_or}
 use Rattle.std.proofs.lemmas.List.{append_assoc, drop_more}
-use Rattle.decimal_json.specs.Tree.{Tree, Trees, no_trees, tree, Fields}
+use Rattle.decimal_json.specs.Tree.{Trees, no_trees, tree, Fields}
 use Rattle.decimal_json.specs.View.{tree_of, trees}
 use Rattle.decimal_json.specs.declared.paths.PathPart.{PathPart}
 use Rattle.decimal_json.specs.declared.paths.PathPart.TheVariants.{Index}
 use Rattle.decimal_json.specs.declared.tree.Json.{Json}
 use Rattle.prop_values.specs.Data.{Data}
+use Rattle.style_parts.specs.Parts.{is_id_of}
 use Rattle.style_rules.specs.CodeView.{has_name}
 use Rattle.style_rules.specs.Levels.{layer_told, layers_told}
-use Rattle.style_rules.specs.Parts.{text_at}
-use Rattle.style_rules.specs.Places.{used_in, has_text_id}
+use Rattle.style_rules.specs.Places.{used_in}
 use Rattle.style_rules.specs.Rules.{count_of}
 use Rattle.style_rules.specs.declared.told.Told.{Told}
 
@@ -30,7 +30,7 @@ pub none_used : (index : List (List ℕ × Data)) (ts : Trees) (id : List ℕ) �
 none_used index ts id none = ap (λ e. has_name e id) none ∙ sym (none_before ts id)
 
 abbrev has_id : List ℕ → Json → Bool
-has_id id j = has_text_id id (text_at (codes "id") (tree_of j))
+has_id id j = is_id_of id (tree_of j)
 
 swapped : (a b c : Bool) → (a || (b || c)) ≡ (b || (a || c))
 swapped true true c = refl

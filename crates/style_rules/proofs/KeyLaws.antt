@@ -1,18 +1,19 @@
 -- What is told of a member, by what its key names.
-use Rattle.std.specs.Prelude.{◌≡◌, ℕ, List, [], ◌∷◌, ◌++◌, codes, Bool, true, false, Option, Some, None}
+use Rattle.std.specs.Prelude.{◌≡◌, ℕ, List, [], ◌∷◌, ◌++◌, codes, Bool, true, false, Some}
 use Rattle.std.specs.Str.{bytes_eq}
 use Rattle.std.proofs.Common.{refl, sym, ap, subst, ◌∙◌, inl, inr}
 use Rattle.std.proofs.lemmas.Bool.{cases_Bool}
 use Rattle.std.proofs.lemmas.Slice.Eq.{bytes_eq-Decides}
-use Rattle.decimal_json.specs.Tree.{Tree, null, boolean, number, text, list, object, Fields}
+use Rattle.decimal_json.specs.Tree.{Tree, null, boolean, number, text, list, object}
 use Rattle.decimal_json.specs.declared.paths.PathPart.{PathPart}
 use Rattle.decimal_json.specs.declared.paths.PathPart.TheVariants.{Key}
+use Rattle.decimal_json.specs.Accessors.{member, trees_in}
+use Rattle.style_parts.specs.Parts.{layers_of, sources_of}
 use Rattle.style_rules.specs.Findings.{told_or}
 use Rattle.style_rules.specs.Ground.{Ground}
 use Rattle.style_rules.specs.Keys.{root_key, member_key, root_keyed_told, keyed_told}
 use Rattle.style_rules.specs.Levels.{items_or_none, layers_told, member_told, root_member_told}
-use Rattle.style_rules.specs.Parts.{member}
-use Rattle.style_rules.specs.Places.{unless_broken, trees_in, layers_of, sources_of, used_in}
+use Rattle.style_rules.specs.Places.{unless_broken, used_in}
 use Rattle.style_rules.specs.Rules.{are_layers}
 
 is_key : (k key : List ℕ) → bytes_eq k key ≡ true → key ≡ k

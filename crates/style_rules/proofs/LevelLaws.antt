@@ -1,5 +1,5 @@
 -- The walk over a document goes by its levels.
-use Rattle.std.specs.Prelude.{◌≡◌, ◌≢◌, ℕ, suc, ◌+◌, List, [], ◌∷◌, ◌++◌, codes, Bool, true, false, ◌||◌, Option, Some, None, if◌then◌else◌}
+use Rattle.std.specs.Prelude.{◌≡◌, ℕ, suc, ◌+◌, List, [], ◌∷◌, ◌++◌, codes, Bool, true, false, Option, Some, None, if◌then◌else◌}
 use Rattle.std.specs.Str.{bytes_eq}
 use Rattle.std.proofs.Common.{refl, sym, ap, subst, ◌∙◌, inl, inr, arith}
 use Rattle.std.proofs.lemmas.Bool.{cases_Bool}
@@ -11,16 +11,17 @@ use Rattle.decimal_json.specs.View.{fields, members_view}
 use Rattle.decimal_json.specs.declared.paths.PathPart.{PathPart}
 use Rattle.decimal_json.specs.declared.paths.PathPart.TheVariants.{Key, Index}
 use Rattle.decimal_json.specs.declared.tree.Member.{Member}
+use Rattle.decimal_json.specs.Accessors.{member, trees_in}
 use Rattle.property_tables.specs.declared.layer_type.LayerType.{LayerType}
 use Rattle.property_tables.specs.declared.property_row.Place.{Place}
+use Rattle.style_parts.specs.Parts.{sources_of, layers_of, is_layers, layer_at}
+use Rattle.value_forms.specs.LayerTypes.{tested_type, place_named}
 use Rattle.style_rules.specs.Findings.{Marks, told, told_or, walk, walk_items, walk_fields}
-use Rattle.style_rules.specs.Ground.{Ground, ground_of, tested_type}
-use Rattle.style_rules.specs.Levels.{AreMembers, fields_told, fields_or_none, items_or_none, property_told, member_below, member_told, grounded_told, layer_told, layers_told, named_told, root_member_below, root_member_told, document_told, WalksByLevels}
-use Rattle.style_rules.specs.Parts.{member}
+use Rattle.style_rules.specs.Ground.{Ground}
+use Rattle.style_rules.specs.Levels.{AreMembers, fields_told, property_told, member_below, member_told, grounded_told, layer_told, layers_told, named_told, root_member_below, root_member_told, document_told, WalksByLevels}
 use Rattle.style_rules.specs.Rules.{has_root_members}
-use Rattle.style_rules.specs.Places.{mark_at, root_mark, root_member_mark, named_mark, layer_mark, member_mark, property_mark, place_named, sources_of, layers_of, used_in, is_layers, layer_at, ground_at, layer_ground, trees_in}
+use Rattle.style_rules.specs.Places.{mark_at, root_mark, root_member_mark, layer_mark, member_mark, property_mark, used_in, ground_at, layer_ground}
 use Rattle.style_rules.proofs.PartLaws.{differs}
-use Rattle.style_rules.specs.declared.told.Mark.{Mark}
 use Rattle.style_rules.specs.declared.told.Mark.TheVariants.{Nothing, Broken}
 use Rattle.style_rules.specs.declared.told.Told.{Told}
 

@@ -1,12 +1,20 @@
 -- The members of a layer that were found one after the other are those of the layer.
-use Rattle.std.specs.Prelude.{◌≡◌, ◌≢◌, ℕ, List, [], ◌∷◌, codes, Bool, true, false, ◌||◌, Option, Some, None, is_some, if◌then◌else◌}
+use Rattle.std.specs.Prelude.{◌≡◌, ◌≢◌, ℕ, List, [], ◌∷◌, codes, Bool, true, false, ◌||◌, Option, Some, None, if◌then◌else◌}
 use Rattle.std.specs.Str.{bytes_eq}
 use Rattle.std.proofs.Common.{refl, sym, ap, subst, ◌∙◌, inl, inr}
 use Rattle.std.proofs.lemmas.Bool.{cases_Bool}
 use Rattle.std.proofs.lemmas.Slice.Eq.{bytes_eq-Decides}
 use Rattle.decimal_json.specs.Tree.{Tree, object, fields_of, field_at, LacksKey, HasDistinctKeys}
 use Rattle.style_rules.specs.CodeView.{Parts}
-use Rattle.style_rules.specs.LayerParts.{parts_of, with_member, with_members, no_parts}
+use Rattle.style_rules.specs.LayerParts.{parts_of, with_member}
+
+-- with all of these, one after the other
+abbrev pub with_members : Parts → List (List ℕ × Tree) → Parts
+with_members p [] = p
+with_members p (m ∷ ms) = with_members (with_member p m.0 m.1) ms
+
+abbrev pub no_parts : Parts
+no_parts = record { id = None; layer_type = None; source = None; source_layer = None; has_ref = false }
 
 -- what was found last, else what was found before
 abbrev or_before : Option Tree → Option Tree → Option Tree

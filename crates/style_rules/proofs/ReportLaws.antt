@@ -1,8 +1,6 @@
 -- The lists of what is told of one place after others.
-use Rattle.std.specs.Prelude.{◌≡◌, ℕ, List, [], ◌∷◌, ◌++◌, Bool, true, false, if◌then◌else◌}
+use Rattle.std.specs.Prelude.{◌≡◌, List, [], ◌∷◌, ◌++◌, Bool, true, false, if◌then◌else◌}
 use Rattle.std.proofs.Common.{refl, sym, ap, ◌∙◌}
-use Rattle.decimal_json.specs.declared.paths.PathPart.{PathPart}
-use Rattle.prop_values.specs.declared.fault.FaultSet.{FaultSet}
 use Rattle.style_rules.specs.Findings.{findings_in, notes_in, may_in, with_faults, has_faults}
 use Rattle.style_rules.specs.Reports.{IsReportOf, Notes}
 use Rattle.style_rules.specs.declared.lists.Report.{Report}

@@ -1,11 +1,8 @@
--- What contracts of private functions see of the program's values.
-use Rattle.std.specs.Prelude.{◌≡◌, ℕ, List, map, Bool, true, Option, Some, None, option_map, is_some, Result, Ok, Err}
+-- What contracts see of the program's values.
+use Rattle.std.specs.Prelude.{ℕ, List, Bool, Option, option_map, is_some, Result, Ok, Err}
 use Rattle.std.specs.Borrow.{Bor}
-use Rattle.decimal_json.specs.Tree.{Tree, Fields, fields_of, field_at}
-use Rattle.decimal_json.specs.View.{tree_of}
+use Rattle.decimal_json.specs.Tree.{Tree, Fields, fields_of}
 use Rattle.decimal_json.specs.declared.paths.PathPart.{PathPart}
-use Rattle.decimal_json.specs.declared.tree.Json.{Json}
-use Rattle.decimal_json.specs.declared.tree.Members.{Members}
 use Rattle.prop_values.specs.Data.{Data, pairs_of}
 use Rattle.prop_values.specs.Equality.{at_key}
 use Rattle.prop_values.specs.declared.fault.FaultSet.{FaultSet}
@@ -19,10 +16,6 @@ use Rattle.expr_types.specs.Judged.{Judged, may_of}
 use Rattle.expr_types.specs.declared.fault.TypeFault.{TypeFault}
 use Rattle.style_rules.specs.declared.lists.Finding.{Finding}
 use Rattle.style_rules.specs.declared.lists.MayLine.{MayLine}
-
--- the tree of a member, where it is there
-abbrev pub tree_at : Option (Bor Json) → Option Tree
-tree_at = option_map (λ (member : Bor Json). tree_of member.now)
 
 -- the fields of an object, where it is there
 abbrev pub fields_at : Option (Bor (List (List ℕ × Tree))) → Option Fields

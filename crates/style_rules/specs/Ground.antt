@@ -1,9 +1,11 @@
 -- What the rules on a layer stand on: a rule applies only where what it needs is there and well formed.
-use Rattle.std.specs.Prelude.{ℕ, List, [], ◌∷◌, codes, Bool, true, false, ◌&&◌, not, Option, Some, None, is_some, if◌then◌else◌}
-use Rattle.decimal_json.specs.Tree.{Tree, list, Trees, no_trees, tree, Fields, field_at}
+use Rattle.std.specs.Prelude.{ℕ, List, [], ◌∷◌, codes, Bool, ◌&&◌, Option, Some, None, if◌then◌else◌}
+use Rattle.std.specs.Option.{option_and_then}
+use Rattle.decimal_json.specs.Tree.{Tree, Fields, field_at}
+use Rattle.decimal_json.specs.Accessors.{is_object, text_at}
 use Rattle.property_tables.specs.declared.layer_type.LayerType.{LayerType}
-use Rattle.property_tables.specs.declared.layer_type.LayerType.TheVariants.{Background, Hillshade, ColorRelief}
-use Rattle.style_rules.specs.Parts.{then_some, member, has, is_object, text_in, text_at, fields_in, is_among, type_in}
+use Rattle.style_parts.specs.Parts.{is_among}
+use Rattle.value_forms.specs.LayerTypes.{layer_type, is_background}
 
 -- the types of sources
 abbrev pub source_types : List (List ℕ)
@@ -12,25 +14,6 @@ source_types = codes "vector" ∷ codes "raster" ∷ codes "raster-dem" ∷ code
 -- a member of `sources` that is well formed
 abbrev pub is_source : Tree → Bool
 is_source t = is_object t && is_among source_types (text_at (codes "type") t)
-
--- the type of a layer where its type is well formed and it has no `ref`
-abbrev pub layer_type : Tree → Option LayerType
-layer_type layer = if has (codes "ref") layer then None else then_some (member (codes "type") layer) type_in
-
-abbrev pub is_background : LayerType → Bool
-is_background Background = true
-is_background _ = false
-
--- the types whose `layout` and `paint` pass unread
-abbrev pub is_unread_type : LayerType → Bool
-is_unread_type Hillshade = true
-is_unread_type ColorRelief = true
-is_unread_type _ = false
-
--- the type of a layer whose layout and paint are tested
-abbrev pub tested_type : Option LayerType → Option LayerType
-tested_type (Some type) = if is_unread_type type then None else Some type
-tested_type None = None
 
 -- the sources among which a layer has to name one: it is none of background, its type is well formed, and `sources` is an object
 abbrev pub sources_for : Option Fields → Option LayerType → Option Fields
@@ -43,7 +26,7 @@ source_type t = if is_source t then text_at (codes "type") t else None
 
 -- the type of the source that a layer names, where that is well formed
 abbrev pub named_type : Option Fields → Option (List ℕ) → Option (List ℕ)
-named_type (Some sources) (Some name) = then_some (field_at name sources) source_type
+named_type (Some sources) (Some name) = option_and_then source_type (field_at name sources)
 named_type _ _ = None
 
 -- What the members of one layer stand on.

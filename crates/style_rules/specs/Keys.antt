@@ -5,8 +5,9 @@ use Rattle.decimal_json.specs.Tree.{Tree, Fields}
 use Rattle.decimal_json.specs.declared.paths.PathPart.{PathPart}
 use Rattle.property_tables.specs.declared.property_row.Place.{Place}
 use Rattle.property_tables.specs.declared.property_row.Place.TheVariants as places
+use Rattle.value_forms.specs.LayerTypes.{tested_type}
 use Rattle.style_rules.specs.Findings.{told_or}
-use Rattle.style_rules.specs.Ground.{Ground, tested_type}
+use Rattle.style_rules.specs.Ground.{Ground}
 use Rattle.style_rules.specs.Levels.{fields_told, fields_or_none, items_or_none, named_told, layers_told, property_told}
 use Rattle.style_rules.specs.Places.{least_broken, unless_broken, properties_mark, used_in}
 use Rattle.style_rules.specs.Rules

@@ -1,11 +1,13 @@
 -- The members of a layer that rules on other members read, and the rules at a layer by them.
-use Rattle.std.specs.Prelude.{ℕ, List, [], ◌∷◌, codes, Bool, true, false, not, ◌||◌, ◌&&◌, Option, Some, None, is_some, is_none, if◌then◌else◌}
+use Rattle.std.specs.Prelude.{ℕ, List, codes, true, ◌||◌, ◌&&◌, Option, Some, None, is_some, is_none, if◌then◌else◌}
 use Rattle.std.specs.Str.{bytes_eq}
+use Rattle.std.specs.Option.{option_and_then}
 use Rattle.decimal_json.specs.Tree.{Tree, Fields}
+use Rattle.decimal_json.specs.Accessors.{member, has, text_in}
 use Rattle.property_tables.specs.declared.layer_type.LayerType.{LayerType}
+use Rattle.value_forms.specs.LayerTypes.{type_in}
 use Rattle.style_rules.specs.CodeView.{Parts}
 use Rattle.style_rules.specs.Ground.{Ground, sources_for, named_type}
-use Rattle.style_rules.specs.Parts.{then_some, member, has, text_in, type_in}
 use Rattle.style_rules.specs.Rules.{is_on_vector}
 
 abbrev pub parts_of : Tree → Parts
@@ -27,22 +29,14 @@ with_member p key t =
     if bytes_eq key (codes "ref") then record p { has_ref = true } else
     p
 
--- with all of these, one after the other
-abbrev pub with_members : Parts → List (List ℕ × Tree) → Parts
-with_members p [] = p
-with_members p (m ∷ ms) = with_members (with_member p m.0 m.1) ms
-
-abbrev pub no_parts : Parts
-no_parts = record { id = None; layer_type = None; source = None; source_layer = None; has_ref = false }
-
 abbrev pub type_by_parts : Parts → Option LayerType
-type_by_parts p = if p.has_ref then None else then_some p.layer_type type_in
+type_by_parts p = if p.has_ref then None else option_and_then type_in p.layer_type
 
 abbrev pub ground_typed : Option Fields → Parts → Option LayerType → Ground
 ground_typed sources p type = record {
   type = type;
   sources = sources_for sources type;
-  source_type = named_type (sources_for sources type) (then_some p.source text_in);
+  source_type = named_type (sources_for sources type) (option_and_then text_in p.source);
 }
 
 abbrev pub ground_by_parts : Option Fields → Parts → Ground

@@ -4,12 +4,14 @@ use Rattle.std.specs.Str.{bytes_eq}
 use Rattle.decimal_json.specs.Tree.{Tree, list, object, Trees, no_trees, tree, Fields, no_fields, field, fields_of, HasDistinctKeys}
 use Rattle.decimal_json.specs.declared.paths.PathPart.{PathPart}
 use Rattle.decimal_json.specs.declared.paths.PathPart.TheVariants.{Key, Index}
+use Rattle.decimal_json.specs.Accessors.{member}
 use Rattle.property_tables.specs.declared.layer_type.LayerType.{LayerType}
 use Rattle.property_tables.specs.declared.property_row.Place.{Place}
+use Rattle.style_parts.specs.Parts.{sources_of, layers_of, is_layers}
+use Rattle.value_forms.specs.LayerTypes.{tested_type, place_named}
 use Rattle.style_rules.specs.Findings.{told_or, told}
-use Rattle.style_rules.specs.Ground.{Ground, ground_of, tested_type}
-use Rattle.style_rules.specs.Parts.{member}
-use Rattle.style_rules.specs.Places.{root_mark, root_member_mark, named_mark, layer_mark, member_mark, property_mark, place_named, sources_of, layers_of, used_in, is_layers}
+use Rattle.style_rules.specs.Ground.{Ground, ground_of}
+use Rattle.style_rules.specs.Places.{root_mark, root_member_mark, named_mark, layer_mark, member_mark, property_mark, used_in}
 use Rattle.style_rules.specs.declared.told.Told.{Told}
 
 -- what is told of each member of an object

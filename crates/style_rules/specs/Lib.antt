@@ -1,14 +1,13 @@
 -- To be believed.
-pub mod Parts
 pub mod Ground
 pub mod Rules
 pub mod Values
 pub mod Places
 pub mod Findings
+pub mod Reports
 -- A law of these.
 pub mod Levels
--- What only contracts of private functions and proofs use.
+-- What contracts see of the program's values, and what only contracts of private functions and proofs use.
 pub mod CodeView
 pub mod LayerParts
 pub mod Keys
-pub mod Reports

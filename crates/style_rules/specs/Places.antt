@@ -1,15 +1,17 @@
 -- What is told of each place of a document, by its path. Of two rules that a place breaks the lesser counts.
-use Rattle.std.specs.Prelude.{ℕ, zero, suc, ◌+◌, ◌-◌, List, length, take, drop, [], ◌∷◌, ◌++◌, codes, Bool, true, false, ◌&&◌, ◌||◌, Option, Some, None, is_some, if◌then◌else◌}
+use Rattle.std.specs.Prelude.{ℕ, zero, suc, ◌-◌, List, length, take, drop, [], ◌∷◌, codes, Bool, false, ◌||◌, Option, Some, None, is_some, if◌then◌else◌}
 use Rattle.std.specs.Str.{bytes_eq}
-use Rattle.decimal_json.specs.Tree.{Tree, list, Trees, no_trees, tree, Fields}
+use Rattle.std.specs.Option.{option_and_then}
+use Rattle.decimal_json.specs.Tree.{Tree, Trees, no_trees, tree}
 use Rattle.decimal_json.specs.declared.paths.PathPart.{PathPart}
 use Rattle.decimal_json.specs.declared.paths.PathPart.TheVariants.{Key, Index}
 use Rattle.property_tables.specs.Rows.{RowData, row_of, is_unread}
 use Rattle.property_tables.specs.declared.layer_type.LayerType.{LayerType}
 use Rattle.property_tables.specs.declared.property_row.Place.{Place}
 use Rattle.property_tables.specs.declared.property_row.Place.TheVariants.{Layout, Paint}
-use Rattle.style_rules.specs.Ground.{Ground, ground_of, tested_type, is_source}
-use Rattle.style_rules.specs.Parts.{then_some, member, text_in, text_at, fields_in}
+use Rattle.style_parts.specs.Parts.{sources_of, layers_of, layer_at, is_layers, is_id_of}
+use Rattle.value_forms.specs.LayerTypes.{tested_type, place_named}
+use Rattle.style_rules.specs.Ground.{Ground, ground_of, is_source}
 use Rattle.style_rules.specs.Rules
 use Rattle.style_rules.specs.Values.{value_mark, filter_mark}
 use Rattle.style_rules.specs.declared.told.Mark.{Mark}
@@ -72,12 +74,6 @@ member_mark grounds used key t =
 
 -- ---- properties
 
-abbrev pub place_named : List ℕ → Option Place
-place_named key =
-    if bytes_eq key (codes "layout") then Some Layout else
-    if bytes_eq key (codes "paint") then Some Paint else
-    None
-
 -- the name before `-transition`, where a name ends so
 abbrev pub transition_suffix : List ℕ
 transition_suffix = codes "-transition"
@@ -89,7 +85,7 @@ before_suffix suffix name =
 -- a transition of a row of `paint`
 abbrev pub is_transition_name : LayerType → Place → List ℕ → Bool
 is_transition_name type Layout name = false
-is_transition_name type Paint name = is_some (then_some (before_suffix transition_suffix name) (row_of type Paint))
+is_transition_name type Paint name = is_some (option_and_then (row_of type Paint) (before_suffix transition_suffix name))
 
 -- V14: a name is that of a row, an unread one, or that of a transition
 abbrev pub unnamed_mark : LayerType → Place → List ℕ → Tree → Mark
@@ -106,32 +102,15 @@ abbrev pub property_mark : Option LayerType → Option Place → List ℕ → Tr
 property_mark (Some type) (Some place) name t = row_mark type place name (row_of type place name) t
 property_mark _ _ name t = Nothing
 
--- ---- a layer by its number, and what is used before it
-
-abbrev pub trees_in : Option Tree → Trees
-trees_in (Some (list ts)) = ts
-trees_in _ = no_trees
-
-abbrev pub layer_at : ℕ → Trees → Option Tree
-layer_at i no_trees = None
-layer_at zero (tree t ts) = Some t
-layer_at (suc i) (tree t ts) = layer_at i ts
-
-abbrev pub has_text_id : List ℕ → Option (List ℕ) → Bool
-has_text_id id (Some other) = bytes_eq other id
-has_text_id id None = false
+-- ---- what is used before a layer
 
 -- one of the first i layers has this text as its `id`
 abbrev pub used_in : Trees → ℕ → List ℕ → Bool
 used_in no_trees i id = false
 used_in (tree t ts) zero id = false
-used_in (tree t ts) (suc i) id = has_text_id id (text_at (codes "id") t) || used_in ts i id
+used_in (tree t ts) (suc i) id = is_id_of id t || used_in ts i id
 
-abbrev pub layers_of : Tree → Trees
-layers_of document = trees_in (member (codes "layers") document)
-
-abbrev pub sources_of : Tree → Option Fields
-sources_of document = then_some (member (codes "sources") document) fields_in
+-- ---- the grounds of a layer, by its number
 
 abbrev pub layer_ground : Tree → Option Tree → Ground
 layer_ground document (Some layer) = ground_of (sources_of document) layer
@@ -139,9 +118,6 @@ layer_ground document None = record { type = None; sources = None; source_type =
 
 abbrev pub ground_at : Tree → ℕ → Ground
 ground_at document i = layer_ground document (layer_at i (layers_of document))
-
-abbrev pub is_layers : List ℕ → Bool
-is_layers key = bytes_eq key (codes "layers")
 
 -- ---- what is told of the place of a path
 

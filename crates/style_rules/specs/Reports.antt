@@ -1,5 +1,5 @@
 -- The three lists of what is told of a document.
-use Rattle.std.specs.Prelude.{◌≡◌, List, [], ◌∷◌, ◌++◌, map, if◌then◌else◌}
+use Rattle.std.specs.Prelude.{◌≡◌, List, [], ◌∷◌, ◌++◌, map}
 use Rattle.decimal_json.specs.Tree.{Tree}
 use Rattle.style_rules.specs.CodeView.{finding_seen, may_seen}
 use Rattle.style_rules.specs.Findings.{told, findings_in, notes_in, may_in}

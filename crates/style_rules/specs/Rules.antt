@@ -1,16 +1,17 @@
 -- The rules on a document but for those on the values of properties and on filters, in their order. Each is a test, which holds where the
 -- rule does not apply. Own.
-use Rattle.std.specs.Prelude.{ℕ, suc, pos, List, [], ◌∷◌, codes, nat_le, Bool, true, false, ◌&&◌, ◌||◌, not, Option, Some, None, is_some, Result, Ok, Err, if◌then◌else◌}
-use Rattle.std.specs.List.{list_all}
-use Rattle.std.specs.Str.{bytes_eq}
+use Rattle.std.specs.Prelude.{ℕ, suc, pos, List, [], ◌∷◌, codes, nat_le, Bool, true, false, ◌&&◌, ◌||◌, not, Option, Some, None, is_some, Result, Ok, Err}
 use Rattle.decimal_json.specs.Tree.{Tree, list, Trees, no_trees, tree, Fields, field_at}
+use Rattle.decimal_json.specs.Accessors.{member, has, is_object, is_text, text_in}
 use Rattle.prop_values.specs.Data.{Data}
 use Rattle.prop_values.specs.JsonData.{json_data}
 use Rattle.fixed_num.specs.declared.decimal.NumFault.{NumFault}
 use Rattle.property_tables.specs.declared.layer_type.LayerType.{LayerType}
 use Rattle.property_tables.specs.declared.layer_type.LayerType.TheVariants.{Raster, Hillshade, ColorRelief}
-use Rattle.style_rules.specs.Ground.{Ground, is_source, is_background}
-use Rattle.style_rules.specs.Parts.{then_some, member, has, is_object, is_text, text_in, is_among, number_in, is_equal, is_between, type_in}
+use Rattle.style_parts.specs.Parts.{is_among}
+use Rattle.style_parts.specs.Numbers.{number_in, is_equal, is_zoom}
+use Rattle.value_forms.specs.LayerTypes.{type_in}
+use Rattle.style_rules.specs.Ground.{Ground}
 
 -- V1: the document is an object
 abbrev pub is_document : Tree → Bool
@@ -102,7 +103,7 @@ is_source_layer grounds t = not (is_on_vector grounds) || is_text t
 
 -- V13: `minzoom` and `maxzoom` are numbers from 0 to 24
 abbrev pub is_zoom_limit : Tree → Bool
-is_zoom_limit t = is_between (pos 0) (pos 24000000) (number_in t)
+is_zoom_limit t = is_zoom (number_in t)
 
 -- V14: `layout` and `paint` are objects
 abbrev pub are_properties : Tree → Bool

@@ -1,16 +1,12 @@
--- What the value of a property or a filter is, and what is told of it: that it breaks a rule, that it is outside, or which faults its
--- evaluation may have.
-use Rattle.std.specs.Prelude.{ℕ, List, [], ◌∷◌, codes, Bool, true, false, ◌&&◌, ◌||◌, not, Option, Some, None, is_some, is_none, Result, Ok, Err, if◌then◌else◌}
-use Rattle.std.specs.Str.{bytes_eq}
-use Rattle.decimal_json.specs.Tree.{Tree, text, list, object, tree, Fields}
-use Rattle.decimal_json.specs.declared.paths.PathPart.{PathPart}
+-- What is told of the value of a property or a filter: that it breaks a rule, that it is outside, or which faults its evaluation may have.
+use Rattle.std.specs.Prelude.{ℕ, [], Bool, ◌&&◌, ◌||◌, not, Option, Some, None, is_some, is_none, Ok, Err, if◌then◌else◌}
+use Rattle.decimal_json.specs.Tree.{Tree}
 use Rattle.prop_values.specs.Faults.{no_faults}
 use Rattle.prop_values.specs.declared.fault.FaultSet.{FaultSet}
 use Rattle.prop_values.specs.declared.kinds.Want.{Want}
 use Rattle.prop_values.specs.declared.kinds.Want.TheVariants as wants
 use Rattle.property_tables.specs.Literals.{literal_of}
-use Rattle.property_tables.specs.Rows.{RowData, takes_tokens}
-use Rattle.expr_syntax.specs.Names.{name_of}
+use Rattle.property_tables.specs.Rows.{RowData}
 use Rattle.expr_syntax.specs.Reading.{Reading, reading}
 use Rattle.expr_types.specs.Checked.{checked}
 use Rattle.expr_types.specs.Typing.{Typed}
@@ -21,38 +17,11 @@ use Rattle.legacy_filters.specs.Split.{is_legacy}
 use Rattle.legacy_functions.specs.Form as functions
 use Rattle.legacy_functions.specs.Function.{Function, has_zooms}
 use Rattle.legacy_functions.specs.ToExpression.{function_expression}
-use Rattle.legacy_functions.specs.Tokens.{has_tokens}
-use Rattle.style_rules.specs.Parts.{is_object}
-use Rattle.style_rules.specs.declared.forms.Form.{Form}
-use Rattle.style_rules.specs.declared.forms.Form.TheVariants as forms
+use Rattle.value_forms.specs.declared.forms.Form.TheVariants as forms
+use Rattle.value_forms.specs.Forms.{form_of, target_of}
+use Rattle.value_forms.specs.declared.forms.Form.{Form}
 use Rattle.style_rules.specs.declared.told.Mark.{Mark}
 use Rattle.style_rules.specs.declared.told.Mark.TheVariants.{Broken, Outside, Sound}
-
--- ---- the value of a property has one of four forms, decided in this order
-
--- a non-empty array whose first element is the name of an operator, one that is outside too
-abbrev pub is_expression : Tree → Bool
-is_expression (list (tree (text name) ts)) = is_some (name_of name)
-is_expression _ = false
-
-abbrev pub is_function : Tree → Bool
-is_function t = is_object t
-
-abbrev pub is_token_text : RowData → Tree → Bool
-is_token_text row (text s) = takes_tokens row.name && has_tokens s
-is_token_text row _ = false
-
--- `visibility` takes a literal alone
-abbrev pub takes_literals_alone : RowData → Bool
-takes_literals_alone row = bytes_eq row.name (codes "visibility")
-
-abbrev pub form_of : RowData → Tree → Form
-form_of row t =
-    if takes_literals_alone row then forms.Literal else
-    if is_expression t then forms.Expression else
-    if is_function t then forms.Function else
-    if is_token_text row t then forms.TokenText else
-    forms.Literal
 
 -- ---- V15: a literal meets its row's kind and range
 
@@ -98,9 +67,6 @@ abbrev pub function_mark : RowData → Option (Option Function) → Mark
 function_mark row (Some (Some f)) = if function_reads row f then Sound (function_faults row f) else Broken [] 17
 function_mark row (Some None) = Outside
 function_mark row None = Broken [] 19
-
-abbrev pub target_of : RowData → functions.Target
-target_of row = record { row = row; takes_tokens = takes_tokens row.name }
 
 -- ---- the value of a property
 

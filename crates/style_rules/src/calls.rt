@@ -2,8 +2,8 @@
 
 ghost use Rattle.std.specs.Prelude.{◌≡◌, map, not, OnOk, IfOk};
 ghost use Rattle.decimal_json.specs.View.{tree_of};
-ghost use Rattle.style_rules.specs.CodeView.{finding_seen, may_seen};
-ghost use Rattle.style_rules.specs.Findings.{findings, notes, may_lines, has_faults};
+ghost use Rattle.style_rules.specs.CodeView.{finding_seen};
+ghost use Rattle.style_rules.specs.Findings.{findings, has_faults};
 ghost use Rattle.style_rules.specs.Reports.{IsReport, IsReportOf, Notes};
 
 use crate::document::examine;
@@ -72,20 +72,4 @@ pub fn findings(alloc: Global, document: &Json) -> Result<Findings, AllocError>
 {
     let report = examined(alloc, document)?;
     Ok(report.findings)
-}
-
-/// The paths of the values and filters that are outside, in the order of the text. Asks a document without findings.
-pub fn notes(alloc: Global, document: &Json) -> Result<Paths, AllocError>
-    ensures { IfOk result (λ paths. paths ≡ notes (tree_of document.now)) }
-{
-    let report = examined(alloc, document)?;
-    Ok(report.notes)
-}
-
-/// The values and filters whose evaluation may fault, in the order of the text. Asks a document without findings.
-pub fn may_lines(alloc: Global, document: &Json) -> Result<MayLines, AllocError>
-    ensures { IfOk result (λ lines. map may_seen lines ≡ may_lines (tree_of document.now)) }
-{
-    let report = examined(alloc, document)?;
-    Ok(report.may_lines)
 }

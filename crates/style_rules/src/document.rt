@@ -4,23 +4,24 @@ ghost use Rattle.std.specs.Prelude.{◌≡◌, ℕ, List, ◌++◌, ◌||◌, co
 ghost use Rattle.decimal_json.specs.Place.{path_of};
 ghost use Rattle.decimal_json.specs.Tree.{list, object, fields_of, field_at};
 ghost use Rattle.decimal_json.specs.View.{tree_of, fields, members_view, trees};
+ghost use Rattle.decimal_json.specs.Accessors.{member};
+ghost use Rattle.style_parts.specs.Parts.{sources_of, is_id_of};
 ghost use Rattle.style_rules.specs.CodeView.{fields_at, has_name};
 ghost use Rattle.style_rules.specs.Findings.{told, told_or};
 ghost use Rattle.style_rules.specs.Keys.{root_keyed_told};
 ghost use Rattle.style_rules.specs.Levels.{AreMembers, root_member_told, fields_told, named_told, layers_told, fields_or_none, items_or_none};
-ghost use Rattle.style_rules.specs.Parts.{then_some, member, fields_in, text_at};
-ghost use Rattle.style_rules.specs.Places.{unless_broken, sources_of, used_in, has_text_id};
+ghost use Rattle.style_rules.specs.Places.{unless_broken, used_in};
 ghost use Rattle.style_rules.specs.Rules.{has_root_members, is_version_8, are_sources, are_globals, is_global, are_layers, is_new_id, is_transition};
 
 use crate::grounds::is_source;
 use crate::keys::{RootKey, root_key};
 use crate::layer::tell_layer;
-use crate::members::{is_between, is_object, members_in, text_in};
 use crate::names::{has_text, note_text};
 use crate::told::ToldList;
 use decimal_json::{Here, Json, Member, Members};
 use prop_values::{Entries, from_json};
 use std::alloc::{AllocError, Global};
+use style_parts::{is_between, sources_of};
 
 const MOST_LAYERS: usize = 65_536;
 
@@ -29,7 +30,7 @@ pub(crate) fn examine(alloc: Global, document: &Json) -> Result<ToldList, AllocE
     ensures { IfOk result (λ list. list ≡ told (tree_of document.now)) }
 {
     match document {
-        Json::Object(root) => examine_root(alloc, root),
+        Json::Object(root) => examine_root(alloc, root, sources_of(document)),
         _ => {
             let mut told = ToldList::new(alloc);
             told.tell_broken(alloc, &Here::Root, 1)?;
@@ -38,7 +39,12 @@ pub(crate) fn examine(alloc: Global, document: &Json) -> Result<ToldList, AllocE
     }
 }
 
-fn examine_root(alloc: Global, root: &Members) -> Result<ToldList, AllocError>
+fn examine_root(
+    alloc: Global,
+    root: &Members,
+    sources: Option<&Members>,
+) -> Result<ToldList, AllocError>
+    requires { fields_at sources ≡ sources_of (object (fields_of root.now)) }
     ensures { IfOk result (λ list. list ≡ told (object (fields_of root.now))) }
 {
     let mut told = ToldList::new(alloc);
@@ -47,7 +53,6 @@ fn examine_root(alloc: Global, root: &Members) -> Result<ToldList, AllocError>
         told.tell_broken(alloc, &Here::Root, 2)?;
         return Ok(told);
     }
-    let sources = object_at(root, "sources");
     tell_root_members(alloc, &mut told, root, sources, members)?;
     Ok(told)
 }
@@ -73,15 +78,6 @@ fn has_root_members(root: &Members) -> bool
     ensures { result ≡ has_root_members (object (fields_of root.now)) }
 {
     root.get("version").is_some() && root.get("sources").is_some() && root.get("layers").is_some()
-}
-
-fn object_at<'a>(root: &'a Members, key: &str) -> Option<&'a Members>
-    ensures { fields_at result ≡ then_some (member key.now (object (fields_of root.now))) fields_in }
-{
-    match root.get(key) {
-        Some(json) => members_in(json),
-        None => None,
-    }
 }
 
 #[tactic(auto, using(crate::proofs::KeyLaws::root_by_key))]
@@ -192,10 +188,7 @@ fn tell_each_global<'x>(
 fn is_global(alloc: Global, global: &Json) -> Result<bool, AllocError>
     ensures { IfOk result (λ holds. holds ≡ is_global (tree_of global.now)) }
 {
-    let Json::Object(members) = global else {
-        return Ok(false);
-    };
-    match members.get("default") {
+    match global.get("default") {
         Some(value) => Ok(from_json(alloc, value)?.is_ok()),
         None => Ok(false),
     }
@@ -263,12 +256,9 @@ fn tell_each_layer<'x>(
 /// Notes the text id of a layer.
 fn note_id(used: &mut Entries, layer: &Json) -> Result<(), AllocError>
     ensures { OnOk result ((s : List ℕ) → has_name used.new s
-        ≡ (has_text_id s (text_at (codes "id") (tree_of layer.now)) || has_name used.old s)) }
+        ≡ (is_id_of s (tree_of layer.now) || has_name used.old s)) }
 {
-    let Json::Object(members) = layer else {
-        return Ok(());
-    };
-    match members.get("id") {
+    match layer.get("id") {
         Some(Json::Text(id)) => note_text(used, id),
         _ => Ok(()),
     }
@@ -278,7 +268,7 @@ fn note_id(used: &mut Entries, layer: &Json) -> Result<(), AllocError>
 pub(crate) fn is_new_id(used: &Entries, id: &Json) -> bool
     ensures { result ≡ is_new_id (has_name used.now) (tree_of id.now) }
 {
-    match text_in(id) {
+    match id.as_text() {
         Some(id) => !has_text(used, id),
         None => true,
     }
@@ -287,5 +277,5 @@ pub(crate) fn is_new_id(used: &Entries, id: &Json) -> bool
 pub(crate) fn is_transition(json: &Json) -> bool
     ensures { result ≡ is_transition (tree_of json.now) }
 {
-    is_object(json)
+    json.is_object()
 }

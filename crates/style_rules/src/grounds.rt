@@ -1,17 +1,20 @@
 //! What the rules on a layer stand on.
 
 ghost use Rattle.std.specs.Prelude.{◌≡◌, Some};
-ghost use Rattle.decimal_json.specs.Tree.{object, fields_of, HasDistinctKeys};
-ghost use Rattle.decimal_json.specs.View.{tree_of, fields, members_view};
-ghost use Rattle.style_rules.specs.CodeView.{fields_at, text_at, tree_at, ground_seen, parts_seen};
-ghost use Rattle.style_rules.specs.Ground.{layer_type, sources_for, named_type, source_type, source_types, tested_type, is_source};
+ghost use Rattle.std.specs.Option.{option_and_then};
+ghost use Rattle.decimal_json.specs.Tree.{object, HasDistinctKeys};
+ghost use Rattle.decimal_json.specs.View.{tree_of, fields, members_view, tree_at};
+ghost use Rattle.decimal_json.specs.Accessors.{text_in};
+ghost use Rattle.style_parts.specs.Parts.{is_among};
+ghost use Rattle.value_forms.specs.LayerTypes.{layer_type, type_in};
+ghost use Rattle.style_rules.specs.CodeView.{fields_at, text_at, ground_seen, parts_seen};
+ghost use Rattle.style_rules.specs.Ground.{sources_for, named_type, source_type, source_types, is_source};
 ghost use Rattle.style_rules.specs.LayerParts.{parts_of, with_member, type_by_parts, ground_by_parts};
-ghost use Rattle.style_rules.specs.Parts.{then_some, text_in, type_in, is_among};
 ghost use Rattle.style_rules.specs.Rules.{has_such_source, is_on_vector, is_source_name, suits};
 
-use crate::members::{is_object, members_in, text_in};
 use decimal_json::{Json, Member, Members};
 use property_tables::LayerType;
+use value_forms::type_in;
 
 /// The members of a layer that rules on other members read, found in one walk.
 #[derive(Clone, Copy)]
@@ -85,33 +88,7 @@ fn type_by_parts(parts: &LayerParts<'_>) -> Option<LayerType>
     if parts.has_ref {
         return None;
     }
-    match parts.layer_type {
-        Some(json) => type_in(json),
-        None => None,
-    }
-}
-
-/// The type of a layer, where that is well formed and it has no `ref`.
-pub fn layer_type(layer: &Members) -> Option<LayerType>
-    ensures { result ≡ layer_type (object (fields_of layer.now)) }
-{
-    if layer.get("ref").is_some() {
-        return None;
-    }
-    match layer.get("type") {
-        Some(named) => type_in(named),
-        None => None,
-    }
-}
-
-/// The type of a layer that a tree names.
-pub(crate) fn type_in(json: &Json) -> Option<LayerType>
-    ensures { result ≡ type_in (tree_of json.now) }
-{
-    match text_in(json) {
-        Some(name) => LayerType::named(name),
-        None => None,
-    }
+    parts.layer_type.and_then(type_in)
 }
 
 fn sources_for(sources: Option<&Members>, layer_type: Option<LayerType>) -> Option<&Members>
@@ -125,37 +102,21 @@ fn sources_for(sources: Option<&Members>, layer_type: Option<LayerType>) -> Opti
 }
 
 fn named_type<'a>(sources: Option<&'a Members>, source: Option<&'a Json>) -> Option<&'a str>
-    ensures { text_at result ≡ named_type (fields_at sources.entry) (then_some (tree_at source.entry) text_in) }
+    ensures { text_at result ≡ named_type (fields_at sources.entry) (option_and_then text_in (tree_at source.entry)) }
 {
-    let Some(sources) = sources else {
-        return None;
-    };
-    let Some(source) = source else {
-        return None;
-    };
-    let Some(name) = text_in(source) else {
-        return None;
-    };
-    match sources.get(name) {
-        Some(found) => source_type(found),
-        None => None,
-    }
+    let name = source?.as_text()?;
+    source_type(sources?.get(name)?)
 }
 
 /// The type of a source that is well formed.
 pub(crate) fn source_type(source: &Json) -> Option<&str>
     ensures { text_at result ≡ source_type (tree_of source.now) }
 {
-    let Some(members) = members_in(source) else {
+    let name = source.as_members()?.get("type")?.as_text()?;
+    if !is_source_type(name) {
         return None;
-    };
-    let Some(named) = members.get("type") else {
-        return None;
-    };
-    match text_in(named) {
-        Some(name) if is_source_type(name) => Some(name),
-        _ => None,
     }
+    Some(name)
 }
 
 fn is_source_type(name: &str) -> bool
@@ -164,17 +125,6 @@ fn is_source_type(name: &str) -> bool
     match name {
         "vector" | "raster" | "raster-dem" | "geojson" | "image" | "video" => true,
         _ => false,
-    }
-}
-
-/// The type of a layer whose layout and paint are tested: of hillshade and color-relief they pass unread.
-pub fn tested_type(layer_type: Option<LayerType>) -> Option<LayerType>
-    ensures { result ≡ tested_type layer_type }
-{
-    match layer_type {
-        Some(LayerType::Hillshade) => None,
-        Some(LayerType::ColorRelief) => None,
-        other => other,
     }
 }
 
@@ -204,7 +154,7 @@ impl Ground<'_> {
         let Some(sources) = self.sources else {
             return true;
         };
-        match text_in(json) {
+        match json.as_text() {
             Some(name) => sources.get(name).is_some(),
             None => false,
         }
@@ -225,5 +175,5 @@ fn suits(layer_type: LayerType, source: &str) -> bool
 pub(crate) fn is_source(json: &Json) -> bool
     ensures { result ≡ is_source (tree_of json.now) }
 {
-    is_object(json) && source_type(json).is_some()
+    json.is_object() && source_type(json).is_some()
 }

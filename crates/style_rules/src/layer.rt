@@ -15,15 +15,16 @@ ghost use Rattle.style_rules.specs.Values.{filter_mark};
 
 use crate::document::is_new_id;
 use crate::filters::filter_mark;
-use crate::grounds::{Ground, LayerParts, ground_of, parts_of, tested_type, type_in};
+use crate::grounds::{Ground, LayerParts, ground_of, parts_of};
 use crate::keys::{MemberKey, member_key};
-use crate::members::{is_between, text_in};
 use crate::properties::tell_properties;
 use crate::told::ToldList;
 use decimal_json::{Here, Json, Member, Members};
 use prop_values::Entries;
 use property_tables::Place;
 use std::alloc::{AllocError, Global};
+use style_parts::{is_zoom, number_in};
+use value_forms::{tested_type, type_in};
 
 /// Tells of a layer, by the ids of the layers before.
 pub(crate) fn tell_layer<'x>(
@@ -194,7 +195,7 @@ fn tell_id(
     ensures { OnOk result (told.new ≡ told.old ++ told_or (least_broken
         ((7, is_id (tree_of id.now)) ∷ (8, is_new_id (has_name used.now) (tree_of id.now)) ∷ [])) (path_of here.now) []) }
 {
-    if text_in(id).is_none() {
+    if !id.is_text() {
         return told.tell_broken(alloc, here, 7);
     }
     told.tell_unless(alloc, here, 8, is_new_id(used, id))
@@ -220,11 +221,14 @@ fn tell_source(
 fn is_source_layer(grounds: &Ground<'_>, json: &Json) -> bool
     ensures { result ≡ is_source_layer (ground_seen grounds.now) (tree_of json.now) }
 {
-    !grounds.is_on_vector() || text_in(json).is_some()
+    !grounds.is_on_vector() || json.is_text()
 }
 
 fn is_zoom_limit(json: &Json) -> bool
     ensures { result ≡ is_zoom_limit (tree_of json.now) }
 {
-    is_between(json, 0, 24_000_000)
+    match number_in(json) {
+        Some(zoom) => is_zoom(zoom),
+        None => false,
+    }
 }

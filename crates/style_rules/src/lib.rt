@@ -6,32 +6,26 @@
 //! ```
 //!
 //! What is promised: `findings` gives each place that breaks a rule with the least rule that it breaks, in the order of the text, and none
-//! below another; `notes` the values and filters that are outside of what is evaluated; `may_lines` those whose evaluation may fault,
-//! with the faults. Each is exactly the definition of its name in `specs/Findings.antt`. `examined` finds all three in one walk, in which
-//! each expression is read and typed once. `form_of`, `layer_type`, `tested_type` and `number_in` are parts of these definitions that
-//! whoever reads a document without findings goes by.
+//! below another. `examined` gives them too, and in the same walk the notes, which are the values and filters that are outside of what is
+//! evaluated, and the values and filters whose evaluation may fault, with the faults. Each list is exactly the definition of its name in
+//! `specs/Findings.antt`, and each expression is read and typed once for all three.
 //!
-//! The text to believe is in `specs/`: `Parts`, `Ground`, `Rules`, `Values`, `Places`, `Findings`.
+//! The text to believe is in `specs/`: `Ground`, `Rules`, `Values`, `Places`, `Findings`, `Reports`.
 #![tactic(auto)]
 
 mod calls;
 mod document;
 mod filters;
-mod forms;
 mod grounds;
 mod keys;
 mod laws;
 mod layer;
 mod lists;
-mod members;
 mod names;
 mod properties;
 mod told;
 mod values;
 
-pub use calls::{examined, findings, may_lines, notes};
-pub use forms::{Form, form_of};
-pub use grounds::{layer_type, tested_type};
+pub use calls::{examined, findings};
 pub use laws::findings_go_by_levels;
 pub use lists::{Finding, Findings, MayLine, MayLines, Paths, Report};
-pub use members::number_in;

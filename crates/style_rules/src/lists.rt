@@ -1,6 +1,6 @@
 //! The lists that tell of a document.
 
-ghost use Rattle.std.specs.Prelude.{◌≡◌, [], ◌∷◌, ◌++◌, OnOk, OnErr};
+ghost use Rattle.std.specs.Prelude.{◌≡◌, [], ◌∷◌, ◌++◌, slice_get, OnOk, OnErr};
 
 use decimal_json::Path;
 use prop_values::FaultSet;
@@ -51,6 +51,13 @@ impl Findings {
         ensures { result.now ≡ self.now }
     {
         self.findings.as_slice()
+    }
+
+    /// The first finding, taken out of the list, or `None` exactly where there is none.
+    pub fn into_first(self) -> Option<Finding>
+        ensures { result ≡ slice_get self 0 }
+    {
+        self.findings.into_iter().next()
     }
 }
 

@@ -6,10 +6,10 @@ ghost use Rattle.property_tables.specs.RowView.{row_seen};
 ghost use Rattle.property_tables.specs.Rows.{takes_tokens};
 ghost use Rattle.legacy_functions.specs.Form.{form};
 ghost use Rattle.legacy_functions.specs.View.{function_of, row_of};
+ghost use Rattle.value_forms.specs.Forms.{target_of};
 ghost use Rattle.style_rules.specs.CodeView.{judged_mark};
-ghost use Rattle.style_rules.specs.Values.{value_mark, literal_mark, expression_mark, rule_of, function_mark, target_of, function_reads, faults_told};
+ghost use Rattle.style_rules.specs.Values.{value_mark, literal_mark, expression_mark, rule_of, function_mark, function_reads, faults_told};
 
-use crate::forms::{Form, form_of};
 use crate::told::Mark;
 use decimal_json::{Json, Path};
 use expr_syntax::{Reading, read_expr};
@@ -18,6 +18,7 @@ use legacy_functions::{Function, FunctionReading, read};
 use prop_values::{FaultSet, Want};
 use property_tables::{Row, literal};
 use std::alloc::{AllocError, Global};
+use value_forms::{Form, form_of};
 
 /// What is told of the value of a property of a row.
 pub(crate) fn value_mark(alloc: Global, row: &Row, json: &Json) -> Result<Mark, AllocError>

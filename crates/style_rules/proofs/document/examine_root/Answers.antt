@@ -1,4 +1,3 @@
-use Rattle.std.specs.Prelude.{List}
 use Rattle.std.proofs.Common.{sym, subst, ◌∙◌}
 use Rattle.decimal_json.specs.Tree.{object, fields_of}
 use Rattle.style_rules.specs.Levels.{AreMembers}

@@ -1,9 +1,8 @@
-use Rattle.std.proofs.Common.{sym, ap, ◌∙◌, drop, arith}
+use Rattle.std.proofs.Common.{sym, ap, ◌∙◌, arith}
 use Rattle.std.proofs.Math.ListN.{drop_of_length-le}
 use Rattle.decimal_json.specs.View.{members_view}
 use Rattle.style_rules.specs.CodeView.{parts_seen}
-use Rattle.style_rules.specs.LayerParts.{with_members}
-use Rattle.style_rules.proofs.PartLaws.{found_parts}
+use Rattle.style_rules.proofs.PartLaws.{with_members, found_parts}
 use Rattle.style_rules.proofs.grounds.parts_of.Goals as goal
 
 pub returns : goal.returns

@@ -1,7 +1,7 @@
 use Rattle.std.proofs.Common.{◌≡◌, drop}
 use Rattle.decimal_json.specs.View.{members_view}
 use Rattle.style_rules.specs.CodeView.{parts_seen}
-use Rattle.style_rules.specs.LayerParts.{with_members, no_parts}
+use Rattle.style_rules.proofs.PartLaws.{with_members, no_parts}
 use Rattle.style_rules.proofs.grounds.parts_of.Given as goal
 
 abbrev pub invariant-loop-member : goal.invariant-loop-member

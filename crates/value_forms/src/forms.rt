@@ -5,9 +5,8 @@ ghost use Rattle.decimal_json.specs.Tree.{list};
 ghost use Rattle.decimal_json.specs.View.{tree_of, trees};
 ghost use Rattle.property_tables.specs.RowView.{row_seen};
 ghost use Rattle.property_tables.specs.Rows.{takes_tokens};
-ghost use Rattle.style_rules.specs.Values.{form_of, is_expression, is_token_text};
+ghost use Rattle.value_forms.specs.Forms.{form_of, is_expression, is_token_text};
 
-use crate::members::is_object;
 use decimal_json::Json;
 use expr_syntax::operator_named;
 use legacy_functions::has_tokens;
@@ -36,7 +35,7 @@ pub fn form_of(row: &Row, json: &Json) -> Form
     if is_expression(json) {
         return Form::Expression;
     }
-    if is_object(json) {
+    if json.is_object() {
         return Form::Function;
     }
     if is_token_text(row, json) {

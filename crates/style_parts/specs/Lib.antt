@@ -1,0 +1,3 @@
+-- To be believed.
+pub mod Parts
+pub mod Numbers
