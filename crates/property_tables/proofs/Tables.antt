@@ -102,7 +102,7 @@ meets_itself r (Some d) w e =
 
 -- stands where no row is read
 no_row : RowData
-no_row = record { name = []; place = Layout; want = wants.Any; fallback = absent; limits = record { least = None; most = None }; reads = record { zoom = false; feature = false; state = false; ramps = false } }
+no_row = record { name = []; place = Layout; want = wants.Any; fallback = absent; limits = record { least = None; most = None }; reads = record { zoom = false; feature = false; state = false; ramps = false }; takes_tokens = false }
 
 pub table_keeps_rules : TableKeepsRules
 table_keeps_rules t = record {
