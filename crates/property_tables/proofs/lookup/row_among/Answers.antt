@@ -1,4 +1,4 @@
-use Rattle.std.proofs.Common.{◌≡◌, ◌∙◌, sym, ap}
+use Rattle.std.proofs.Common.{◌∙◌, sym, ap}
 use Rattle.std.specs.Prelude.{Some}
 use Rattle.property_tables.specs.RowView.{row_seen}
 use Rattle.property_tables.proofs.FoundRows.{found_named, none_named}
