@@ -13,7 +13,7 @@ use Rattle.legacy_functions.specs.Tokens.{token_expression}
 use Rattle.legacy_filters.specs.Migrated.{migrated_filter}
 use Rattle.style_rules.specs.Ground.{layer_type, tested_type}
 use Rattle.style_rules.specs.Places.{is_layers, place_named}
-use Rattle.style_rules.specs.Values.{form_of, target_of}
+use Rattle.style_rules.specs.Values.{form_of}
 use Rattle.style_rules.specs.declared.forms.Form.{Form}
 use Rattle.style_rules.specs.declared.forms.Form.TheVariants as forms
 
@@ -30,7 +30,7 @@ tokens_or (text s) = token_expression s
 tokens_or t = t
 
 abbrev pub value_by_form : Form → RowData → Tree → Tree
-value_by_form forms.Function row t = function_or row t (functions.form (target_of row) t)
+value_by_form forms.Function row t = function_or row t (functions.form row t)
 value_by_form forms.TokenText row t = tokens_or t
 value_by_form forms.Expression row t = t
 value_by_form forms.Literal row t = t

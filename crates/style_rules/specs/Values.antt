@@ -9,7 +9,7 @@ use Rattle.prop_values.specs.declared.fault.FaultSet.{FaultSet}
 use Rattle.prop_values.specs.declared.kinds.Want.{Want}
 use Rattle.prop_values.specs.declared.kinds.Want.TheVariants as wants
 use Rattle.property_tables.specs.Literals.{literal_of}
-use Rattle.property_tables.specs.Rows.{RowData, takes_tokens}
+use Rattle.property_tables.specs.Rows.{RowData}
 use Rattle.expr_syntax.specs.Names.{name_of}
 use Rattle.expr_syntax.specs.Reading.{Reading, reading}
 use Rattle.expr_types.specs.Checked.{checked}
@@ -39,7 +39,7 @@ abbrev pub is_function : Tree → Bool
 is_function t = is_object t
 
 abbrev pub is_token_text : RowData → Tree → Bool
-is_token_text row (text s) = takes_tokens row.name && has_tokens s
+is_token_text row (text s) = row.takes_tokens && has_tokens s
 is_token_text row _ = false
 
 -- `visibility` takes a literal alone
@@ -99,14 +99,11 @@ function_mark row (Some (Some f)) = if function_reads row f then Sound (function
 function_mark row (Some None) = Outside
 function_mark row None = Broken [] 19
 
-abbrev pub target_of : RowData → functions.Target
-target_of row = record { row = row; takes_tokens = takes_tokens row.name }
-
 -- ---- the value of a property
 
 abbrev pub form_mark : Form → RowData → Tree → Mark
 form_mark forms.Expression row t = expression_mark row.want (Some row) t
-form_mark forms.Function row t = function_mark row (functions.form (target_of row) t)
+form_mark forms.Function row t = function_mark row (functions.form row t)
 form_mark forms.TokenText row t = Sound no_faults
 form_mark forms.Literal row t = literal_mark row t
 
