@@ -7,7 +7,7 @@ use Rattle.prop_values.specs.declared.fault.EvalFault.{EvalFault}
 use Rattle.prop_values.specs.declared.kinds.Want.{Want}
 use Rattle.prop_values.specs.declared.outcome.Curve.{Curve}
 use Rattle.property_tables.specs.Fitting.{fit}
-use Rattle.property_tables.specs.Stays.{fit_again}
+use Rattle.property_tables.proofs.Stays.{fit_again}
 use Rattle.interpolate_fixed.specs.Places.{place_of}
 use Rattle.interpolate_fixed.specs.Warp.{warp_of}
 use Rattle.expr_syntax.specs.Term.{Term, literal, node, Terms, no_terms, term}

@@ -1,14 +1,14 @@
 -- Numbers of which each is above the one before.
 use Rattle.std.proofs.Common.{◌≡◌, ℕ, zero, suc, ◌<◌, ℤ, List, [], ◌∷◌, length, get_or, refl, ap, sym, subst, ◌∙◌, arith, true, false}
 use Rattle.std.proofs.lemmas.Int.{ints}
-use Rattle.std.specs.Prelude.{Bool, ◌&&◌, ◌<ℤ◌, int_le, Option, Some, None, map, if◌then◌else◌}
+use Rattle.std.specs.Prelude.{Bool, ◌&&◌, ◌<ℤ◌, int_le, Option, Some, None, map, option_map, if◌then◌else◌}
 use Rattle.std.specs.Ordering.{int_eq}
 use Rattle.interpolate_fixed.specs.Places.{IsAscending}
 use Rattle.std.proofs.lemmas.Bool.Decides.{Decides-int_eq}
 use Rattle.legacy_functions.specs.declared.function.NumberStop.{NumberStop}
 use Rattle.legacy_functions.specs.declared.function.ZoomRule.{ZoomRule}
 use Rattle.legacy_functions.specs.Function.{Spelled, flag, number, word, Output, Way, Rule}
-use Rattle.legacy_functions.specs.Form.{Stop, is_not_below, never_descend, number_stops, equals_before, without_repeated, zooms_never_descend, with_group, by_zoom, and_rule, rules_form, rule_form}
+use Rattle.legacy_functions.specs.Form.{Stop, is_not_below, never_descend, number_stops, equals_before, without_repeated, zooms_never_descend, with_group, by_zoom, and_first, rules_form, rule_form}
 use Rattle.legacy_functions.specs.GroupView.{Zoomed, Group}
 use Rattle.legacy_functions.specs.Meaning.{stop_inputs, rule_zooms}
 use Rattle.legacy_functions.specs.Parts.{stop_seen}
@@ -107,14 +107,15 @@ abbrev pub ZoomsAre : Option (List (Spelled × Rule)) → List ℤ → Type 0
 ZoomsAre (Some rs) zs = rule_zooms rs ≡ zs
 ZoomsAre None zs = Unit {0}
 
-and_rule_zooms : (zoom : Spelled) (rule : Option Rule) (later : Option (List (Spelled × Rule))) (zs : List ℤ) → ZoomsAre later zs → ZoomsAre (and_rule zoom rule later) (zoom.value ∷ zs)
-and_rule_zooms zoom (Some rule) (Some rs) zs h = ap (λ ys. zoom.value ∷ ys) h
-and_rule_zooms zoom (Some rule) None zs h = tt
-and_rule_zooms zoom None later zs h = tt
+first_zooms : (zoom : Spelled) (rule : Option Rule) (later : Option (List (Spelled × Rule))) (zs : List ℤ) → ZoomsAre later zs
+    → ZoomsAre (and_first (option_map (λ r. (zoom, r)) rule) later) (zoom.value ∷ zs)
+first_zooms zoom (Some rule) (Some rs) zs h = ap (λ ys. zoom.value ∷ ys) h
+first_zooms zoom (Some rule) None zs h = tt
+first_zooms zoom None later zs h = tt
 
 pub rules_zooms : (way : Option Way) (gs : List Group) → ZoomsAre (rules_form way gs) (group_zooms gs)
 rules_zooms way [] = refl
-rules_zooms way (g ∷ gs) = and_rule_zooms g.0 (rule_form way g.1) (rules_form way gs) (group_zooms gs) (rules_zooms way gs)
+rules_zooms way (g ∷ gs) = first_zooms g.0 (rule_form way g.1) (rules_form way gs) (group_zooms gs) (rules_zooms way gs)
 
 pub zooms_of_rules : (kept : Way) (rules : List ZoomRule) → rule_zooms (map (zoom_rule_seen kept) rules) ≡ zooms_seen rules
 zooms_of_rules kept [] = refl

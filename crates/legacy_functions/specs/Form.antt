@@ -1,10 +1,11 @@
 -- Which objects are legacy functions of a row, and which of these are outside. Source: own.
-use Rattle.std.specs.Prelude.{ℕ, ℤ, pos, List, [], ◌∷◌, Bool, true, false, not, ◌&&◌, ◌||◌, codes, Option, Some, None, is_some, is_none, option_map, int_le, int_lt, Result, Ok, Err, if◌then◌else◌}
+use Rattle.std.specs.Prelude.{ℕ, ℤ, pos, List, [], ◌∷◌, Bool, true, false, not, ◌&&◌, ◌||◌, codes, Option, Some, None, is_some, is_none, option_map, option_and_then, int_le, int_lt, Result, Ok, Err, if◌then◌else◌}
 use Rattle.std.specs.List.{list_any}
 use Rattle.std.specs.Ordering.{int_eq}
 use Rattle.std.specs.Str.{bytes_eq}
 use Rattle.fixed_num.specs.Decimal.{read_text}
 use Rattle.fixed_num.specs.declared.decimal.NumFault.{NumFault}
+use Rattle.decimal_json.specs.Accessors.{text_in}
 use Rattle.decimal_json.specs.Tree as json
 use Rattle.decimal_json.specs.Tree.{Tree, Trees, no_trees, tree, Fields, no_fields, field, field_at}
 use Rattle.prop_values.specs.Data.{Data}
@@ -16,15 +17,20 @@ use Rattle.legacy_functions.specs.Tokens.{has_tokens}
 use Rattle.legacy_functions.specs.declared.function.Kind.{Kind}
 use Rattle.legacy_functions.specs.declared.function.Kind.TheVariants.{Exponential, Interval, Categorical, Identity}
 
--- goes on with what was found
-abbrev pub then_some : {A B : Type 0} → Option A → (A → Option B) → Option B
-then_some (Some a) go = go a
-then_some None go = None
-
 -- nothing unless a test holds
 abbrev pub where_true : {A : Type 0} → Bool → Option A → Option A
 where_true true found = found
 where_true false found = None
+
+-- what each gives, in their order; nothing where one gives nothing
+abbrev pub and_first : {A : Type 0} → Option A → Option (List A) → Option (List A)
+and_first (Some x) (Some xs) = Some (x ∷ xs)
+and_first (Some x) None = None
+and_first None later = None
+
+abbrev pub each_of : {A B : Type 0} → (A → Option B) → List A → Option (List B)
+each_of form [] = Some []
+each_of form (x ∷ xs) = and_first (form x) (each_of form xs)
 
 abbrev pub is_named : List ℕ → List (List ℕ) → Bool
 is_named name names = list_any (bytes_eq name) names
@@ -77,15 +83,6 @@ abbrev pub number_form : Tree → Option Spelled
 number_form (json.number n) = spelled_number n (read_text n)
 number_form _ = None
 
-abbrev pub text_form : Tree → Option (List ℕ)
-text_form (json.text s) = Some s
-text_form _ = None
-
--- a row, and whether a text with tokens is a token text on it
-pub record Target : Type 0 where
-  pub row : RowData
-  pub takes_tokens : Bool
-
 -- ---- outputs and the default are literals of the row; where the row takes tokens a text with tokens is a token text
 
 abbrev pub literal_form : Tree → Option Data → Option Output
@@ -97,9 +94,9 @@ text_output true s (Some d) = Some (tokens s)
 text_output true s None = None
 text_output false s found = literal_form (json.text s) found
 
-abbrev pub output_form : Target → Tree → Option Output
-output_form target (json.text s) = text_output (target.takes_tokens && has_tokens s) s (literal_of (json.text s) target.row)
-output_form target t = literal_form t (literal_of t target.row)
+abbrev pub output_form : RowData → Tree → Option Output
+output_form row (json.text s) = text_output (row.takes_tokens && has_tokens s) s (literal_of (json.text s) row)
+output_form row t = literal_form t (literal_of t row)
 
 -- ---- inputs
 
@@ -119,7 +116,7 @@ has_two_fields (field k t (field l u no_fields)) = true
 has_two_fields _ = false
 
 abbrev pub zoomed_input : Bool → Option Tree → Option Tree → Option PlacedInput
-zoomed_input any (Some zoom) (Some value) = then_some (number_form zoom) (λ z. option_map (λ i. (Some z, i)) (input_form any value))
+zoomed_input any (Some zoom) (Some value) = option_and_then (λ z. option_map (λ i. (Some z, i)) (input_form any value)) (number_form zoom)
 zoomed_input any _ _ = None
 
 abbrev pub object_input : Bool → Fields → Option PlacedInput
@@ -134,44 +131,33 @@ placed_input any t = option_map (λ i. (None, i)) (input_form any t)
 abbrev pub PlacedStop : Type 0
 PlacedStop = PlacedInput × Output
 
-abbrev pub stop_form : Target → Bool → Tree → Option PlacedStop
-stop_form target any (json.list (tree i (tree o no_trees))) = then_some (placed_input any i) (λ p. option_map (λ out. (p, out)) (output_form target o))
-stop_form target any _ = None
+abbrev pub stop_form : RowData → Bool → Tree → Option PlacedStop
+stop_form row any (json.list (tree i (tree o no_trees))) = option_and_then (λ p. option_map (λ out. (p, out)) (output_form row o)) (placed_input any i)
+stop_form row any _ = None
 
-abbrev pub and_stop : Option PlacedStop → Option (List PlacedStop) → Option (List PlacedStop)
-and_stop (Some s) (Some ss) = Some (s ∷ ss)
-and_stop (Some s) None = None
-and_stop None later = None
+abbrev pub each_stop : RowData → Bool → Trees → Option (List PlacedStop)
+each_stop row any no_trees = Some []
+each_stop row any (tree t ts) = and_first (stop_form row any t) (each_stop row any ts)
 
-abbrev pub each_stop : Target → Bool → Trees → Option (List PlacedStop)
-each_stop target any no_trees = Some []
-each_stop target any (tree t ts) = and_stop (stop_form target any t) (each_stop target any ts)
-
-abbrev pub stops_form : Target → Bool → Tree → Option (List PlacedStop)
-stops_form target any (json.list (tree t ts)) = each_stop target any (tree t ts)
-stops_form target any _ = None
+abbrev pub stops_form : RowData → Bool → Tree → Option (List PlacedStop)
+stops_form row any (json.list (tree t ts)) = each_stop row any (tree t ts)
+stops_form row any _ = None
 
 -- either no input has a zoom, or each has one
 abbrev pub Stop : Type 0
 Stop = Input × Output
 
-abbrev pub and_plain : Option Spelled → Stop → Option (List Stop) → Option (List Stop)
-and_plain (Some zoom) s later = None
-and_plain None s (Some ss) = Some (s ∷ ss)
-and_plain None s None = None
+abbrev pub plain_stop : PlacedStop → Option Stop
+plain_stop s = where_true (is_none s.0.0) (Some (s.0.1, s.1))
 
 abbrev pub plain_stops : List PlacedStop → Option (List Stop)
-plain_stops [] = Some []
-plain_stops (s ∷ ss) = and_plain s.0.0 (s.0.1, s.1) (plain_stops ss)
+plain_stops ss = each_of plain_stop ss
 
-abbrev pub and_zoomed : Option Spelled → Stop → Option (List (Spelled × Stop)) → Option (List (Spelled × Stop))
-and_zoomed (Some zoom) s (Some ss) = Some ((zoom, s) ∷ ss)
-and_zoomed (Some zoom) s None = None
-and_zoomed None s later = None
+abbrev pub zoomed_stop : PlacedStop → Option (Spelled × Stop)
+zoomed_stop s = option_map (λ zoom. (zoom, (s.0.1, s.1))) s.0.0
 
 abbrev pub zoomed_stops : List PlacedStop → Option (List (Spelled × Stop))
-zoomed_stops [] = Some []
-zoomed_stops (s ∷ ss) = and_zoomed s.0.0 (s.0.1, s.1) (zoomed_stops ss)
+zoomed_stops ss = each_of zoomed_stop ss
 
 -- ---- what the inputs of a rule have to be
 
@@ -240,23 +226,20 @@ abbrev pub by_zoom : List (Spelled × Stop) → List (Spelled × List Stop)
 by_zoom [] = []
 by_zoom (s ∷ ss) = with_group s (by_zoom ss)
 
-abbrev pub and_rule : Spelled → Option Rule → Option (List (Spelled × Rule)) → Option (List (Spelled × Rule))
-and_rule zoom (Some rule) (Some rules) = Some ((zoom, rule) ∷ rules)
-and_rule zoom (Some rule) None = None
-and_rule zoom None later = None
+abbrev pub group_form : Option Way → Spelled × List Stop → Option (Spelled × Rule)
+group_form way g = option_map (λ rule. (g.0, rule)) (rule_form way g.1)
 
 abbrev pub rules_form : Option Way → List (Spelled × List Stop) → Option (List (Spelled × Rule))
-rules_form way [] = Some []
-rules_form way (g ∷ gs) = and_rule g.0 (rule_form way g.1) (rules_form way gs)
+rules_form way gs = each_of (group_form way) gs
 
 abbrev pub zoomed_body : Option (List (Spelled × Rule)) → Option Body
-zoomed_body found = option_map zoomed (then_some found some_of)
+zoomed_body found = option_map zoomed (option_and_then some_of found)
 
 abbrev pub zoomed_form : Option Way → List (Spelled × Stop) → Option Body
 zoomed_form way ss = where_true (zooms_never_descend None ss) (zoomed_body (rules_form way (by_zoom ss)))
 
 abbrev pub plain_form : Option Way → List PlacedStop → Option Body
-plain_form way ss = option_map plain (then_some (plain_stops ss) (rule_form way))
+plain_form way ss = option_map plain (option_and_then (rule_form way) (plain_stops ss))
 
 abbrev pub begins_with_zoom : List PlacedStop → Bool
 begins_with_zoom [] = false
@@ -265,7 +248,7 @@ begins_with_zoom (s ∷ ss) = is_some s.0.0
 -- with a property the inputs may have zooms
 abbrev pub body_of : Option Way → Bool → List PlacedStop → Option Body
 body_of way has_property ss =
-    if has_property && begins_with_zoom ss then then_some (zoomed_stops ss) (zoomed_form way) else plain_form way ss
+    if has_property && begins_with_zoom ss then option_and_then (zoomed_form way) (zoomed_stops ss) else plain_form way ss
 
 -- ---- the members together
 
@@ -279,14 +262,14 @@ pub record Members : Type 0 where
 
 infixl 10 ◌>>=◌
 abbrev ◌>>=◌ : {A B : Type 0} → Option A → (A → Option B) → Option B
-found >>= go = then_some found go
+found >>= go = option_and_then go found
 
-abbrev pub members_form : Target → Fields → Option Members
-members_form target fs = where_true (has_known_members fs) (do
-  kind ← kind_form target.row (field_at (codes "type") fs)
+abbrev pub members_form : RowData → Fields → Option Members
+members_form row fs = where_true (has_known_members fs) (do
+  kind ← kind_form row (field_at (codes "type") fs)
   base ← member_form number_form (field_at (codes "base") fs)
-  property ← member_form text_form (field_at (codes "property") fs)
-  fallback ← member_form (output_form target) (field_at (codes "default") fs)
+  property ← member_form text_in (field_at (codes "property") fs)
+  fallback ← member_form (output_form row) (field_at (codes "default") fs)
   Some (record {
     kind = kind;
     base = base;
@@ -312,17 +295,17 @@ abbrev pub is_categories : Kind → Bool
 is_categories Categorical = true
 is_categories _ = false
 
-abbrev pub stops_body : Target → Members → Option Body
-stops_body target ms = do
+abbrev pub stops_body : RowData → Members → Option Body
+stops_body row ms = do
   stops ← ms.stops
-  placed ← stops_form target (is_categories ms.kind) stops
+  placed ← stops_form row (is_categories ms.kind) stops
   body_of (way_by ms.kind ms.base) (is_some ms.property) placed
 
-abbrev pub kind_body : Kind → Target → Members → Option Body
-kind_body Exponential target ms = stops_body target ms
-kind_body Interval target ms = stops_body target ms
-kind_body Categorical target ms = where_true (is_some ms.property) (stops_body target ms)
-kind_body Identity target ms = where_true (is_some ms.property && is_none ms.stops) (Some identity)
+abbrev pub kind_body : Kind → RowData → Members → Option Body
+kind_body Exponential row ms = stops_body row ms
+kind_body Interval row ms = stops_body row ms
+kind_body Categorical row ms = where_true (is_some ms.property) (stops_body row ms)
+kind_body Identity row ms = where_true (is_some ms.property && is_none ms.stops) (Some identity)
 
 -- ---- what is outside: a color space; and of exponential functions a base that is not above 0, and one other than 1 over zooms
 
@@ -346,9 +329,9 @@ inside ms body =
     else Some (record { property = ms.property; fallback = ms.fallback; body = body })
 
 -- The legacy function that an object is on a row, or none where it is outside. Nothing: it is ill-formed.
-abbrev pub function_form : Target → Fields → Option (Option Function)
-function_form target fs = then_some (members_form target fs) (λ ms. option_map (inside ms) (kind_body ms.kind target ms))
+abbrev pub function_form : RowData → Fields → Option (Option Function)
+function_form row fs = option_and_then (λ ms. option_map (inside ms) (kind_body ms.kind row ms)) (members_form row fs)
 
-abbrev pub form : Target → Tree → Option (Option Function)
-form target (json.object fs) = function_form target fs
-form target _ = None
+abbrev pub form : RowData → Tree → Option (Option Function)
+form row (json.object fs) = function_form row fs
+form row _ = None

@@ -2,7 +2,6 @@
 use Rattle.std.specs.Prelude.{◌≡◌, map, Option, Some, None, option_map, Result, Ok, Err}
 use Rattle.property_tables.specs.RowView.{row_seen}
 use Rattle.property_tables.specs.Rows.{RowData}
-use Rattle.property_tables.specs.declared.property_row.Row.{Row}
 use Rattle.legacy_functions.specs.declared.function.Body.{Body as BodyValue}
 use Rattle.legacy_functions.specs.declared.function.Body.TheVariants as bodies
 use Rattle.legacy_functions.specs.declared.function.Function.{Function as FunctionValue}
@@ -14,7 +13,6 @@ use Rattle.legacy_functions.specs.declared.function.Rule.TheVariants as rules
 use Rattle.legacy_functions.specs.declared.function.Way.{Way as WayValue}
 use Rattle.legacy_functions.specs.declared.function.Way.TheVariants as ways
 use Rattle.legacy_functions.specs.declared.function.ZoomRule.{ZoomRule}
-use Rattle.legacy_functions.specs.Form.{Target}
 use Rattle.legacy_functions.specs.Function.{Spelled, Way, even, curved, stepped, Rule, numeric, categorical, Body, plain, zoomed, identity, Function}
 use Rattle.legacy_functions.specs.Parts.{spelled_seen, output_seen, stop_seen, category_seen}
 
@@ -43,10 +41,6 @@ function_of f = record {
   fallback = option_map output_seen f.fallback;
   body = body_seen (way_seen f.way) f.body;
 }
-
--- what reading sees of a row
-abbrev pub target_seen : Row → Target
-target_seen r = record { row = row_seen r; takes_tokens = r.tokens }
 
 -- The row that it was read for.
 abbrev pub row_of : FunctionValue → RowData

@@ -3,9 +3,9 @@
 ghost use Rattle.std.specs.Prelude.{◌≡◌, option_map, IfOk};
 ghost use Rattle.fixed_num.specs.Decimal.{read_text};
 ghost use Rattle.decimal_json.specs.View.{tree_of};
+ghost use Rattle.property_tables.specs.RowView.{row_seen};
 ghost use Rattle.legacy_functions.specs.Form.{number_form, output_form, spelled_number, input_form};
 ghost use Rattle.legacy_functions.specs.Parts.{spelled_seen, output_seen, input_seen};
-ghost use Rattle.legacy_functions.specs.View.{target_seen};
 
 use crate::function::{Input, Output, Spelled};
 use crate::tokens::has_tokens;
@@ -41,13 +41,13 @@ pub(crate) fn output_form(
     json: &Json,
     row: &Row,
 ) -> Result<Option<Output>, AllocError>
-    ensures { IfOk result (λ found. option_map output_seen found ≡ output_form (target_seen row.now) (tree_of json.now)) }
+    ensures { IfOk result (λ found. option_map output_seen found ≡ output_form (row_seen row.now) (tree_of json.now)) }
 {
     let Some(value) = literal(alloc, json, row)? else {
         return Ok(None);
     };
     if let Json::Text(text) = json {
-        if row.tokens && has_tokens(text.as_str()) {
+        if row.takes_tokens && has_tokens(text.as_str()) {
             return Ok(Some(Output::Tokens(text.share()?)));
         }
     }

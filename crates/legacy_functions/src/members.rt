@@ -1,13 +1,13 @@
 //! The members of a legacy function but for its stops.
 
 ghost use Rattle.std.specs.Prelude.{◌≡◌, option_map, IfOk};
+ghost use Rattle.decimal_json.specs.Accessors.{text_in};
 ghost use Rattle.decimal_json.specs.Tree.{fields_of};
 ghost use Rattle.decimal_json.specs.View.{tree_of};
 ghost use Rattle.property_tables.specs.RowView.{row_seen};
-ghost use Rattle.legacy_functions.specs.Form.{members_form, has_known_members, kind_form, member_form, number_form, text_form, output_form};
+ghost use Rattle.legacy_functions.specs.Form.{members_form, has_known_members, kind_form, member_form, number_form, output_form};
 ghost use Rattle.legacy_functions.specs.FoundView.{members_seen};
 ghost use Rattle.legacy_functions.specs.Parts.{spelled_seen, output_seen};
-ghost use Rattle.legacy_functions.specs.View.{target_seen};
 
 use crate::function::{Kind, Output, Spelled};
 use crate::leaves::{number_form, output_form};
@@ -30,7 +30,7 @@ pub(crate) fn members_form(
     row: &Row,
 ) -> Result<Option<Found>, AllocError>
     ensures { IfOk result (λ found. option_map (members_seen (fields_of members.now)) found
-        ≡ members_form (target_seen row.now) (fields_of members.now)) }
+        ≡ members_form (row_seen row.now) (fields_of members.now)) }
 {
     if !has_known_members(members) {
         return Ok(None);
@@ -101,7 +101,7 @@ fn base_form(json: Option<&Json>) -> Result<Option<Option<Spelled>>, AllocError>
 }
 
 fn property_form(json: Option<&Json>) -> Result<Option<Option<Text>>, AllocError>
-    ensures { IfOk result (λ found. found ≡ member_form text_form (option_map (λ j. tree_of j.now) json.entry)) }
+    ensures { IfOk result (λ found. found ≡ member_form text_in (option_map (λ j. tree_of j.now) json.entry)) }
 {
     match json {
         None => Ok(Some(None)),
@@ -116,7 +116,7 @@ fn fallback_form(
     row: &Row,
 ) -> Result<Option<Option<Output>>, AllocError>
     ensures { IfOk result (λ found. option_map (option_map output_seen) found
-        ≡ member_form (output_form (target_seen row.now)) (option_map (λ j. tree_of j.now) json.entry)) }
+        ≡ member_form (output_form (row_seen row.now)) (option_map (λ j. tree_of j.now) json.entry)) }
 {
     match json {
         None => Ok(Some(None)),

@@ -3,9 +3,9 @@
 ghost use Rattle.std.specs.Prelude.{◌≡◌, map, codes, option_map, IfOk};
 ghost use Rattle.decimal_json.specs.Tree.{field_at, fields_of, list, tree, no_trees};
 ghost use Rattle.decimal_json.specs.View.{tree_of, trees};
+ghost use Rattle.property_tables.specs.RowView.{row_seen};
 ghost use Rattle.legacy_functions.specs.Form.{has_two_fields, zoomed_input, object_input, placed_input, stop_form, each_stop, stops_form};
 ghost use Rattle.legacy_functions.specs.PlacedView.{placed_input_seen, placed_stop_seen};
-ghost use Rattle.legacy_functions.specs.View.{target_seen};
 
 use crate::function::{Category, Input, Spelled};
 use crate::leaves::{input_form, number_form, output_form};
@@ -28,7 +28,7 @@ pub(crate) fn stops_form(
     row: &Row,
 ) -> Result<Option<Vec<PlacedStop>>, AllocError>
     ensures { IfOk result (λ found. option_map (λ v. map placed_stop_seen v.items) found
-        ≡ stops_form (target_seen row.now) any (tree_of json.now)) }
+        ≡ stops_form (row_seen row.now) any (tree_of json.now)) }
 {
     let Json::List(items) = json else {
         return Ok(None);
@@ -42,7 +42,7 @@ pub(crate) fn stops_form(
     }
 }
 
-#[tactic(auto, using(crate::proofs::StopLists::after_placed_stop))]
+#[tactic(auto, using(crate::proofs::StopLists::after_first))]
 fn each_stop(
     alloc: Global,
     any: bool,
@@ -50,7 +50,7 @@ fn each_stop(
     row: &Row,
 ) -> Result<Option<Vec<PlacedStop>>, AllocError>
     ensures { IfOk result (λ found. option_map (λ v. map placed_stop_seen v.items) found
-        ≡ each_stop (target_seen row.now) any (trees items.now)) }
+        ≡ each_stop (row_seen row.now) any (trees items.now)) }
 {
     let mut stops = Vec::new(alloc);
     for item in items {
@@ -69,7 +69,7 @@ fn stop_form(
     row: &Row,
 ) -> Result<Option<PlacedStop>, AllocError>
     ensures { IfOk result (λ found. option_map placed_stop_seen found
-        ≡ stop_form (target_seen row.now) any (tree_of json.now)) }
+        ≡ stop_form (row_seen row.now) any (tree_of json.now)) }
 {
     match json {
         Json::List(items) => {
@@ -88,7 +88,7 @@ fn pair_form(
     row: &Row,
 ) -> Result<Option<PlacedStop>, AllocError>
     ensures { IfOk result (λ found. option_map placed_stop_seen found
-        ≡ stop_form (target_seen row.now) any (list (trees elements.now))) }
+        ≡ stop_form (row_seen row.now) any (list (trees elements.now))) }
 {
     match elements {
         [] => Ok(None),
@@ -106,7 +106,7 @@ fn stop_of(
     row: &Row,
 ) -> Result<Option<PlacedStop>, AllocError>
     ensures { IfOk result (λ found. option_map placed_stop_seen found
-        ≡ stop_form (target_seen row.now) any (list (tree (tree_of input.now) (tree (tree_of output.now) no_trees)))) }
+        ≡ stop_form (row_seen row.now) any (list (tree (tree_of input.now) (tree (tree_of output.now) no_trees)))) }
 {
     let Some((zoom, input)) = placed_input(any, input)? else {
         return Ok(None);

@@ -10,7 +10,7 @@ ghost use Rattle.legacy_functions.specs.FoundView.{members_seen, way_read, way_s
 ghost use Rattle.legacy_functions.specs.Function.{Way as WayData};
 ghost use Rattle.legacy_functions.specs.Parts.{spelled_seen};
 ghost use Rattle.legacy_functions.specs.PlacedView.{placed_stop_seen};
-ghost use Rattle.legacy_functions.specs.View.{reading_seen, inside_seen, target_seen, IsOfRow, way_seen, body_seen};
+ghost use Rattle.legacy_functions.specs.View.{reading_seen, inside_seen, IsOfRow, way_seen, body_seen};
 
 use crate::function::{Body, Function, FunctionFault, FunctionReading, Kind, Spelled, Way};
 use crate::members::{Found, members_form};
@@ -19,7 +19,7 @@ use crate::rules::{plain_stops, rule_form};
 use crate::stops::Base;
 use crate::zooms::{zoomed_form, zoomed_stops};
 use decimal_json::{Json, Members};
-use property_tables::{Fallback, Row};
+use property_tables::Row;
 use std::alloc::{AllocError, Global};
 
 /// The legacy function that an object is on a row, or that it is outside: it has a color space, or its base is one that is not
@@ -29,7 +29,7 @@ pub fn read(
     json: &Json,
     row: &Row,
 ) -> Result<Result<FunctionReading, FunctionFault>, AllocError>
-    ensures function { IfOk result (λ read. reading_seen read ≡ form (target_seen row.now) (tree_of json.now)) }
+    ensures function { IfOk result (λ read. reading_seen read ≡ form (row_seen row.now) (tree_of json.now)) }
     ensures row { IfOk result (λ read. IfOk read (IsOfRow (row_seen row.now))) }
 {
     let Json::Object(members) = json else {
@@ -51,7 +51,7 @@ fn body_form(
     row: &Row,
 ) -> Result<Option<Body>, AllocError>
     ensures { IfOk result (λ body. option_map (body_seen (way_seen_for found.now)) body
-        ≡ kind_body found.now.kind (target_seen row.now) (members_seen (fields_of members.now) found.now)) }
+        ≡ kind_body found.now.kind (row_seen row.now) (members_seen (fields_of members.now) found.now)) }
 {
     match found.kind {
         Kind::Exponential => stops_body(alloc, members, found, row),
@@ -80,7 +80,7 @@ fn stops_body(
     row: &Row,
 ) -> Result<Option<Body>, AllocError>
     ensures { IfOk result (λ body. option_map (body_seen (way_seen_for found.now)) body
-        ≡ stops_body (target_seen row.now) (members_seen (fields_of members.now) found.now)) }
+        ≡ stops_body (row_seen row.now) (members_seen (fields_of members.now) found.now)) }
 {
     let Some(stops) = members.get("stops") else {
         return Ok(None);
@@ -148,7 +148,7 @@ fn inside(members: &Members, found: Found, body: Body, row: &Row) -> FunctionRea
     } = found;
     match way_inside(kind, base, is_zoomed(&body)) {
         Some(way) => FunctionReading::Inside(Function {
-            row: copy_of(row),
+            row: row.copy(),
             property,
             fallback,
             way,
@@ -189,37 +189,5 @@ fn curve_inside(base: Spelled, over_zooms: bool) -> Option<Way>
     match Base::of(base) {
         Some(base) if !over_zooms => Some(Way::Curved(base)),
         _ => None,
-    }
-}
-
-fn copy_of(row: &Row) -> Row
-    ensures { result ≡ row.now }
-{
-    Row {
-        name: row.name,
-        number: row.number,
-        place: row.place,
-        want: row.want,
-        fallback: fallback_of(&row.fallback),
-        least: row.least,
-        most: row.most,
-        zoom: row.zoom,
-        feature: row.feature,
-        state: row.state,
-        ramps: row.ramps,
-        tokens: row.tokens,
-    }
-}
-
-fn fallback_of(fallback: &Fallback) -> Fallback
-    ensures { result ≡ fallback.now }
-{
-    match fallback {
-        Fallback::Absent => Fallback::Absent,
-        Fallback::Flag(flag) => Fallback::Flag(*flag),
-        Fallback::Number(number) => Fallback::Number(*number),
-        Fallback::Word(word) => Fallback::Word(*word),
-        Fallback::Zeros(count) => Fallback::Zeros(*count),
-        Fallback::Fonts => Fallback::Fonts,
     }
 }

@@ -16,7 +16,7 @@ use crate::stops::NumberStops;
 use fixed_num::Fixed;
 use std::alloc::{AllocError, Global};
 
-#[tactic(auto, using(crate::proofs::StopLists::after_plain_stop))]
+#[tactic(auto, using(crate::proofs::StopLists::after_first))]
 pub(crate) fn plain_stops(
     alloc: Global,
     stops: Vec<PlacedStop>,

@@ -31,7 +31,7 @@ pub(crate) struct ZoomGroup {
 }
 
 /// The stops with their zooms, or none where one has no zoom.
-#[tactic(auto, using(crate::proofs::StopLists::after_zoomed_stop))]
+#[tactic(auto, using(crate::proofs::StopLists::after_first))]
 pub(crate) fn zoomed_stops(
     alloc: Global,
     stops: Vec<PlacedStop>,
@@ -183,7 +183,7 @@ fn put_first(alloc: Global, groups: &mut Vec<ZoomGroup>, stop: ZoomedStop) -> Re
 }
 
 // The rule of each group, or none where the stops of one are none of a rule.
-#[tactic(auto, using(crate::proofs::StopLists::after_rule))]
+#[tactic(auto, using(crate::proofs::StopLists::after_first))]
 fn rules_form(
     alloc: Global,
     groups: Vec<ZoomGroup>,

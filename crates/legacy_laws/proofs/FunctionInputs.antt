@@ -17,7 +17,6 @@ use Rattle.expr_types.specs.ArgumentPaths.{argument_path}
 use Rattle.expr_types.specs.Visits.{Visit, standing_of, all_visits, visits, visitings}
 use Rattle.expr_types.specs.declared.standing.Standing.{Standing}
 use Rattle.expr_types.specs.declared.standing.Standing.TheVariants.{Reached}
-use Rattle.legacy_functions.specs.Form.{Target}
 use Rattle.legacy_functions.specs.Function.{Spelled, Input, Output, literal as literal_output, tokens, Way, even}
 use Rattle.legacy_functions.specs.Function.{curved, stepped, Rule, numeric, categorical, Body, plain, zoomed}
 use Rattle.legacy_functions.specs.Function.{identity, has_zoomed_stops}
@@ -241,38 +240,35 @@ module _ (row : RowData) where
 
 -- ---- of a row
 
-module _ (target : Target) (tokens_read : target.takes_tokens ≡ true → target.row.reads.feature ≡ true) where
-  abbrev row : RowData
-  row = target.row
-
-  output_calm : (o : Output) → IsOutputOf target o → IsCalm row (output_term o)
+module _ (row : RowData) (tokens_read : row.takes_tokens ≡ true → row.reads.feature ≡ true) where
+  output_calm : (o : Output) → IsOutputOf row o → IsCalm row (output_term o)
   output_calm (literal_output t d) h = literal_calm row (data_or_null (json_data t))
   output_calm (tokens s) h = tokens_calm row s (tokens_read h.0)
 
-  pub default_calm : (o : Option Output) → OfSome (IsOutputOf target) o → IsCalm row (default_term o row)
+  pub default_calm : (o : Option Output) → OfSome (IsOutputOf row) o → IsCalm row (default_term o row)
   default_calm (Some o) h = output_calm o h
   default_calm None h = literal_calm row (unwrap_or (written_default row.fallback) null)
 
-  stops_calm : (ss : List (Spelled × Output)) → AreNumberStops target ss → BranchesAreCalm row (stop_terms ss)
+  stops_calm : (ss : List (Spelled × Output)) → AreNumberStops row ss → BranchesAreCalm row (stop_terms ss)
   stops_calm [] h = tt
   stops_calm (s ∷ ss) h = (output_calm s.1 h.0.1, stops_calm ss h.1)
 
   module _ (property default : Term) (h : IsCalm row property) (k : IsCalm row default) where
-    categories_calm : (ss : List (Input × Output)) → AreStops target ss → AreCalm row (category_terms property default ss)
+    categories_calm : (ss : List (Input × Output)) → AreStops row ss → AreCalm row (category_terms property default ss)
     categories_calm [] is = (k, tt)
     categories_calm (s ∷ ss) is = (
       node_calm row operators.Equal (property ∷ literal (input_data s.0) ∷ []) refl (h, (literal_calm row (input_data s.0), tt)),
       (output_calm s.1 is.0.1, categories_calm ss is.1),
     )
 
-    rule_calm : (rule : Rule) → IsRuleOf target rule → IsCalm row (rule_term property default rule)
+    rule_calm : (rule : Rule) → IsRuleOf row rule → IsCalm row (rule_term property default rule)
     rule_calm (numeric way ss) is =
         case_calm row (codes "number") property (way_term way property (stop_terms ss)) default h
         (way_calm row way property (stop_terms ss) h (stops_calm ss is.1.0)) k
     rule_calm (categorical ss) is =
         node_calm row operators.Case (category_terms property default ss) refl (categories_calm ss is.0)
 
-    rules_calm : (rs : List (Spelled × Rule)) → AreRulesOf target rs → BranchesAreCalm row (rule_terms property default rs)
+    rules_calm : (rs : List (Spelled × Rule)) → AreRulesOf row rs → BranchesAreCalm row (rule_terms property default rs)
     rules_calm [] is = tt
     rules_calm (r ∷ rs) is = (rule_calm r.1 is.0.1, rules_calm rs is.1)
 
@@ -301,7 +297,7 @@ module _ (target : Target) (tokens_read : target.takes_tokens ≡ true → targe
   AllowsFeature property = is_some property ≡ true → row.reads.feature ≡ true
 
   plain_at_root : (property : Option (List ℕ)) (default : Term) → IsCalm row default → AllowsFeature property
-      → (rule : Rule) → AllowsZoom property (plain rule) → IsRuleOf target rule
+      → (rule : Rule) → AllowsZoom property (plain rule) → IsRuleOf row rule
       → IsAtRoot row (plain_term property default rule)
   plain_at_root (Some name) default k feature rule zoom is =
       let property = property_term name in
@@ -311,7 +307,7 @@ module _ (target : Target) (tokens_read : target.takes_tokens ≡ true → targe
   plain_at_root None default k feature (categorical ss) zoom is = calm_at_root row default k
 
   pub body_at_root : (property : Option (List ℕ)) (default : Term) → IsCalm row default → AllowsFeature property
-      → (body : Body) → AllowsZoom property body → IsBodyOf target body
+      → (body : Body) → AllowsZoom property body → IsBodyOf row body
       → IsAtRoot row (body_term row default property body)
   body_at_root property default k feature (plain rule) zoom is = plain_at_root property default k feature rule zoom is
   body_at_root property default k feature (zoomed rs) zoom is =

@@ -13,7 +13,7 @@ use Rattle.interpolate_fixed.specs.Warp.{warp_of}
 use Rattle.property_tables.specs.Defaults.{fitted, written_default, default_of, fitted_default}
 use Rattle.property_tables.specs.Fitting.{fit}
 use Rattle.property_tables.specs.Rows.{RowData}
-use Rattle.property_tables.specs.Stays.{fit_again}
+use Rattle.property_tables.proofs.Stays.{fit_again}
 use Rattle.tile_reader.specs.declared.tile.Feature.{Feature}
 use Rattle.expr_syntax.specs.Operators.{ramp_want}
 use Rattle.expr_syntax.specs.Term.{Term, terms_of}
@@ -30,7 +30,6 @@ use Rattle.eval_face.specs.World.{World, feature_world}
 use Rattle.legacy_functions.specs.Function.{Spelled, Input, Output, literal as literal_output, tokens, Way, even}
 use Rattle.legacy_functions.specs.Function.{curved, stepped, Rule, numeric, categorical, Body, plain, zoomed}
 use Rattle.legacy_functions.specs.Function.{identity, Function}
-use Rattle.legacy_functions.specs.Form.{Target}
 use Rattle.legacy_functions.specs.Meaning.{output_data, default_data, result_at, step_result, ramp_result}
 use Rattle.legacy_functions.specs.Meaning.{curve_result, way_result, stop_results, numeric_result, is_input}
 use Rattle.legacy_functions.specs.Meaning.{chosen_output, category_data, numeric_at, rule_result, is_number}
@@ -144,11 +143,8 @@ module _ (zoom : ℤ) (feature : Feature) (state : List (List ℕ × Data)) (ima
 
   -- ---- of a row
 
-  module _ (target : Target) (regular : IsRegular target.row) where
-    abbrev row : RowData
-    row = target.row
-
-    output_given : (o : Output) → IsOutputOf target o → mean (output_term o) row.want [] here ≡ fit row.want (output_data feature o)
+  module _ (row : RowData) (regular : IsRegular row) where
+    output_given : (o : Output) → IsOutputOf row o → mean (output_term o) row.want [] here ≡ fit row.want (output_data feature o)
     output_given (literal_output t d) h =
         let fits = literal_fits row t d h.0 in
         fits ∙ sym (fit_again row.want (data_or_null (json_data t)) d fits)
@@ -166,14 +162,14 @@ module _ (zoom : ℤ) (feature : Feature) (state : List (List ℕ × Data)) (ima
     abbrev default_by : Option Output → Data
     default_by o = unwrap_or (option_map (output_data feature) o) (unwrap_or (default_of row) null)
 
-    default_given : (o : Option Output) → OfSome (IsOutputOf target) o
+    default_given : (o : Option Output) → OfSome (IsOutputOf row) o
         → mean (default_term o row) row.want [] here ≡ fit row.want (default_by o)
     default_given (Some o) h = output_given o h
     default_given None h = written_given (written_default row.fallback) regular.default
 
     -- ---- rules
 
-    stops_give : (ss : List (Spelled × Output)) → AreNumberStops target ss
+    stops_give : (ss : List (Spelled × Output)) → AreNumberStops row ss
         → gives row.want (stop_terms ss) ≡ stop_results row.want feature ss
     stops_give [] h = refl
     stops_give (s ∷ ss) h = λ i. output_given s.1 h.0.1 i ∷ stops_give ss h.1 i
@@ -183,7 +179,7 @@ module _ (zoom : ℤ) (feature : Feature) (state : List (List ℕ × Data)) (ima
     stops_some (s ∷ ss) h = tt
 
     numeric_given : (way : Way) (ss : List (Spelled × Output)) (x : Term) (v : ℤ) → mean x wants.Number [] here ≡ Ok (number_data v)
-        → IsRuleOf target (numeric way ss)
+        → IsRuleOf row (numeric way ss)
         → mean (way_term way x (stop_terms ss)) row.want [] here
         ≡ then_value (numeric_result row way ss feature v) (fit row.want)
     numeric_given way ss x v h is =
@@ -192,7 +188,7 @@ module _ (zoom : ℤ) (feature : Feature) (state : List (List ℕ × Data)) (ima
         way_given row.want way x v xs h (may_go row regular way is.0) (stops_some ss is.1.1.0) climbs
         ∙ (λ i. then_value (way_result way (stops_go ss i) (stops_give ss is.1.0 i) v) (fit row.want))
 
-    module _ (property : Option (List ℕ)) (o : Option Output) (fallback : OfSome (IsOutputOf target) o) where
+    module _ (property : Option (List ℕ)) (o : Option Output) (fallback : OfSome (IsOutputOf row) o) where
       abbrev default : Data
       default = default_by o
 
@@ -205,7 +201,7 @@ module _ (zoom : ℤ) (feature : Feature) (state : List (List ℕ × Data)) (ima
 
       -- by a property that is there or not
       by_number : (way : Way) (ss : List (Spelled × Output)) (found : Option Data) → found_at property ≡ found
-          → IsRuleOf target (numeric way ss)
+          → IsRuleOf row (numeric way ss)
           → where_is (is_number (unwrap_or found null))
           (mean (way_term way (named_term property) (stop_terms ss)) row.want [] here) (in_row default)
           ≡ then_value (numeric_at row way ss default feature found) (fit row.want)
@@ -237,7 +233,7 @@ module _ (zoom : ℤ) (feature : Feature) (state : List (List ℕ × Data)) (ima
           (λ j. from_two equal_of (input_data i) (property_given property wants.Any j))
           ∙ ap (λ b. Ok (boolean b)) (input_is (value_at property) i)
 
-      categories_given : (ss : List (Input × Output)) → AreStops target ss
+      categories_given : (ss : List (Input × Output)) → AreStops row ss
           → case_of (means (terms_of (category_terms (named_term property) (default_term o row) ss))) row.want [] here
           ≡ fit row.want (category_data default feature (value_at property) ss)
       categories_given [] h = default_given o fallback
@@ -245,7 +241,7 @@ module _ (zoom : ℤ) (feature : Feature) (state : List (List ℕ × Data)) (ima
           (λ i. case_from (equal_given s.0 i) (output_given s.1 h.0.1 i) (categories_given ss h.1 i))
           ∙ chosen_fit (is_input (value_at property) s.0) s.1 (chosen_output (value_at property) ss)
 
-      rule_given : (rule : Rule) → IsRuleOf target rule
+      rule_given : (rule : Rule) → IsRuleOf row rule
           → mean (rule_term (named_term property) (default_term o row) rule) row.want [] here
           ≡ rule_result row default feature (found_at property) rule
       rule_given (numeric way ss) is =
@@ -257,7 +253,7 @@ module _ (zoom : ℤ) (feature : Feature) (state : List (List ℕ × Data)) (ima
 
       -- ---- rules by zooms
 
-      rules_give : (rs : List (Spelled × Rule)) → AreRulesOf target rs
+      rules_give : (rs : List (Spelled × Rule)) → AreRulesOf row rs
           → gives row.want (rule_terms (named_term property) (default_term o row) rs)
           ≡ rule_results row default feature (found_at property) rs
       rules_give [] h = refl
@@ -270,7 +266,7 @@ module _ (zoom : ℤ) (feature : Feature) (state : List (List ℕ × Data)) (ima
       abbrev zoomed_result : List ℤ → List Evaluated → Evaluated
       zoomed_result zooms results = then_value (way_result (zoom_way row) zooms results zoom) (fit row.want)
 
-      zoomed_given : (rs : List (Spelled × Rule)) → IsBodyOf target (zoomed rs)
+      zoomed_given : (rs : List (Spelled × Rule)) → IsBodyOf row (zoomed rs)
           → mean (way_term (zoom_way row) zoom_term (rule_terms (named_term property) (default_term o row) rs)) row.want [] here
           ≡ zoomed_result (rule_zooms rs) (rule_results row default feature (found_at property) rs)
       zoomed_given rs is =
@@ -336,7 +332,7 @@ module _ (zoom : ℤ) (feature : Feature) (state : List (List ℕ × Data)) (ima
           (λ i. first_there (property_given property wants.Any i) (h.0 i)) ∙ there_or_default e (found_at property) h.1
 
     -- the default as it is, where nothing is wanted of it
-    default_as_is : (o : Option Output) (fallback : OfSome (IsOutputOf target) o) → (e : Data) × IsDefault None o fallback e
+    default_as_is : (o : Option Output) (fallback : OfSome (IsOutputOf row) o) → (e : Data) × IsDefault None o fallback e
     default_as_is (Some (literal_output t d)) fallback =
         (data_or_null (json_data t), (refl, output_given (literal_output t d) fallback))
     default_as_is (Some (tokens s)) fallback =
@@ -344,7 +340,7 @@ module _ (zoom : ℤ) (feature : Feature) (state : List (List ℕ × Data)) (ima
     default_as_is None fallback =
         (unwrap_or (written_default row.fallback) null, (refl, written_given (written_default row.fallback) regular.default))
 
-    identity_given : (property : Option (List ℕ)) (o : Option Output) (fallback : OfSome (IsOutputOf target) o) (w : Want)
+    identity_given : (property : Option (List ℕ)) (o : Option Output) (fallback : OfSome (IsOutputOf row) o) (w : Want)
         → Given property o fallback w
     identity_given property o fallback wants.Shown =
         let as_is = default_as_is o fallback in
@@ -363,8 +359,8 @@ module _ (zoom : ℤ) (feature : Feature) (state : List (List ℕ × Data)) (ima
 
     -- ---- by the form of the function
 
-    plain_given : (property : Option (List ℕ)) (o : Option Output) (fallback : OfSome (IsOutputOf target) o) (rule : Rule)
-        → IsRuleOf target rule
+    plain_given : (property : Option (List ℕ)) (o : Option Output) (fallback : OfSome (IsOutputOf row) o) (rule : Rule)
+        → IsRuleOf row rule
         → mean (plain_term property (default_term o row) rule) row.want [] here
         ≡ then_value (plain_by property row (default_by o) zoom feature rule) (fit row.want)
     plain_given (Some name) o fallback rule is =
@@ -373,13 +369,13 @@ module _ (zoom : ℤ) (feature : Feature) (state : List (List ℕ × Data)) (ima
     plain_given None o fallback (numeric way ss) is = numeric_given way ss zoom_term zoom refl is
     plain_given None o fallback (categorical ss) is = default_given o fallback
 
-    body_given : (f : Function) (body : Body) → OfSome (IsOutputOf target) f.fallback → IsBodyOf target body
+    body_given : (f : Function) (body : Body) → OfSome (IsOutputOf row) f.fallback → IsBodyOf row body
         → mean (body_term row (default_term f.fallback row) f.property body) row.want [] here
         ≡ then_value (body_result row (default_data row f feature) f zoom feature body) (fit row.want)
     body_given f (plain rule) fallback is = plain_given f.property f.fallback fallback rule is
     body_given f (zoomed rules) fallback is = zoomed_given f.property f.fallback fallback rules is
     body_given f identity fallback is = identity_given f.property f.fallback fallback row.want
 
-    pub function_given : (f : Function) → IsFunctionOf target f
+    pub function_given : (f : Function) → IsFunctionOf row f
         → mean (function_term row f) row.want [] here ≡ value_of row f zoom feature
     function_given f is = body_given f f.body is.fallback is.body

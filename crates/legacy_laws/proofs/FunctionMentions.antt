@@ -11,7 +11,6 @@ use Rattle.expr_syntax.specs.declared.expression.Operator.TheVariants as operato
 use Rattle.expr_syntax.specs.declared.world_parts.Mentions.{Mentions}
 use Rattle.expr_syntax.specs.Mentioned.{nothing, either, of_operator, count, mentions, all_mentions}
 use Rattle.expr_syntax.specs.Term.{Term, literal, node, terms_of}
-use Rattle.legacy_functions.specs.Form.{Target}
 use Rattle.legacy_functions.specs.Function.{Spelled, Input, Output, literal as literal_output, tokens, Way, even, curved, stepped}
 use Rattle.legacy_functions.specs.Function.{Rule, numeric, categorical, Body, plain, zoomed, identity}
 use Rattle.legacy_functions.specs.Meaning.{zoom_way}
@@ -216,19 +215,19 @@ module _ (default : Term) (k : IsStill default) where
   identity_still property h (wants.Enum c) = case_still (form_name (wants.Enum c)) property property default h h k
   identity_still property h (wants.EnumList c) = case_still (form_name (wants.EnumList c)) property property default h h k
 
-  module _ (target : Target) (name : List ℕ) where
+  module _ (row : RowData) (name : List ℕ) where
     abbrev property : Term
     property = property_term name
 
-    rule_asks : (rule : Rule) → IsRuleOf target rule → asks_feature (rule_term property default rule) ≡ true
+    rule_asks : (rule : Rule) → IsRuleOf row rule → asks_feature (rule_term property default rule) ≡ true
     rule_asks (numeric way ss) is = refl
     rule_asks (categorical []) is = absurd is.1
     rule_asks (categorical (s ∷ ss)) is = refl
 
-    rule_mentions : (rule : Rule) → IsRuleOf target rule → mentions (rule_term property default rule) ≡ seen false true
+    rule_mentions : (rule : Rule) → IsRuleOf row rule → mentions (rule_term property default rule) ≡ seen false true
     rule_mentions rule is = rule_still property refl rule ∙ ap (seen false) (rule_asks rule is)
 
-    rules_mention : (way : Way) (r : Spelled × Rule) (rs : List (Spelled × Rule)) → AreRulesOf target (r ∷ rs)
+    rules_mention : (way : Way) (r : Spelled × Rule) (rs : List (Spelled × Rule)) → AreRulesOf row (r ∷ rs)
         → mentions (way_term way zoom_term (rule_terms property default (r ∷ rs))) ≡ seen (asks_input way (r ∷ rs)) true
     rules_mention way r rs is =
         let later = some_feature (branch_terms (rule_terms property default rs)) in
@@ -265,13 +264,13 @@ module _ (default : Term) (k : IsStill default) where
   abbrev mentioned : RowData → Option (List ℕ) → Body → Mentions
   mentioned row property body = seen (asks_zoom row property body) (is_some property || outputs_ask_feature body)
 
-  pub body_mentions : (target : Target) (property : Option (List ℕ)) (body : Body) → IsBodyOf target body → GoesBy property body
-      → mentions (body_term target.row default property body) ≡ mentioned target.row property body
-  body_mentions target (Some name) (plain rule) is goes = rule_mentions target name rule is
-  body_mentions target (Some name) (zoomed []) is goes = absurd is.1.0
-  body_mentions target (Some name) (zoomed (r ∷ rs)) is goes = rules_mention target name (zoom_way target.row) r rs is.0
-  body_mentions target (Some name) identity is goes = identity_mentions target name target.row.want
-  body_mentions target None (plain (numeric way ss)) is goes = over_zoom way ss
-  body_mentions target None (plain (categorical ss)) is goes = absurd goes
-  body_mentions target None (zoomed rs) is goes = absurd goes
-  body_mentions target None identity is goes = absurd goes
+  pub body_mentions : (row : RowData) (property : Option (List ℕ)) (body : Body) → IsBodyOf row body → GoesBy property body
+      → mentions (body_term row default property body) ≡ mentioned row property body
+  body_mentions row (Some name) (plain rule) is goes = rule_mentions row name rule is
+  body_mentions row (Some name) (zoomed []) is goes = absurd is.1.0
+  body_mentions row (Some name) (zoomed (r ∷ rs)) is goes = rules_mention row name (zoom_way row) r rs is.0
+  body_mentions row (Some name) identity is goes = identity_mentions row name row.want
+  body_mentions row None (plain (numeric way ss)) is goes = over_zoom way ss
+  body_mentions row None (plain (categorical ss)) is goes = absurd goes
+  body_mentions row None (zoomed rs) is goes = absurd goes
+  body_mentions row None identity is goes = absurd goes

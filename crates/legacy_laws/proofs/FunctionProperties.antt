@@ -3,10 +3,11 @@ use Rattle.std.proofs.Common.{◌≡◌, List, refl, ap, sym, subst, arith, true
 use Rattle.std.specs.Prelude.{ℕ, Bool, Option, Some, None, is_some, option_map, if◌then◌else◌}
 use Rattle.decimal_json.specs.Tree as json
 use Rattle.decimal_json.specs.Tree.{Tree, Fields}
+use Rattle.property_tables.specs.Rows.{RowData}
 use Rattle.legacy_functions.specs.Function.{Way, Rule, numeric, categorical, Body, plain, zoomed, identity, Function}
 use Rattle.legacy_functions.specs.Form.{some_of, without_repeated, number_stops, never_descend, rule_form, plain_form}
 use Rattle.legacy_functions.specs.Form.{Stop, PlacedStop, plain_stops, body_of, stops_form, stops_body, kind_body, is_categories}
-use Rattle.legacy_functions.specs.Form.{Target, Members, members_form, way_by, inside, function_form, form}
+use Rattle.legacy_functions.specs.Form.{Members, members_form, way_by, inside, function_form, form}
 use Rattle.legacy_functions.proofs.SoundRules.{OfSome, of_then, of_map, of_where, of_any}
 
 abbrev pub IsOverNumbers : Body → Type 0
@@ -58,20 +59,20 @@ with_property : (property : Option (List ℕ)) (found : Option Body) → is_some
 with_property (Some name) found h = of_any found
 with_property None found h = absurd (cc)
 
-module _ (target : Target) where
-  stops_go : (ms : Members) → HasWay (way_by ms.kind ms.base) → OfSome (GoesBy ms.property) (stops_body target ms)
+module _ (row : RowData) where
+  stops_go : (ms : Members) → HasWay (way_by ms.kind ms.base) → OfSome (GoesBy ms.property) (stops_body row ms)
   stops_go ms h =
-      let placed = stops_form target (is_categories ms.kind) in
+      let placed = stops_form row (is_categories ms.kind) in
       of_then (λ t. Unit {0}) (GoesBy ms.property) ms.stops _ (of_any ms.stops) (λ t u.
       of_then (λ ss. Unit {0}) (GoesBy ms.property) (placed t) _ (of_any (placed t)) (λ ss v.
       body_goes (way_by ms.kind ms.base) ms.property ss h))
 
   abbrev read_body : Members → Option Body
-  read_body ms = kind_body ms.kind target ms
+  read_body ms = kind_body ms.kind row ms
 
   -- without a property there are no categories, and no property that is the value itself
   no_property : (ms : Members) → is_some ms.property ≡ false
-      → (read_body ms ≡ None) ⊎ ((read_body ms ≡ stops_body target ms) × (is_some (way_by ms.kind ms.base) ≡ true))
+      → (read_body ms ≡ None) ⊎ ((read_body ms ≡ stops_body row ms) × (is_some (way_by ms.kind ms.base) ≡ true))
   no_property ms h = grind (arith, h)
 
   members_go : (ms : Members) (property : Option (List ℕ)) → ms.property ≡ property → OfSome (GoesBy ms.property) (read_body ms)
@@ -93,13 +94,13 @@ module _ (target : Target) where
       let f : Function = record { property = ms.property; fallback = ms.fallback; body = body } in
       if_inside _ f h
 
-  function_goes : (fs : Fields) → OfSome (OfSome FunctionGoes) (function_form target fs)
+  function_goes : (fs : Fields) → OfSome (OfSome FunctionGoes) (function_form row fs)
   function_goes fs =
-      of_then (λ ms. Unit {0}) (OfSome FunctionGoes) (members_form target fs) _ (of_any (members_form target fs)) (λ ms u.
-      of_map (GoesBy ms.property) (OfSome FunctionGoes) (inside ms) (kind_body ms.kind target ms)
+      of_then (λ ms. Unit {0}) (OfSome FunctionGoes) (members_form row fs) _ (of_any (members_form row fs)) (λ ms u.
+      of_map (GoesBy ms.property) (OfSome FunctionGoes) (inside ms) (kind_body ms.kind row ms)
       (members_go ms ms.property refl) (λ body h. inside_goes ms body h))
 
-  form_goes : (t : Tree) → OfSome (OfSome FunctionGoes) (form target t)
+  form_goes : (t : Tree) → OfSome (OfSome FunctionGoes) (form row t)
   form_goes json.null = tt
   form_goes (json.boolean b) = tt
   form_goes (json.number n) = tt
@@ -107,5 +108,5 @@ module _ (target : Target) where
   form_goes (json.list ts) = tt
   form_goes (json.object fs) = function_goes fs
 
-  pub read_goes : (t : Tree) (f : Function) → form target t ≡ Some (Some f) → GoesBy f.property f.body
+  pub read_goes : (t : Tree) (f : Function) → form row t ≡ Some (Some f) → GoesBy f.property f.body
   read_goes t f is = subst (OfSome (OfSome FunctionGoes)) is (form_goes t)

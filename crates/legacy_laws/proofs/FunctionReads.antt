@@ -27,7 +27,6 @@ use Rattle.expr_syntax.specs.Term.{Term, literal}
 use Rattle.legacy_functions.specs.Function.{Spelled, Input, flag, number, word, Output, literal as literal_output}
 use Rattle.legacy_functions.specs.Function.{tokens, Way, even, curved, stepped, Rule, numeric, categorical, Body}
 use Rattle.legacy_functions.specs.Function.{plain, zoomed, identity, Function}
-use Rattle.legacy_functions.specs.Form.{Target}
 use Rattle.legacy_functions.specs.Meaning.{zoom_way}
 use Rattle.legacy_functions.specs.Tokens.{call}
 use Rattle.legacy_functions.specs.ToExpression.{as_literal, output_expression, written_tree, default_by}
@@ -97,15 +96,15 @@ list_output : (row : RowData) (ts : Trees) (r : Result Data NumFault) (d : Data)
 list_output row ts (Ok x) d is h = read_list ts x is
 list_output row ts (Err past) d is h = absurd (cc)
 
-read_output : (target : Target) → is_property_want target.row.want ≡ true → (o : Output) → IsOutputOf target o
+read_output : (row : RowData) → is_property_want row.want ≡ true → (o : Output) → IsOutputOf row o
     → IsReadAs (output_expression o) (output_term o)
-read_output target w (literal_output json.null d) h = read_null
-read_output target w (literal_output (json.boolean b) d) h = read_flag b
-read_output target w (literal_output (json.number n) d) h = number_output target.row n (read_text n) d refl h.0
-read_output target w (literal_output (json.text s) d) h = read_text_as s
-read_output target w (literal_output (json.list ts) d) h = list_output target.row ts (json_data (json.list ts)) d refl h.0
-read_output target w (literal_output (json.object fs) d) h = absurd (no_object target.row (fields_data fs) d w h.0)
-read_output target w (tokens s) h = read_tokens s
+read_output row w (literal_output json.null d) h = read_null
+read_output row w (literal_output (json.boolean b) d) h = read_flag b
+read_output row w (literal_output (json.number n) d) h = number_output row n (read_text n) d refl h.0
+read_output row w (literal_output (json.text s) d) h = read_text_as s
+read_output row w (literal_output (json.list ts) d) h = list_output row ts (json_data (json.list ts)) d refl h.0
+read_output row w (literal_output (json.object fs) d) h = absurd (no_object row (fields_data fs) d w h.0)
+read_output row w (tokens s) h = read_tokens s
 
 -- ---- the default of a row
 
@@ -155,17 +154,14 @@ read_input (word s) h = read_text_as s
 
 -- ---- of a row
 
-module _ (target : Target) (regular : IsRegular target.row) where
-  abbrev row : RowData
-  row = target.row
-
-  read_default : (o : Option Output) → OfSome (IsOutputOf target) o → IsReadAs (default_by o row) (default_term o row)
-  read_default (Some o) h = read_output target regular.want o h
+module _ (row : RowData) (regular : IsRegular row) where
+  read_default : (o : Option Output) → OfSome (IsOutputOf row) o → IsReadAs (default_by o row) (default_term o row)
+  read_default (Some o) h = read_output row regular.want o h
   read_default None h = read_written row.fallback regular.amount
 
-  read_stops : (ss : List (Spelled × Output)) → AreNumberStops target ss → AreBranches (stop_branches ss) (stop_terms ss)
+  read_stops : (ss : List (Spelled × Output)) → AreNumberStops row ss → AreBranches (stop_branches ss) (stop_terms ss)
   read_stops [] h = tt
-  read_stops (s ∷ ss) h = ((h.0.0, read_output target regular.want s.1 h.0.1), read_stops ss h.1)
+  read_stops (s ∷ ss) h = ((h.0.0, read_output row regular.want s.1 h.0.1), read_stops ss h.1)
 
   stops_some : (ss : List (Spelled × Output)) → HasSome ss → 0 < length (stop_branches ss)
   stops_some [] h = absurd h
@@ -177,19 +173,19 @@ module _ (target : Target) (regular : IsRegular target.row) where
   way_is_read stepped h = tt
 
   read_numeric : (way : Way) (ss : List (Spelled × Output)) (a : Tree) (x : Term) → IsReadAs a x
-      → IsRuleOf target (numeric way ss) → IsReadAs (way_expression way a (stop_branches ss)) (way_term way x (stop_terms ss))
+      → IsRuleOf row (numeric way ss) → IsReadAs (way_expression way a (stop_branches ss)) (way_term way x (stop_terms ss))
   read_numeric way ss a x h is =
       let climbs : Climbs None (branch_inputs (stop_terms ss)) = subst (λ zs. Climbs None zs) (sym (stops_go ss)) is.1.1.1 in
       read_way way a x (stop_branches ss) (stop_terms ss) (way_is_read way is.0) h (read_stops ss is.1.0)
       (stops_some ss is.1.1.0) climbs
 
   module _ (property default : Tree) (x y : Term) (h : IsReadAs property x) (k : IsReadAs default y) where
-    read_categories : (ss : List (Input × Output)) → AreStops target ss
+    read_categories : (ss : List (Input × Output)) → AreStops row ss
         → AreReadAs (category_elements property ss ++ default ∷ []) (category_terms x y ss)
     read_categories [] is = (k, tt)
     read_categories (s ∷ ss) is = (
       read_equal property (input_tree s.0) x (literal (input_data s.0)) h (read_input s.0 is.0.0),
-      (read_output target regular.want s.1 is.0.1, read_categories ss is.1),
+      (read_output row regular.want s.1 is.0.1, read_categories ss is.1),
     )
 
     category_count : (ss : List (Input × Output))
@@ -211,7 +207,7 @@ module _ (target : Target) (regular : IsRegular target.row) where
         let odd : nat_eq (n % 2) 1 ≡ true = eq-eqb (n % 2) 1 (omega (arith, count)) in
         λ i. many i && odd i
 
-    read_rule : (rule : Rule) → IsRuleOf target rule → IsReadAs (rule_expression property default rule) (rule_term x y rule)
+    read_rule : (rule : Rule) → IsRuleOf row rule → IsReadAs (rule_expression property default rule) (rule_term x y rule)
     read_rule (numeric way ss) is =
         read_kind_case (codes "number") property (way_expression way property (stop_branches ss)) default x
         (way_term way x (stop_terms ss)) y h (read_numeric way ss property x h is) k
@@ -219,7 +215,7 @@ module _ (target : Target) (regular : IsRegular target.row) where
         read_case (category_elements property ss ++ default ∷ []) (category_terms x y ss) (read_categories ss is.0)
         (enough ss is.1)
 
-    read_rules : (rs : List (Spelled × Rule)) → AreRulesOf target rs
+    read_rules : (rs : List (Spelled × Rule)) → AreRulesOf row rs
         → AreBranches (rule_branches property default rs) (rule_terms x y rs)
     read_rules [] is = tt
     read_rules (r ∷ rs) is = ((is.0.0, read_rule r.1 is.0.1), read_rules rs is.1)
@@ -232,7 +228,7 @@ module _ (target : Target) (regular : IsRegular target.row) where
     zoom_way_is_read true = tt
     zoom_way_is_read false = tt
 
-    read_zoomed : (rs : List (Spelled × Rule)) → IsBodyOf target (zoomed rs)
+    read_zoomed : (rs : List (Spelled × Rule)) → IsBodyOf row (zoomed rs)
         → IsReadAs (way_expression (zoom_way row) zoom_expression (rule_branches property default rs))
         (way_term (zoom_way row) zoom_term (rule_terms x y rs))
     read_zoomed rs is =
@@ -261,14 +257,14 @@ module _ (target : Target) (regular : IsRegular target.row) where
   read_named (Some name) = read_property name
   read_named None = read_null
 
-  read_plain : (property : Option (List ℕ)) (default : Tree) (y : Term) → IsReadAs default y → (rule : Rule) → IsRuleOf target rule
+  read_plain : (property : Option (List ℕ)) (default : Tree) (y : Term) → IsReadAs default y → (rule : Rule) → IsRuleOf row rule
       → IsReadAs (plain_expression property default rule) (plain_term property y rule)
   read_plain (Some name) default y k rule is =
       read_rule (named_property (Some name)) default (named_term (Some name)) y (read_property name) k rule is
   read_plain None default y k (numeric way ss) is = read_numeric way ss zoom_expression zoom_term read_zoom is
   read_plain None default y k (categorical ss) is = k
 
-  read_body : (property : Option (List ℕ)) (default : Tree) (y : Term) → IsReadAs default y → (body : Body) → IsBodyOf target body
+  read_body : (property : Option (List ℕ)) (default : Tree) (y : Term) → IsReadAs default y → (body : Body) → IsBodyOf row body
       → IsReadAs (body_expression row default property body) (body_term row y property body)
   read_body property default y k (plain rule) is = read_plain property default y k rule is
   read_body property default y k (zoomed rs) is =
@@ -276,7 +272,7 @@ module _ (target : Target) (regular : IsRegular target.row) where
   read_body property default y k identity is =
       read_identity (named_property property) default (named_term property) y (read_named property) k row.want
 
-  pub read_function : (f : Function) → IsFunctionOf target f → IsReadAs (function_expression row f) (function_term row f)
+  pub read_function : (f : Function) → IsFunctionOf row f → IsReadAs (function_expression row f) (function_term row f)
   read_function f is =
       read_body f.property (default_by f.fallback row) (default_term f.fallback row) (read_default f.fallback is.fallback)
       f.body is.body

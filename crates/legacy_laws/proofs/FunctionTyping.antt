@@ -22,7 +22,6 @@ use Rattle.expr_types.specs.Fits.{fits}
 use Rattle.expr_types.specs.Typing.{Scope, looked_at, argument_want, and_found}
 use Rattle.expr_types.specs.Typing.{founds_of, typed, typings}
 use Rattle.expr_types.specs.Typing.{literals}
-use Rattle.legacy_functions.specs.Form.{Target}
 use Rattle.legacy_functions.specs.Function.{Spelled, Input, Output, literal as literal_output}
 use Rattle.legacy_functions.specs.Function.{tokens, Way, Rule, numeric, categorical, Body}
 use Rattle.legacy_functions.specs.Function.{plain, zoomed, identity}
@@ -45,11 +44,8 @@ use Rattle.legacy_laws.proofs.NodeTyping.{wanted_is_ok, way_typed, zoom_typed}
 
 -- ---- of a row
 
-module _ (target : Target) (regular : IsRegular target.row) where
-  abbrev row : RowData
-  row = target.row
-
-  output_typed : (o : Output) → IsOutputOf target o → IsTypedUnder row.want (output_term o)
+module _ (row : RowData) (regular : IsRegular row) where
+  output_typed : (o : Output) → IsOutputOf row o → IsTypedUnder row.want (output_term o)
   output_typed (literal_output t d) h =
       literal_typed row.want (data_or_null (json_data t)) d regular.want (literal_fits row t d h.0)
   output_typed (tokens s) h = tokens_typed row.want s (token_may_fit s h.1.0 h.1.1)
@@ -57,7 +53,7 @@ module _ (target : Target) (regular : IsRegular target.row) where
       token_may_fit : (s : List ℕ) (d : Data) → literal_of (json.text s) row ≡ Some d → MayFit (fits kinds.Text row.want)
       token_may_fit s d h = text_may_fit row.want s d (literal_fits row (json.text s) d h)
 
-  default_typed : (o : Option Output) → OfSome (IsOutputOf target) o → IsTypedUnder row.want (default_term o row)
+  default_typed : (o : Option Output) → OfSome (IsOutputOf row) o → IsTypedUnder row.want (default_term o row)
   default_typed (Some o) h = output_typed o h
   default_typed None h = written_typed (written_default row.fallback) regular.default
     where
@@ -70,7 +66,7 @@ module _ (target : Target) (regular : IsRegular target.row) where
   default_any_typed (Some (tokens s)) = tokens_typed wants.Any s tt
   default_any_typed None = any_typed (unwrap_or (written_default row.fallback) null)
 
-  stops_typed : (ss : List (Spelled × Output)) → AreNumberStops target ss → AreTypedUnder row.want (stop_terms ss)
+  stops_typed : (ss : List (Spelled × Output)) → AreNumberStops row ss → AreTypedUnder row.want (stop_terms ss)
   stops_typed [] h = tt
   stops_typed (s ∷ ss) h = (output_typed s.1 h.0.1, stops_typed ss h.1)
 
@@ -79,11 +75,11 @@ module _ (target : Target) (regular : IsRegular target.row) where
   stops_some (s ∷ ss) h = tt
 
   pub numeric_typed : (way : Way) (ss : List (Spelled × Output)) (x : Term) → IsTypedUnder wants.Number x
-      → IsRuleOf target (numeric way ss) → IsTypedUnder row.want (way_term way x (stop_terms ss))
+      → IsRuleOf row (numeric way ss) → IsTypedUnder row.want (way_term way x (stop_terms ss))
   numeric_typed way ss x h is =
       way_typed row.want way x (stop_terms ss) (may_go row regular way is.0) h (stops_typed ss is.1.0) (stops_some ss is.1.1.0)
 
-  module _ (property : Option (List ℕ)) (o : Option Output) (fallback : OfSome (IsOutputOf target) o) where
+  module _ (property : Option (List ℕ)) (o : Option Output) (fallback : OfSome (IsOutputOf row) o) where
     abbrev default : Term
     default = default_term o row
 
@@ -115,7 +111,7 @@ module _ (target : Target) (regular : IsRegular target.row) where
       abbrev founds_from : ℕ → ℕ → List Term → Founds
       founds_from m k xs = founds_of operators.Case m k (typings (terms_of xs)) row.want scope path
 
-      categories_are_ok : (ss : List (Input × Output)) → AreStops target ss → (m k : ℕ) → k % 2 ≡ 0
+      categories_are_ok : (ss : List (Input × Output)) → AreStops row ss → (m k : ℕ) → k % 2 ≡ 0
           → k + (length ss + length ss + 1) ≡ m
           → IsOk (founds_from m k (all_terms ss))
       categories_are_ok [] h m k e count =
@@ -136,7 +132,7 @@ module _ (target : Target) (regular : IsRegular target.row) where
     category_count [] = refl
     category_count (s ∷ ss) = let n = category_count ss in omega (arith, n)
 
-    pub rule_typed : (rule : Rule) → IsRuleOf target rule → IsTypedUnder row.want (rule_term (named_term property) default rule)
+    pub rule_typed : (rule : Rule) → IsRuleOf row rule → IsTypedUnder row.want (rule_term (named_term property) default rule)
     rule_typed (numeric way ss) is =
         case_typed property (codes "number") row.want (way_term way (named_term property) (stop_terms ss)) default
         (numeric_typed way ss (named_term property) (property_typed property wants.Number) is) (default_typed o fallback)
@@ -146,7 +142,7 @@ module _ (target : Target) (regular : IsRegular target.row) where
         case_is_ok (literals ts) (founds_of operators.Case m 0 (typings ts) row.want scope path) row.want path
         (categories_are_ok scope path ss is.0 m 0 refl (category_count ss))
 
-    pub rules_typed : (rs : List (Spelled × Rule)) → AreRulesOf target rs
+    pub rules_typed : (rs : List (Spelled × Rule)) → AreRulesOf row rs
         → AreTypedUnder row.want (rule_terms (named_term property) default rs)
     rules_typed [] is = tt
     rules_typed (r ∷ rs) is = (rule_typed r.1 is.0.1, rules_typed rs is.1)
@@ -187,14 +183,14 @@ module _ (target : Target) (regular : IsRegular target.row) where
 
   -- ---- by the form of the function
 
-  plain_typed : (property : Option (List ℕ)) (o : Option Output) → OfSome (IsOutputOf target) o → (rule : Rule)
-      → IsRuleOf target rule → IsTypedUnder row.want (plain_term property (default_term o row) rule)
+  plain_typed : (property : Option (List ℕ)) (o : Option Output) → OfSome (IsOutputOf row) o → (rule : Rule)
+      → IsRuleOf row rule → IsTypedUnder row.want (plain_term property (default_term o row) rule)
   plain_typed (Some name) o fallback rule is = rule_typed (Some name) o fallback rule is
   plain_typed None o fallback (numeric way ss) is = numeric_typed way ss zoom_term zoom_typed is
   plain_typed None o fallback (categorical ss) is = default_typed o fallback
 
-  pub body_typed : (property : Option (List ℕ)) (o : Option Output) → OfSome (IsOutputOf target) o → (body : Body)
-      → IsBodyOf target body → IsTypedUnder row.want (body_term row (default_term o row) property body)
+  pub body_typed : (property : Option (List ℕ)) (o : Option Output) → OfSome (IsOutputOf row) o → (body : Body)
+      → IsBodyOf row body → IsTypedUnder row.want (body_term row (default_term o row) property body)
   body_typed property o fallback (plain rule) is = plain_typed property o fallback rule is
   body_typed property o fallback (zoomed rs) is =
       way_typed row.want (zoom_way row) zoom_term (rule_terms (named_term property) (default_term o row) rs)

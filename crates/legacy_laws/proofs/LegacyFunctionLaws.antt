@@ -14,7 +14,7 @@ use Rattle.legacy_functions.specs.Meaning.{value_of}
 use Rattle.legacy_functions.specs.ToExpression.{function_expression}
 use Rattle.legacy_functions.specs.Tokens.{has_tokens, token_expression}
 use Rattle.legacy_functions.proofs.SoundFunctions.{read_is_sound}
-use Rattle.legacy_laws.specs.LegacyFunctionLaw.{GivesAlways, ExpressionsMeanTheirFunctions, function_mentions, target_of}
+use Rattle.legacy_laws.specs.LegacyFunctionLaw.{GivesAlways, ExpressionsMeanTheirFunctions, function_mentions}
 use Rattle.legacy_laws.specs.LegacyFunctionLaw.{MigratedFunctionsAreTyped, MigratedTokenTextsAreTyped}
 use Rattle.legacy_laws.specs.LegacyFunctionLaw.{MigratedFunctionsMentionTheSame, MigratedTokenTextsMentionTheFeature}
 use Rattle.legacy_laws.proofs.FunctionTerms.{default_term, function_term, token_term}
@@ -30,13 +30,12 @@ use Rattle.legacy_laws.proofs.FunctionMentions.{default_still, tokens_mention, b
 use Rattle.legacy_laws.proofs.FunctionInputs.{IsAtRoot, default_calm, body_at_root, tokens_calm, calm_at_root}
 
 pub expressions_mean : ExpressionsMeanTheirFunctions
-expressions_mean target t f of_table read =
-    let row = target.row in
+expressions_mean row t f of_table read =
     let regular = table_rows row of_table in
-    let sound = read_is_sound target t f read in
+    let sound = read_is_sound row t f read in
     let says : GivesAlways (function_term row f) row.want (value_of row f) =
-    λ zoom feature state images scripts. function_given zoom feature state images scripts target regular f sound in
-    (function_term row f, reads_always (function_expression row f) (function_term row f) (read_function target regular f sound), says)
+    λ zoom feature state images scripts. function_given zoom feature state images scripts row regular f sound in
+    (function_term row f, reads_always (function_expression row f) (function_term row f) (read_function row regular f sound), says)
 
 -- ---- types
 
@@ -55,16 +54,15 @@ checked_at_root row e h k =
 
 pub migrated_functions : MigratedFunctionsAreTyped
 migrated_functions row t f of_table read allowed_on e values is =
-    let target = target_of row in
     let regular = table_rows row of_table in
-    let sound = read_is_sound target t f read in
+    let sound = read_is_sound row t f read in
     let x = function_term row f in
-    let reads = reads_always (function_expression row f) x (read_function target regular f sound) values in
+    let reads = reads_always (function_expression row f) x (read_function row regular f sound) values in
     let same_reading : Ok (Some x) ≡ Ok (Some e) = sym reads ∙ is in
     let same : x ≡ e = cc in
-    let well = body_typed target regular f.property f.fallback sound.fallback f.body sound.body in
-    let default = default_calm target regular.tokens f.fallback sound.fallback in
-    let rooted = body_at_root target regular.tokens f.property (default_term f.fallback row) default allowed_on.feature f.body
+    let well = body_typed row regular f.property f.fallback sound.fallback f.body sound.body in
+    let default = default_calm row regular.tokens f.fallback sound.fallback in
+    let rooted = body_at_root row regular.tokens f.property (default_term f.fallback row) default allowed_on.feature f.body
     allowed_on.zoom sound.body in
     subst (IsChecked row) same (checked_at_root row x well rooted)
 
@@ -82,16 +80,15 @@ migrated_token_texts row s of_table takes e values is =
 -- ---- what is read of the world
 
 pub functions_mention : MigratedFunctionsMentionTheSame
-functions_mention target t f of_table read e values is =
-    let row = target.row in
-    let sound = read_is_sound target t f read in
+functions_mention row t f of_table read e values is =
+    let sound = read_is_sound row t f read in
     let x = function_term row f in
-    let reads = reads_always (function_expression row f) x (read_function target (table_rows row of_table) f sound) values in
+    let reads = reads_always (function_expression row f) x (read_function row (table_rows row of_table) f sound) values in
     let same_reading : Ok (Some x) ≡ Ok (Some e) = sym reads ∙ is in
     let same : x ≡ e = cc in
     let default = default_still f.fallback row in
     subst (λ y. mentions y ≡ function_mentions row f) same
-    (body_mentions (default_term f.fallback row) default target f.property f.body sound.body (read_goes target t f read))
+    (body_mentions (default_term f.fallback row) default row f.property f.body sound.body (read_goes row t f read))
 
 pub token_texts_mention : MigratedTokenTextsMentionTheFeature
 token_texts_mention s e values is =

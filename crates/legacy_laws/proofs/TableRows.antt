@@ -13,7 +13,7 @@ use Rattle.prop_values.specs.declared.kinds.Want.TheVariants as wants
 use Rattle.property_tables.proofs.Tables.{table_keeps_rules}
 use Rattle.property_tables.specs.Defaults.{written_default, fitted, fitted_default, default_of}
 use Rattle.property_tables.specs.Fitting.{fit}
-use Rattle.property_tables.specs.Rows.{RowData, Default, amount, rows_of, takes_tokens, row_named, at_place, is_at}
+use Rattle.property_tables.specs.Rows.{RowData, Default, amount, rows_of, row_named, at_place, is_at}
 use Rattle.property_tables.specs.Rows.{background_rows, fill_rows, line_rows, symbol_rows, circle_rows, heatmap_rows}
 use Rattle.property_tables.specs.Rows.{fill_extrusion_rows, raster_rows, hillshade_rows, color_relief_rows}
 use Rattle.property_tables.specs.TableLaws.{MeetsAs, MeetsItself}
@@ -58,8 +58,8 @@ pub record IsRegular (row : RowData) : Type 0 where
   pub ramps : row.reads.ramps ≡ true → is_ramp_want row.want ≡ true
   pub want : is_property_want row.want ≡ true
   pub amount : is_within_bound row.fallback ≡ true
-  pub tokens : takes_tokens row.name ≡ true → row.reads.feature ≡ true
-  pub texts : takes_tokens row.name ≡ true → is_text_want row.want ≡ true
+  pub tokens : row.takes_tokens ≡ true → row.reads.feature ≡ true
+  pub texts : row.takes_tokens ≡ true → is_text_want row.want ≡ true
 
 -- ---- defaults fit, by the law of the table
 
@@ -76,8 +76,8 @@ fits_where row None is h = tt
 
 abbrev is_regular : RowData → Bool
 is_regular row =
-    ((not row.reads.ramps || is_ramp_want row.want) && (not (takes_tokens row.name) || row.reads.feature))
-    && (is_property_want row.want && (is_within_bound row.fallback && (not (takes_tokens row.name) || is_text_want row.want)))
+    ((not row.reads.ramps || is_ramp_want row.want) && (not row.takes_tokens || row.reads.feature))
+    && (is_property_want row.want && (is_within_bound row.fallback && (not row.takes_tokens || is_text_want row.want)))
 
 raster_regular : list_all is_regular raster_rows ≡ true
 unfolding raster_rows
@@ -122,10 +122,10 @@ IsTested row = (is_regular row ≡ true) × MeetsItself row
 regular_where : (row : RowData) → IsTested row → IsRegular row
 regular_where row h =
     let a = not row.reads.ramps || is_ramp_want row.want in
-    let b = not (takes_tokens row.name) || row.reads.feature in
+    let b = not row.takes_tokens || row.reads.feature in
     let c = is_property_want row.want in
     let d = is_within_bound row.fallback in
-    let e = not (takes_tokens row.name) || is_text_want row.want in
+    let e = not row.takes_tokens || is_text_want row.want in
     let rest = d && e in
     let first = left (a && b) (c && rest) h.0 in
     let second = right (a && b) (c && rest) h.0 in
@@ -135,8 +135,8 @@ regular_where row h =
       ramps = implied row.reads.ramps (is_ramp_want row.want) (left a b first);
       want = left c rest second;
       amount = left d e third;
-      tokens = implied (takes_tokens row.name) row.reads.feature (right a b first);
-      texts = implied (takes_tokens row.name) (is_text_want row.want) (right d e third);
+      tokens = implied row.takes_tokens row.reads.feature (right a b first);
+      texts = implied row.takes_tokens (is_text_want row.want) (right d e third);
     }
 
 -- ---- rows that are found

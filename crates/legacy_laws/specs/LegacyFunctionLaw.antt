@@ -6,7 +6,7 @@ use Rattle.decimal_json.specs.Tree.{Tree}
 use Rattle.prop_values.specs.Data.{Data, text}
 use Rattle.prop_values.specs.declared.kinds.Want.{Want}
 use Rattle.property_tables.specs.Fitting.{fit}
-use Rattle.property_tables.specs.Rows.{RowData, row_of, takes_tokens}
+use Rattle.property_tables.specs.Rows.{RowData, row_of}
 use Rattle.property_tables.specs.declared.layer_type.LayerType.{LayerType}
 use Rattle.property_tables.specs.declared.property_row.Place.{Place}
 use Rattle.tile_reader.specs.declared.tile.Feature.{Feature}
@@ -23,7 +23,6 @@ use Rattle.legacy_functions.specs.Function.{Spelled, Output, literal, tokens, Wa
 use Rattle.legacy_functions.specs.Function.{Rule, numeric, categorical, Body, plain, zoomed, identity}
 use Rattle.legacy_functions.specs.Function.{Function, has_zooms}
 use Rattle.legacy_functions.specs.Form as legacy
-use Rattle.legacy_functions.specs.Form.{Target}
 use Rattle.legacy_functions.specs.Meaning.{value_of, zoom_way}
 use Rattle.legacy_functions.specs.ToExpression.{function_expression}
 use Rattle.legacy_functions.specs.Tokens.{has_tokens, token_text, token_expression}
@@ -49,10 +48,10 @@ ReadsAlways t e = (values : List (List ℕ × Data)) → reading_with t values �
 -- function, or its fault.
 abbrev pub ExpressionsMeanTheirFunctions : Type 0
 ExpressionsMeanTheirFunctions =
-    (target : Target) (t : Tree) (f : Function) → IsTableRow target.row →
-    legacy.form target t ≡ Some (Some f) →
-    (e : Term) × ReadsAlways (function_expression target.row f) e
-    × GivesAlways e target.row.want (value_of target.row f)
+    (row : RowData) (t : Tree) (f : Function) → IsTableRow row →
+    legacy.form row t ≡ Some (Some f) →
+    (e : Term) × ReadsAlways (function_expression row f) e
+    × GivesAlways e row.want (value_of row f)
 
 -- The expression of a token text gives under every want the text, fitted to the want.
 abbrev pub TokenExpressionsMeanTheirTexts : Type 0
@@ -62,10 +61,6 @@ TokenExpressionsMeanTheirTexts =
     × ((want : Want) → GivesAlways e want (λ zoom feature. fit want (text (token_text s feature))))
 
 -- ---- types
-
--- what reading sees of a row: two rows take token texts
-abbrev pub target_of : RowData → Target
-target_of row = record { row = row; takes_tokens = takes_tokens row.name }
 
 -- The row lets its values read what the function goes by: the zoom, and the feature where it has a property.
 pub record IsAllowedOn (row : RowData) (f : Function) : Type 0 where
@@ -77,7 +72,7 @@ pub record IsAllowedOn (row : RowData) (f : Function) : Type 0 where
 abbrev pub MigratedFunctionsAreTyped : Type 0
 MigratedFunctionsAreTyped =
     (row : RowData) (t : Tree) (f : Function) → IsTableRow row →
-    legacy.form (target_of row) t ≡ Some (Some f) →
+    legacy.form row t ≡ Some (Some f) →
     IsAllowedOn row f → (e : Term) (values : List (List ℕ × Data)) →
     reading_with (function_expression row f) values ≡ Ok (Some e) →
     (found : Found) × (checked e row.want (Some row) ≡ Ok found)
@@ -85,7 +80,7 @@ MigratedFunctionsAreTyped =
 -- The expression of a token text is well typed as a value of each row that takes token texts.
 abbrev pub MigratedTokenTextsAreTyped : Type 0
 MigratedTokenTextsAreTyped =
-    (row : RowData) (s : List ℕ) → IsTableRow row → takes_tokens row.name ≡ true →
+    (row : RowData) (s : List ℕ) → IsTableRow row → row.takes_tokens ≡ true →
     (e : Term) (values : List (List ℕ × Data)) → reading_with (token_expression s) values ≡ Ok (Some e) →
     (found : Found) × (checked e row.want (Some row) ≡ Ok found)
 
@@ -136,11 +131,11 @@ function_mentions row f = record {
 -- The expression of a function that was read mentions what the function mentions.
 abbrev pub MigratedFunctionsMentionTheSame : Type 0
 MigratedFunctionsMentionTheSame =
-    (target : Target) (t : Tree) (f : Function) → IsTableRow target.row →
-    legacy.form target t ≡ Some (Some f) →
+    (row : RowData) (t : Tree) (f : Function) → IsTableRow row →
+    legacy.form row t ≡ Some (Some f) →
     (e : Term) (values : List (List ℕ × Data)) →
-    reading_with (function_expression target.row f) values ≡ Ok (Some e) →
-    mentions e ≡ function_mentions target.row f
+    reading_with (function_expression row f) values ≡ Ok (Some e) →
+    mentions e ≡ function_mentions row f
 
 -- The expression of a token text mentions the feature where the text has tokens, and nothing else.
 abbrev pub MigratedTokenTextsMentionTheFeature : Type 0

@@ -22,7 +22,7 @@ use Rattle.legacy_functions.specs.ToExpression.{identity_expression, body_expres
 use Rattle.legacy_functions.specs.ToExpression.{function_expression, default_by}
 use Rattle.legacy_functions.proofs.SoundRules.{HasSome, IsOutputOf, AreNumberStops, IsBodyOf}
 use Rattle.legacy_functions.proofs.SoundFunctions.{read_is_sound}
-use Rattle.value_forms.specs.Forms.{is_expression, is_token_text, target_of}
+use Rattle.value_forms.specs.Forms.{is_expression, is_token_text}
 use Rattle.legacy_laws.specs.LegacyFunctionLaw.{IsTableRow}
 use Rattle.legacy_laws.proofs.TableRows.{is_property_want, IsRegular, table_rows}
 use Rattle.legacy_laws.proofs.FunctionProperties.{GoesBy, read_goes}
@@ -76,10 +76,7 @@ abbrev pub IsMigratedForm : RowData → Tree → Type 0
 IsMigratedForm row e = (is_expression e ≡ true) ⊎ IsBareLiteral row e
 
 module _ (row : RowData) (regular : IsRegular row) where
-  abbrev target : legacy.Target
-  target = target_of row
-
-  output_forms : (o : Output) → IsOutputOf target o → IsMigratedForm row (output_expression o)
+  output_forms : (o : Output) → IsOutputOf row o → IsMigratedForm row (output_expression o)
   output_forms (literal json.null d) h = inr (record { scalar = refl; tokens = refl; value = (d, h.0) })
   output_forms (literal (json.boolean b) d) h = inr (record { scalar = refl; tokens = refl; value = (d, h.0) })
   output_forms (literal (json.number n) d) h = inr (record { scalar = refl; tokens = refl; value = (d, h.0) })
@@ -89,7 +86,7 @@ module _ (row : RowData) (regular : IsRegular row) where
   output_forms (tokens s) h = inl refl
 
   -- only steps with one stop are not a call
-  over_zoom : (way : Way) (ss : List (Spelled × Output)) → AreNumberStops target ss → HasSome ss
+  over_zoom : (way : Way) (ss : List (Spelled × Output)) → AreNumberStops row ss → HasSome ss
       → IsMigratedForm row (way_expression way zoom_expression (stop_branches ss))
   over_zoom even ss h some = inl refl
   over_zoom (curved base) ss h some = inl refl
@@ -124,7 +121,7 @@ module _ (row : RowData) (regular : IsRegular row) where
   identity_is_call (wants.Enum c) property default = refl
   identity_is_call (wants.EnumList c) property default = refl
 
-  body_forms : (default : Tree) (property : Option (List ℕ)) (body : Body) → IsBodyOf target body
+  body_forms : (default : Tree) (property : Option (List ℕ)) (body : Body) → IsBodyOf row body
       → GoesBy property body → IsMigratedForm row (body_expression row default property body)
   body_forms default (Some name) (plain rule) h goes = inl (rule_is_call _ default rule)
   body_forms default None (plain (numeric way ss)) h goes = over_zoom way ss h.1.0 h.1.1.0
@@ -138,8 +135,7 @@ module _ (row : RowData) (regular : IsRegular row) where
 
 -- The expression of a function of a row of the table that was read.
 pub function_forms : (row : RowData) (t : Tree) (f : Function) → IsTableRow row
-    → legacy.form (target_of row) t ≡ Some (Some f) → IsMigratedForm row (function_expression row f)
+    → legacy.form row t ≡ Some (Some f) → IsMigratedForm row (function_expression row f)
 function_forms row t f of_table read =
-    let target = target_of row in
     body_forms row (table_rows row of_table) (default_by f.fallback row) f.property f.body
-    (read_is_sound target t f read).body (read_goes target t f read)
+    (read_is_sound row t f read).body (read_goes row t f read)

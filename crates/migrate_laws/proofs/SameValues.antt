@@ -23,7 +23,7 @@ use Rattle.legacy_functions.specs.Function.{Function}
 use Rattle.legacy_functions.specs.Meaning as meanings
 use Rattle.legacy_functions.specs.ToExpression.{function_expression}
 use Rattle.legacy_functions.specs.Tokens.{token_expression}
-use Rattle.value_forms.specs.Forms.{takes_literals_alone, is_expression, is_function, is_token_text, form_of, target_of}
+use Rattle.value_forms.specs.Forms.{takes_literals_alone, is_expression, is_function, is_token_text, form_of}
 use Rattle.value_forms.specs.declared.forms.Form.{Form}
 use Rattle.legacy_laws.specs.LegacyFunctionLaw.{IsTableRow, GivesAlways, ReadsAlways}
 use Rattle.legacy_laws.specs.LegacyFunctionLaw.{ExpressionsMeanTheirFunctions, TokenExpressionsMeanTheirTexts}
@@ -175,10 +175,10 @@ module _ (row : RowData) (globals : List (List ℕ × Data)) where
         }
 
   function_same : ExpressionsMeanTheirFunctions → IsTableRow row → (t : Tree) (f : Function)
-      → form_of row t ≡ forms.Function → functions.form (target_of row) t ≡ Some (Some f)
+      → form_of row t ≡ forms.Function → functions.form row t ≡ Some (Some f)
       → IsMigratedForm row (function_expression row f) → HasTheSameValue row globals (function_expression row f) t
   function_same means of_table t f is read (inl call) =
-      let (e, reads, gives) = means (target_of row) t f of_table read in
+      let (e, reads, gives) = means row t f of_table read in
       let new = function_expression row f in
       let more = more_than_literals t forms.Function is (λ same. absurd (cc)) in
       let old = source_from t forms.Function is ∙ ap (function_source row) read in
@@ -186,7 +186,7 @@ module _ (row : RowData) (globals : List (List ℕ × Data)) where
       of_sources new t (term e) (legacy_function row f) own old
       (call_same f e reads gives)
   function_same means of_table t f is read (inr literal_form) =
-      let (e, reads, gives) = means (target_of row) t f of_table read in
+      let (e, reads, gives) = means row t f of_table read in
       let new = function_expression row f in
       let (given, spelled) = literal_form.value in
       let old = source_from t forms.Function is ∙ ap (function_source row) read in
@@ -195,7 +195,7 @@ module _ (row : RowData) (globals : List (List ℕ × Data)) where
       (literal_same f e given (scalar_reads row new given literal_form.scalar spelled) reads gives)
 
   functions_same : ExpressionsMeanTheirFunctions → IsTableRow row → (t : Tree) (found : Option (Option Function))
-      → form_of row t ≡ forms.Function → functions.form (target_of row) t ≡ found
+      → form_of row t ≡ forms.Function → functions.form row t ≡ found
       → HasTheSameValue row globals (function_or row t found) t
   functions_same means of_table t (Some (Some f)) is read =
       function_same means of_table t f is read (function_forms row t f of_table read)
@@ -208,7 +208,7 @@ module _ (row : RowData) (globals : List (List ℕ × Data)) where
       → (t : Tree) (form : Form) → form_of row t ≡ form → HasTheSameValue row globals (value_by_form form row t) t
   formed_same means texts of_table t forms.Expression is = of_itself t
   formed_same means texts of_table t forms.Function is =
-      functions_same means of_table t (functions.form (target_of row) t) is refl
+      functions_same means of_table t (functions.form row t) is refl
   formed_same means texts of_table t forms.TokenText is = tokens_same texts t is
   formed_same means texts of_table t forms.Literal is = of_itself t
 

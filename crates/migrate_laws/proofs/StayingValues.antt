@@ -7,7 +7,7 @@ use Rattle.property_tables.specs.Rows.{RowData}
 use Rattle.legacy_functions.specs.Form as functions
 use Rattle.legacy_functions.specs.Function.{Function}
 use Rattle.legacy_functions.specs.Tokens.{token_expression}
-use Rattle.value_forms.specs.Forms.{takes_literals_alone, is_expression, is_function, is_token_text, form_of, target_of}
+use Rattle.value_forms.specs.Forms.{takes_literals_alone, is_expression, is_function, is_token_text, form_of}
 use Rattle.value_forms.specs.declared.forms.Form.{Form}
 use Rattle.legacy_laws.specs.LegacyFunctionLaw.{IsTableRow}
 use Rattle.value_forms.specs.declared.forms.Form.TheVariants as forms
@@ -90,7 +90,7 @@ tokens_stay row (json.list ts) is = stays_by row (json.list ts) forms.TokenText 
 tokens_stay row (json.object fs) is = stays_by row (json.object fs) forms.TokenText is refl
 
 function_stays : (row : RowData) (t : Tree) (found : Option (Option Function)) → IsTableRow row
-    → form_of row t ≡ forms.Function → functions.form (target_of row) t ≡ found
+    → form_of row t ≡ forms.Function → functions.form row t ≡ found
     → Stays row (function_or row t found)
 function_stays row t (Some (Some f)) of_table is read =
     migrated_stays row _ (function_forms row t f of_table read)
@@ -103,7 +103,7 @@ formed_stays : (row : RowData) (t : Tree) (form : Form) → IsTableRow row → f
     → Stays row (value_by_form form row t)
 formed_stays row t forms.Expression of_table is = stays_by row t forms.Expression is refl
 formed_stays row t forms.Function of_table is =
-    function_stays row t (functions.form (target_of row) t) of_table is refl
+    function_stays row t (functions.form row t) of_table is refl
 formed_stays row t forms.TokenText of_table is = tokens_stay row t is
 formed_stays row t forms.Literal of_table is = stays_by row t forms.Literal is refl
 

@@ -11,7 +11,7 @@ use Rattle.prop_values.specs.Data.{Data}
 use Rattle.prop_values.specs.declared.kinds.Want.{Want}
 use Rattle.prop_values.specs.declared.kinds.Want.TheVariants as wants
 use Rattle.property_tables.specs.Literals.{literal_of}
-use Rattle.property_tables.specs.Rows.{RowData, takes_tokens}
+use Rattle.property_tables.specs.Rows.{RowData}
 use Rattle.expr_syntax.specs.Reading.{reading}
 use Rattle.expr_syntax.specs.Term.{Term}
 use Rattle.expr_types.specs.Checked.{checked}
@@ -26,7 +26,7 @@ use Rattle.legacy_functions.specs.Form as functions
 use Rattle.legacy_functions.specs.Function.{Function, has_zooms}
 use Rattle.legacy_functions.specs.ToExpression.{function_expression}
 use Rattle.legacy_functions.specs.Tokens.{has_tokens, token_expression}
-use Rattle.value_forms.specs.Forms.{takes_literals_alone, is_expression, is_function, is_token_text, form_of, target_of}
+use Rattle.value_forms.specs.Forms.{takes_literals_alone, is_expression, is_function, is_token_text, form_of}
 use Rattle.value_forms.specs.declared.forms.Form.{Form}
 use Rattle.legacy_laws.specs.LegacyFilterLaw.{ExpressionsMeanTheirFilters, MigratedFiltersAreTyped}
 use Rattle.legacy_laws.specs.LegacyFunctionLaw.{IsTableRow, IsAllowedOn}
@@ -118,10 +118,10 @@ module _ (row : RowData) where
   module _ (of_table : IsTableRow row) (means : ExpressionsMeanTheirFunctions)
       (typed : MigratedFunctionsAreTyped) where
     function_is_sound : (t : Tree) (f : Function) → form_of row t ≡ forms.Function
-        → functions.form (target_of row) t ≡ Some (Some f) → function_reads row f ≡ true
+        → functions.form row t ≡ Some (Some f) → function_reads row f ≡ true
         → IsMigratedForm row (function_expression row f) → IsSound (value_mark row (function_expression row f))
     function_is_sound t f is read may_read (inl call) =
-        let (e, reads, gives) = means (target_of row) t f of_table read in
+        let (e, reads, gives) = means row t f of_table read in
         let (found, fits) = typed row t f of_table read (allowed row f may_read) e [] (reads []) in
         let more = more_than_literals t forms.Function is (λ same. absurd (cc)) in
         call_is_sound (function_expression row f) e found more call (reads []) fits
@@ -135,7 +135,7 @@ module _ (row : RowData) where
     reads_soundly f is = λ path. (rw is refl, rw is refl)
 
     reading_alike : (t : Tree) (f : Function) → form_of row t ≡ forms.Function
-        → functions.form (target_of row) t ≡ Some (Some f) → (b : Bool) → function_reads row f ≡ b
+        → functions.form row t ≡ Some (Some f) → (b : Bool) → function_reads row f ≡ b
         → IsMarkedAlike (function_mark row (Some (Some f))) (value_mark row (function_expression row f))
     reading_alike t f is read true may_read =
         sound_alike (function_mark row (Some (Some f))) (value_mark row (function_expression row f))
@@ -145,7 +145,7 @@ module _ (row : RowData) where
         let broken = sym (breaks_reading f path may_read) ∙ none in absurd (cc)
 
     function_alike : (t : Tree) (found : Option (Option Function)) → form_of row t ≡ forms.Function
-        → functions.form (target_of row) t ≡ found
+        → functions.form row t ≡ found
         → IsMarkedAlike (function_mark row found) (value_mark row (function_or row t found))
     function_alike t (Some (Some f)) is read = reading_alike t f is read (function_reads row f) refl
     function_alike t (Some None) is read =
@@ -160,7 +160,7 @@ module _ (row : RowData) where
     text_is_sound s is =
         let (e, reads, gives) = means s in
         let takes =
-        takes_token_texts (takes_literals_alone row) (takes_tokens row.name) (has_tokens s) is in
+        takes_token_texts (takes_literals_alone row) row.takes_tokens (has_tokens s) is in
         let (found, fits) = typed row s of_table takes e [] (reads []) in
         let more = more_than_literals (json.text s) forms.TokenText is (λ same. absurd (cc)) in
         call_is_sound (token_expression s) e found more refl (reads []) fits
@@ -195,7 +195,7 @@ module _ (laws : HaveSoundExpressions) where
       marked_same (form_mark forms.Expression row t) (value_mark row t) (marked_from row t forms.Expression is)
   formed_alike row of_table t forms.Function is =
       function_alike row of_table laws.functions_mean laws.functions_typed t
-      (functions.form (target_of row) t) is refl
+      (functions.form row t) is refl
   formed_alike row of_table t forms.TokenText is =
       sound_alike (form_mark forms.TokenText row t) (value_mark row (tokens_or t)) (λ path. (refl, refl))
       (tokens_are_sound row of_table laws.texts_mean laws.texts_typed t is)

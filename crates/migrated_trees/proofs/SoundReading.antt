@@ -2,30 +2,32 @@
 -- tree.
 use Rattle.std.proofs.Common.{◌≡◌, ℕ, suc, ℤ, pos, List, [], ◌∷◌, refl, sym, subst, arith, true, false, ◌⊎◌}
 use Rattle.std.proofs.Common.{inl, inr}
-use Rattle.std.specs.Prelude.{Bool, ◌&&◌, ◌||◌, codes, IsUtf8, Option, Some, None, is_some, option_map}
+use Rattle.std.specs.Prelude.{Bool, ◌&&◌, ◌||◌, codes, IsUtf8, Option, Some, None, is_some, is_none, option_map, option_and_then}
 use Rattle.std.specs.Prelude.{Result, Ok, Err, if◌then◌else◌}
 use Rattle.std.specs.Ordering.{int_eq}
 use Rattle.std.specs.Str.{bytes_eq}
 use Rattle.fixed_num.specs.Decimal.{read_text}
 use Rattle.fixed_num.specs.declared.decimal.NumFault.{NumFault}
+use Rattle.decimal_json.specs.Accessors.{text_in}
 use Rattle.decimal_json.specs.Sound.{IsSound, AreSound, HasSoundMembers}
 use Rattle.decimal_json.specs.Tree as json
 use Rattle.decimal_json.specs.Tree.{Tree, Trees, no_trees, tree, Fields, no_fields, field, field_at}
 use Rattle.prop_values.specs.Data.{Data}
 use Rattle.property_tables.specs.Literals.{literal_of}
+use Rattle.property_tables.specs.Rows.{RowData}
 use Rattle.legacy_functions.specs.Function.{Spelled, Input, flag, number, word, Output, Way, even, curved}
 use Rattle.legacy_functions.specs.Function.{stepped}
 use Rattle.legacy_functions.specs.Function.{Rule, numeric, categorical, Body, plain, zoomed, identity, Function}
-use Rattle.legacy_functions.specs.Form.{then_some, member_form, kind_form, spelled_number, number_form}
-use Rattle.legacy_functions.specs.Form.{text_form, Target, literal_form, text_output, output_form, input_form}
+use Rattle.legacy_functions.specs.Form.{member_form, kind_form, spelled_number, number_form}
+use Rattle.legacy_functions.specs.Form.{literal_form, text_output, output_form, input_form}
 use Rattle.legacy_functions.specs.Form.{PlacedInput, has_two_fields, zoomed_input, placed_input}
-use Rattle.legacy_functions.specs.Form.{PlacedStop, stop_form, and_stop, each_stop, stops_form, Stop}
-use Rattle.legacy_functions.specs.Form.{and_plain, plain_stops}
-use Rattle.legacy_functions.specs.Form.{and_zoomed, zoomed_stops, never_descend, all_differ, number_stops}
+use Rattle.legacy_functions.specs.Form.{PlacedStop, stop_form, each_stop, stops_form, Stop}
+use Rattle.legacy_functions.specs.Form.{plain_stop, plain_stops}
+use Rattle.legacy_functions.specs.Form.{zoomed_stop, zoomed_stops, never_descend, all_differ, number_stops}
 use Rattle.legacy_functions.specs.Form.{equals_before}
 use Rattle.legacy_functions.specs.Form.{without_repeated, some_of, rule_form, zooms_never_descend}
 use Rattle.legacy_functions.specs.Form.{with_group, by_zoom}
-use Rattle.legacy_functions.specs.Form.{and_rule, rules_form, zoomed_body, zoomed_form, plain_form}
+use Rattle.legacy_functions.specs.Form.{group_form, rules_form, zoomed_body, zoomed_form, plain_form}
 use Rattle.legacy_functions.specs.Form.{begins_with_zoom, body_of}
 use Rattle.legacy_functions.specs.Form.{Members, has_known_members, members_form, base_way, way_by}
 use Rattle.legacy_functions.specs.Form.{is_categories}
@@ -34,7 +36,7 @@ use Rattle.legacy_functions.specs.Form.{function_form, form}
 use Rattle.legacy_functions.specs.GroupView.{Zoomed, Group}
 use Rattle.legacy_functions.specs.Tokens.{has_tokens}
 use Rattle.legacy_functions.specs.ToExpression.{output_expression}
-use Rattle.legacy_functions.proofs.SoundRules.{OfSome, of_then, of_map, of_where, of_any}
+use Rattle.legacy_functions.proofs.SoundRules.{OfSome, of_then, of_map, of_where, of_any, of_first}
 use Rattle.migrated_trees.proofs.SoundLiterals.{is_flat_want, IsSoundUpTo, literal_sound}
 use Rattle.migrated_trees.proofs.SoundTexts.{tokens_sound}
 
@@ -114,7 +116,7 @@ number_sound k (json.text s) h = tt
 number_sound k (json.list ts) h = tt
 number_sound k (json.object fs) h = tt
 
-text_sound : (k : ℕ) (t : Tree) → IsSound k t → OfSome IsUtf8 (text_form t)
+text_sound : (k : ℕ) (t : Tree) → IsSound k t → OfSome IsUtf8 (text_in t)
 text_sound k json.null h = tt
 text_sound k (json.boolean b) h = tt
 text_sound k (json.number n) h = tt
@@ -164,30 +166,30 @@ placed_sound any k (json.object fs) h =
     with_zoom any (suc k) zoom value (member_sound (suc k) (codes "zoom") fs h.2)
     (member_sound (suc k) (codes "value") fs h.2))
 
-module _ (target : Target) (flat : is_flat_want target.row.want ≡ true) where
-  as_literal_sound : (k : ℕ) (t : Tree) (o : Option Data) → literal_of t target.row ≡ o → IsSound k t
+module _ (row : RowData) (flat : is_flat_want row.want ≡ true) where
+  as_literal_sound : (k : ℕ) (t : Tree) (o : Option Data) → literal_of t row ≡ o → IsSound k t
       → OfSome IsSoundOutput (literal_form t o)
-  as_literal_sound k t (Some d) is h = literal_sound target.row t d k flat is h
+  as_literal_sound k t (Some d) is h = literal_sound row t d k flat is h
   as_literal_sound k t None is h = tt
 
-  text_output_sound : (b : Bool) (k : ℕ) (s : List ℕ) (o : Option Data) → literal_of (json.text s) target.row ≡ o
+  text_output_sound : (b : Bool) (k : ℕ) (s : List ℕ) (o : Option Data) → literal_of (json.text s) row ≡ o
       → IsUtf8 s → OfSome IsSoundOutput (text_output b s o)
   text_output_sound true k s (Some d) is h = λ m low. tokens_sound s m low h
   text_output_sound true k s None is h = tt
   text_output_sound false k s o is h = as_literal_sound k (json.text s) o is h
 
-  output_sound : (k : ℕ) (t : Tree) → IsSound k t → OfSome IsSoundOutput (output_form target t)
-  output_sound k json.null h = as_literal_sound k json.null (literal_of json.null target.row) refl h
+  output_sound : (k : ℕ) (t : Tree) → IsSound k t → OfSome IsSoundOutput (output_form row t)
+  output_sound k json.null h = as_literal_sound k json.null (literal_of json.null row) refl h
   output_sound k (json.boolean b) h =
-      as_literal_sound k (json.boolean b) (literal_of (json.boolean b) target.row) refl h
+      as_literal_sound k (json.boolean b) (literal_of (json.boolean b) row) refl h
   output_sound k (json.number n) h =
-      as_literal_sound k (json.number n) (literal_of (json.number n) target.row) refl h
+      as_literal_sound k (json.number n) (literal_of (json.number n) row) refl h
   output_sound k (json.text s) h =
-      text_output_sound (target.takes_tokens && has_tokens s) k s (literal_of (json.text s) target.row) refl h
+      text_output_sound (row.takes_tokens && has_tokens s) k s (literal_of (json.text s) row) refl h
   output_sound k (json.list ts) h =
-      as_literal_sound k (json.list ts) (literal_of (json.list ts) target.row) refl h
+      as_literal_sound k (json.list ts) (literal_of (json.list ts) row) refl h
   output_sound k (json.object fs) h =
-      as_literal_sound k (json.object fs) (literal_of (json.object fs) target.row) refl h
+      as_literal_sound k (json.object fs) (literal_of (json.object fs) row) refl h
 
   -- ---- stops
 
@@ -199,15 +201,15 @@ module _ (target : Target) (flat : is_flat_want target.row.want ≡ true) where
   AreSoundPlaced (s ∷ ss) = IsSoundStop s × AreSoundPlaced ss
 
   pair_sound : (any : Bool) (k : ℕ) (i o : Tree) → IsSound k i → IsSound k o
-      → OfSome IsSoundStop (then_some (placed_input any i) (λ p. option_map (λ out. (p, out)) (output_form target o)))
+      → OfSome IsSoundStop (option_and_then (λ p. option_map (λ out. (p, out)) (output_form row o)) (placed_input any i))
   pair_sound any k i o h j =
       of_then IsSoundPlaced IsSoundStop (placed_input any i)
-      (λ p. option_map (λ out. (p, out)) (output_form target o))
+      (λ p. option_map (λ out. (p, out)) (output_form row o))
       (placed_sound any k i h)
-      (λ p q. of_map IsSoundOutput IsSoundStop (λ out. (p, out)) (output_form target o) (output_sound k o j)
+      (λ p q. of_map IsSoundOutput IsSoundStop (λ out. (p, out)) (output_form row o) (output_sound k o j)
       (λ out r. (q, r)))
 
-  stop_sound : (any : Bool) (k : ℕ) (t : Tree) → IsSound k t → OfSome IsSoundStop (stop_form target any t)
+  stop_sound : (any : Bool) (k : ℕ) (t : Tree) → IsSound k t → OfSome IsSoundStop (stop_form row any t)
   stop_sound any k json.null h = tt
   stop_sound any k (json.boolean b) h = tt
   stop_sound any k (json.number n) h = tt
@@ -218,19 +220,13 @@ module _ (target : Target) (flat : is_flat_want target.row.want ≡ true) where
   stop_sound any k (json.list (tree i (tree o (tree t ts)))) h = tt
   stop_sound any k (json.object fs) h = tt
 
-  and_stop_sound : (s : Option PlacedStop) (ss : Option (List PlacedStop)) → OfSome IsSoundStop s
-      → OfSome AreSoundPlaced ss → OfSome AreSoundPlaced (and_stop s ss)
-  and_stop_sound (Some s) (Some ss) h rest = (h, rest)
-  and_stop_sound (Some s) None h rest = tt
-  and_stop_sound None ss h rest = tt
-
-  each_sound : (any : Bool) (k : ℕ) (ts : Trees) → AreSound k ts → OfSome AreSoundPlaced (each_stop target any ts)
+  each_sound : (any : Bool) (k : ℕ) (ts : Trees) → AreSound k ts → OfSome AreSoundPlaced (each_stop row any ts)
   each_sound any k no_trees h = tt
   each_sound any k (tree t ts) h =
-      and_stop_sound (stop_form target any t) (each_stop target any ts) (stop_sound any k t h.0)
-      (each_sound any k ts h.1)
+      of_first IsSoundStop AreSoundPlaced (stop_form row any t) (each_stop row any ts) (stop_sound any k t h.0)
+      (each_sound any k ts h.1) (λ s ss p rest. (p, rest))
 
-  stops_sound : (any : Bool) (k : ℕ) (t : Tree) → IsSound k t → OfSome AreSoundPlaced (stops_form target any t)
+  stops_sound : (any : Bool) (k : ℕ) (t : Tree) → IsSound k t → OfSome AreSoundPlaced (stops_form row any t)
   stops_sound any k json.null h = tt
   stops_sound any k (json.boolean b) h = tt
   stops_sound any k (json.number n) h = tt
@@ -241,33 +237,29 @@ module _ (target : Target) (flat : is_flat_want target.row.want ≡ true) where
 
   -- ---- stops without zooms, and with
 
-  and_plain_sound : (zoom : Option Spelled) (s : Stop) (later : Option (List Stop))
-      → IsSoundInput s.0 × IsSoundOutput s.1
-      → OfSome AreSoundStops later → OfSome AreSoundStops (and_plain zoom s later)
-  and_plain_sound (Some zoom) s later h rest = tt
-  and_plain_sound None s (Some ss) h rest = (h, rest)
-  and_plain_sound None s None h rest = tt
+  abbrev IsSoundPlain : Stop → Type 0
+  IsSoundPlain s = IsSoundInput s.0 × IsSoundOutput s.1
 
   plain_sound : (ss : List PlacedStop) → AreSoundPlaced ss → OfSome AreSoundStops (plain_stops ss)
   plain_sound [] h = tt
   plain_sound (s ∷ ss) h =
-      and_plain_sound s.0.0 (s.0.1, s.1) (plain_stops ss) (h.0.0.1, h.0.1) (plain_sound ss h.1)
+      of_first IsSoundPlain AreSoundStops (plain_stop s) (plain_stops ss)
+      (of_where IsSoundPlain (is_none s.0.0) (Some (s.0.1, s.1)) (λ none. (h.0.0.1, h.0.1)))
+      (plain_sound ss h.1) (λ s ss p rest. (p, rest))
+
+  abbrev IsSoundZoomed : Zoomed → Type 0
+  IsSoundZoomed s = IsSoundNumber s.0 × IsSoundPlain s.1
 
   abbrev AreSoundZoomed : List Zoomed → Type 0
   AreSoundZoomed [] = Unit {0}
-  AreSoundZoomed (s ∷ ss) = (IsSoundNumber s.0 × (IsSoundInput s.1.0 × IsSoundOutput s.1.1)) × AreSoundZoomed ss
-
-  and_zoomed_sound : (zoom : Option Spelled) (s : Stop) (later : Option (List Zoomed)) → OfSome IsSoundNumber zoom
-      → IsSoundInput s.0 × IsSoundOutput s.1 → OfSome AreSoundZoomed later
-      → OfSome AreSoundZoomed (and_zoomed zoom s later)
-  and_zoomed_sound (Some zoom) s (Some ss) z h rest = ((z, h), rest)
-  and_zoomed_sound (Some zoom) s None z h rest = tt
-  and_zoomed_sound None s later z h rest = tt
+  AreSoundZoomed (s ∷ ss) = IsSoundZoomed s × AreSoundZoomed ss
 
   zoomed_sound : (ss : List PlacedStop) → AreSoundPlaced ss → OfSome AreSoundZoomed (zoomed_stops ss)
   zoomed_sound [] h = tt
   zoomed_sound (s ∷ ss) h =
-      and_zoomed_sound s.0.0 (s.0.1, s.1) (zoomed_stops ss) h.0.0.0 (h.0.0.1, h.0.1) (zoomed_sound ss h.1)
+      of_first IsSoundZoomed AreSoundZoomed (zoomed_stop s) (zoomed_stops ss)
+      (of_map IsSoundNumber IsSoundZoomed (λ zoom. (zoom, (s.0.1, s.1))) s.0.0 h.0.0.0 (λ zoom z. (z, (h.0.0.1, h.0.1))))
+      (zoomed_sound ss h.1) (λ s ss p rest. (p, rest))
 
   -- ---- groups of one zoom each
 
@@ -276,13 +268,12 @@ module _ (target : Target) (flat : is_flat_want target.row.want ≡ true) where
   AreSoundGroups (g ∷ gs) = (IsSoundNumber g.0 × AreSoundStops g.1) × AreSoundGroups gs
 
   grouped_if : (b : Bool) (s : Zoomed) (g : Group) (gs : List Group)
-      → IsSoundNumber s.0 × (IsSoundInput s.1.0 × IsSoundOutput s.1.1) → AreSoundGroups (g ∷ gs)
+      → IsSoundZoomed s → AreSoundGroups (g ∷ gs)
       → AreSoundGroups (if b then (s.0, s.1 ∷ g.1) ∷ gs else (s.0, s.1 ∷ []) ∷ g ∷ gs)
   grouped_if true s g gs h rest = ((h.0, (h.1, rest.0.1)), rest.1)
   grouped_if false s g gs h rest = ((h.0, (h.1, tt)), rest)
 
-  with_group_sound : (s : Zoomed) (gs : List Group)
-      → IsSoundNumber s.0 × (IsSoundInput s.1.0 × IsSoundOutput s.1.1) → AreSoundGroups gs
+  with_group_sound : (s : Zoomed) (gs : List Group) → IsSoundZoomed s → AreSoundGroups gs
       → AreSoundGroups (with_group s gs)
   with_group_sound s [] h rest = ((h.0, (h.1, tt)), tt)
   with_group_sound s (g ∷ gs) h rest = grouped_if (int_eq s.0.value g.0.value) s g gs h rest
@@ -326,19 +317,16 @@ module _ (target : Target) (flat : is_flat_want target.row.want ≡ true) where
   rule_sound None ss w h =
       of_where IsSoundRule (never_descend None ss && all_differ (λ i. false) ss) (Some (categorical ss)) (λ p. h)
 
-  and_rule_sound : (zoom : Spelled) (rule : Option Rule) (later : Option (List (Spelled × Rule)))
-      → IsSoundNumber zoom
-      → OfSome IsSoundRule rule → OfSome AreSoundRules later → OfSome AreSoundRules (and_rule zoom rule later)
-  and_rule_sound zoom (Some rule) (Some rules) z h rest = ((z, h), rest)
-  and_rule_sound zoom (Some rule) None z h rest = tt
-  and_rule_sound zoom None later z h rest = tt
+  abbrev IsSoundZoomRule : Spelled × Rule → Type 0
+  IsSoundZoomRule r = IsSoundNumber r.0 × IsSoundRule r.1
 
   rules_sound : (way : Option Way) (gs : List Group) → OfSome IsSoundWay way → AreSoundGroups gs
       → OfSome AreSoundRules (rules_form way gs)
   rules_sound way [] w h = tt
   rules_sound way (g ∷ gs) w h =
-      and_rule_sound g.0 (rule_form way g.1) (rules_form way gs) h.0.0 (rule_sound way g.1 w h.0.1)
-      (rules_sound way gs w h.1)
+      of_first IsSoundZoomRule AreSoundRules (group_form way g) (rules_form way gs)
+      (of_map IsSoundRule IsSoundZoomRule (λ rule. (g.0, rule)) (rule_form way g.1) (rule_sound way g.1 w h.0.1)
+      (λ rule p. (h.0.0, p))) (rules_sound way gs w h.1) (λ r rs p rest. (p, rest))
 
   -- ---- bodies
 
@@ -358,7 +346,7 @@ module _ (target : Target) (flat : is_flat_want target.row.want ≡ true) where
   plain_form_sound : (way : Option Way) (ss : List PlacedStop) → OfSome IsSoundWay way → AreSoundPlaced ss
       → OfSome IsSoundBody (plain_form way ss)
   plain_form_sound way ss w h =
-      let found = then_some (plain_stops ss) (rule_form way) in
+      let found = option_and_then (rule_form way) (plain_stops ss) in
       let rule : OfSome IsSoundRule found =
       of_then AreSoundStops IsSoundRule (plain_stops ss) (rule_form way) (plain_sound ss h)
       (λ xs p. rule_sound way xs w p) in
@@ -372,7 +360,7 @@ module _ (target : Target) (flat : is_flat_want target.row.want ≡ true) where
   body_sound : (way : Option Way) (has_property : Bool) (ss : List PlacedStop) → OfSome IsSoundWay way
       → AreSoundPlaced ss → OfSome IsSoundBody (body_of way has_property ss)
   body_sound way has_property ss w h =
-      body_if (has_property && begins_with_zoom ss) (then_some (zoomed_stops ss) (zoomed_form way))
+      body_if (has_property && begins_with_zoom ss) (option_and_then (zoomed_form way) (zoomed_stops ss))
       (plain_form way ss)
       (of_then AreSoundZoomed IsSoundBody (zoomed_stops ss) (zoomed_form way) (zoomed_sound ss h)
       (λ xs p. zoomed_form_sound way xs w p))
@@ -386,22 +374,22 @@ module _ (target : Target) (flat : is_flat_want target.row.want ≡ true) where
     fallback : OfSome IsSoundOutput ms.fallback
     stops : OfSome (IsSound k) ms.stops
 
-  members_sound : (k : ℕ) (fs : Fields) → HasSoundMembers k fs → OfSome (HasSoundForms k) (members_form target fs)
+  members_sound : (k : ℕ) (fs : Fields) → HasSoundMembers k fs → OfSome (HasSoundForms k) (members_form row fs)
   members_sound k fs h =
       let P = HasSoundForms k in
       of_where P (has_known_members fs) _ (λ known.
-      of_then (λ n. Unit {0}) P (kind_form target.row (field_at (codes "type") fs)) _
-      (of_any (kind_form target.row (field_at (codes "type") fs))) (λ kind n.
+      of_then (λ n. Unit {0}) P (kind_form row (field_at (codes "type") fs)) _
+      (of_any (kind_form row (field_at (codes "type") fs))) (λ kind n.
       of_then (OfSome IsSoundNumber) P (member_form number_form (field_at (codes "base") fs)) _
       (formed IsSoundNumber k number_form (field_at (codes "base") fs) (member_sound k (codes "base") fs h)
       (number_sound k))
       (λ base b.
-      of_then (OfSome IsUtf8) P (member_form text_form (field_at (codes "property") fs)) _
-      (formed IsUtf8 k text_form (field_at (codes "property") fs) (member_sound k (codes "property") fs h)
+      of_then (OfSome IsUtf8) P (member_form text_in (field_at (codes "property") fs)) _
+      (formed IsUtf8 k text_in (field_at (codes "property") fs) (member_sound k (codes "property") fs h)
       (text_sound k))
       (λ property p.
-      of_then (OfSome IsSoundOutput) P (member_form (output_form target) (field_at (codes "default") fs)) _
-      (formed IsSoundOutput k (output_form target) (field_at (codes "default") fs)
+      of_then (OfSome IsSoundOutput) P (member_form (output_form row) (field_at (codes "default") fs)) _
+      (formed IsSoundOutput k (output_form row) (field_at (codes "default") fs)
       (member_sound k (codes "default") fs h) (output_sound k))
       (λ fallback o. record {
         base = b;
@@ -432,18 +420,18 @@ module _ (target : Target) (flat : is_flat_want target.row.want ≡ true) where
     ]
   ]
 
-  stops_body_sound : (k : ℕ) (ms : Members) → HasSoundForms k ms → OfSome IsSoundBody (stops_body target ms)
+  stops_body_sound : (k : ℕ) (ms : Members) → HasSoundForms k ms → OfSome IsSoundBody (stops_body row ms)
   stops_body_sound k ms h =
       let any = is_categories ms.kind in
       of_then (IsSound k) IsSoundBody ms.stops _ h.stops (λ t s.
-      of_then AreSoundPlaced IsSoundBody (stops_form target any t) _ (stops_sound any k t s)
+      of_then AreSoundPlaced IsSoundBody (stops_form row any t) _ (stops_sound any k t s)
       (λ placed p. body_sound (way_by ms.kind ms.base) (is_some ms.property) placed (way_sound ms h.base) p))
 
   abbrev read_body : Members → Option Body
-  read_body ms = kind_body ms.kind target ms
+  read_body ms = kind_body ms.kind row ms
 
   -- what the stops say, the property itself, or nothing
-  body_cases : (ms : Members) → (read_body ms ≡ stops_body target ms)
+  body_cases : (ms : Members) → (read_body ms ≡ stops_body row ms)
       ⊎ ((read_body ms ≡ Some identity) ⊎ (read_body ms ≡ None))
   body_cases ms = grind (arith)
 
@@ -472,14 +460,14 @@ module _ (target : Target) (flat : is_flat_want target.row.want ≡ true) where
       (record { property = ms.property; fallback = ms.fallback; body = body })
       (record { property = h.property; fallback = h.fallback; body = b })
 
-  function_sound : (k : ℕ) (fs : Fields) → HasSoundMembers k fs → OfSome IsSoundInside (function_form target fs)
+  function_sound : (k : ℕ) (fs : Fields) → HasSoundMembers k fs → OfSome IsSoundInside (function_form row fs)
   function_sound k fs h =
-      of_then (HasSoundForms k) IsSoundInside (members_form target fs)
-      (λ ms. option_map (inside ms) (kind_body ms.kind target ms)) (members_sound k fs h)
-      (λ ms p. of_map IsSoundBody IsSoundInside (inside ms) (kind_body ms.kind target ms)
+      of_then (HasSoundForms k) IsSoundInside (members_form row fs)
+      (λ ms. option_map (inside ms) (kind_body ms.kind row ms)) (members_sound k fs h)
+      (λ ms p. of_map IsSoundBody IsSoundInside (inside ms) (kind_body ms.kind row ms)
       (read_body_sound k ms p) (λ body b. inside_sound k ms body p b))
 
-  pub form_sound : (k : ℕ) (t : Tree) → IsSound k t → OfSome IsSoundInside (form target t)
+  pub form_sound : (k : ℕ) (t : Tree) → IsSound k t → OfSome IsSoundInside (form row t)
   form_sound k json.null h = tt
   form_sound k (json.boolean b) h = tt
   form_sound k (json.number n) h = tt

@@ -23,7 +23,7 @@ use Rattle.legacy_functions.specs.ToExpression.{body_expression}
 use Rattle.legacy_functions.specs.Tokens.{call, property_expression}
 use Rattle.legacy_functions.proofs.SoundRules.{OfSome}
 use Rattle.value_forms.specs.declared.forms.Form.TheVariants as forms
-use Rattle.value_forms.specs.Forms.{form_of, target_of}
+use Rattle.value_forms.specs.Forms.{form_of}
 use Rattle.value_forms.specs.declared.forms.Form.{Form}
 use Rattle.style_migrate.specs.Migrated.{function_or, tokens_or, value_by_form}
 use Rattle.migrated_trees.specs.SoundTreesLaw.{MigratedValuesAreSound}
@@ -212,8 +212,8 @@ text_sound (json.object fs) k low h = h
 formed_sound : (form : Form) (row : RowData) (t : Tree) (k : ℕ) → IsSoundRow row → k ≤ 45 → IsSound k t
     → IsSound k (value_by_form form row t)
 formed_sound forms.Function row t k of_row low h =
-    found_sound row t (functions.form (target_of row) t) k of_row low h
-    (form_sound (target_of row) of_row.want k t h)
+    found_sound row t (functions.form row t) k of_row low h
+    (form_sound row of_row.want k t h)
 formed_sound forms.TokenText row t k of_row low h = text_sound t k low h
 formed_sound forms.Expression row t k of_row low h = h
 formed_sound forms.Literal row t k of_row low h = h

@@ -1,8 +1,8 @@
 -- Tests over the whole table, and the rules that they show of each row.
-use Rattle.std.proofs.Common.{◌≡◌, ◌≢◌, ◌∙◌, ℕ, zero, suc, ◌+◌, ◌<◌, sym, ap, refl, subst, List, [], ◌∷◌, Bool, true, false, get_or, length, arith, inl, inr}
-use Rattle.std.specs.Prelude.{◌&&◌, ◌||◌, not, All, AllPairs, Option, Some, None, is_some, ⊤, if◌then◌else◌}
+use Rattle.std.proofs.Common.{◌≡◌, ◌≢◌, sym, ap, refl, List, [], ◌∷◌, Bool, true, false, get_or, arith}
+use Rattle.std.specs.Prelude.{◌&&◌, ◌||◌, not, AllPairs, Option, Some, None, is_some, if◌then◌else◌}
 use Rattle.std.specs.List.{list_all}
-use Rattle.std.proofs.lemmas.Bool.{cases_Bool, false≢true}
+use Rattle.std.proofs.lemmas.Bool.{false≢true}
 use Rattle.std.proofs.lemmas.List.Kept.{AllPairs-cons}
 use Rattle.std.proofs.lemmas.List.Elements.{All-from_get_or}
 use Rattle.property_tables.proofs.NameIndexes.{both, all_at}
@@ -12,14 +12,14 @@ use Rattle.color_values.specs.HexColor.{hexadecimal_color}
 use Rattle.color_values.specs.Parts.{trimmed, parts_of, cut}
 use Rattle.color_values.specs.RgbColor.{rgb_color}
 use Rattle.prop_values.specs.Equality.{same_text}
-use Rattle.prop_values.specs.Keys.{texts_same, same_texts}
+use Rattle.prop_values.specs.Keys.{texts_same}
 use Rattle.prop_values.specs.Data.{Data}
 use Rattle.property_tables.specs.Defaults.{written_default, default_of, fitted, fitted_default}
 use Rattle.property_tables.specs.Fitting.{fit}
-use Rattle.property_tables.specs.Literals.{literal_data, has_form, keeps_limits}
+use Rattle.property_tables.specs.Literals.{has_form, keeps_limits}
 use Rattle.prop_values.specs.declared.kinds.Want.TheVariants as wants
-use Rattle.property_tables.specs.Rows.{RowData, absent, rows_of, row_of, row_named, at_place, is_at, background_rows, fill_rows, line_rows, symbol_rows, circle_rows, heatmap_rows, fill_extrusion_rows, raster_rows, hillshade_rows, color_relief_rows}
-use Rattle.property_tables.specs.TableLaws.{KeepsRules, MeetsAs, MeetsItself, TableKeepsRules}
+use Rattle.property_tables.specs.Rows.{RowData, absent, rows_of, background_rows, fill_rows, line_rows, symbol_rows, circle_rows, heatmap_rows, fill_extrusion_rows, raster_rows, hillshade_rows, color_relief_rows}
+use Rattle.property_tables.specs.TableLaws.{MeetsAs, MeetsItself, TableKeepsRules}
 use Rattle.property_tables.specs.declared.layer_type.LayerType.{LayerType}
 use Rattle.property_tables.specs.declared.layer_type.LayerType.TheVariants as types
 use Rattle.property_tables.specs.declared.property_row.Place.{Place}
@@ -102,7 +102,7 @@ meets_itself r (Some d) w e =
 
 -- stands where no row is read
 no_row : RowData
-no_row = record { name = []; place = Layout; want = wants.Any; fallback = absent; limits = record { least = None; most = None }; reads = record { zoom = false; feature = false; state = false; ramps = false } }
+no_row = record { name = []; place = Layout; want = wants.Any; fallback = absent; limits = record { least = None; most = None }; reads = record { zoom = false; feature = false; state = false; ramps = false }; takes_tokens = false }
 
 pub table_keeps_rules : TableKeepsRules
 table_keeps_rules t = record {

@@ -2,7 +2,7 @@
 use Rattle.std.specs.Prelude.{ℤ, int_le, Bool, true, false, ◌&&◌, Option, Some, None, Result, Ok, Err, if◌then◌else◌}
 use Rattle.fixed_num.specs.declared.decimal.NumFault.{NumFault}
 use Rattle.decimal_json.specs.Tree.{Tree}
-use Rattle.prop_values.specs.Data.{Data, null, boolean, number, text, color, list, map, Items, no_items, item}
+use Rattle.prop_values.specs.Data.{Data, number, text, list, Items, no_items, item}
 use Rattle.prop_values.specs.JsonData.{json_data}
 use Rattle.prop_values.specs.declared.kinds.Want.{Want}
 use Rattle.prop_values.specs.declared.kinds.Want.TheVariants as wants

@@ -1,7 +1,6 @@
 -- What contracts see of rows and of the entries of the table.
-use Rattle.std.specs.Prelude.{ℕ, ℤ, List, Bool, Option, Some, None, option_map, map}
-use Rattle.fixed_num.specs.declared.fixed.Fixed.{Fixed}
-use Rattle.property_tables.specs.Rows.{RowData, Limits, Default, absent, flag, amount, word, zeros, fonts, takes_tokens}
+use Rattle.std.specs.Prelude.{ℕ, List, map}
+use Rattle.property_tables.specs.Rows.{RowData, Limits, Default, absent, flag, amount, word, zeros, fonts}
 use Rattle.property_tables.specs.declared.entry.Entry.{Entry}
 use Rattle.property_tables.specs.declared.entry.Given.{Given}
 use Rattle.property_tables.specs.declared.entry.Given.TheVariants as given
@@ -28,6 +27,7 @@ entry_seen e = record {
   fallback = given_seen e.given;
   limits = record { least = e.limits.least; most = e.limits.most };
   reads = record { zoom = e.reads.zoom; feature = e.reads.feature; state = e.reads.state; ramps = e.reads.ramps };
+  takes_tokens = e.takes_tokens;
 }
 
 abbrev pub rows_seen : List Entry → List RowData
@@ -53,6 +53,7 @@ row_seen r = record {
   fallback = fallback_seen r.fallback;
   limits = limits_seen r;
   reads = record { zoom = r.zoom; feature = r.feature; state = r.state; ramps = r.ramps };
+  takes_tokens = r.takes_tokens;
 }
 
 -- a row with its number

@@ -34,6 +34,7 @@ pub record Reads : Type 0 where
   pub state : Bool
   pub ramps : Bool
 
+-- `takes_tokens`: whether a text with tokens is a token text
 pub record RowData : Type 0 where
   pub name : List ℕ
   pub place : Place
@@ -41,14 +42,18 @@ pub record RowData : Type 0 where
   pub fallback : Default
   pub limits : Limits
   pub reads : Reads
+  pub takes_tokens : Bool
 
 -- The words of the table.
 
 abbrev layout : String → Want → Default → Limits → Reads → RowData
-layout s w d l r = record { name = codes s; place = Layout; want = w; fallback = d; limits = l; reads = r }
+layout s w d l r = record { name = codes s; place = Layout; want = w; fallback = d; limits = l; reads = r; takes_tokens = false }
+
+abbrev layout_with_tokens : String → Want → Default → Limits → Reads → RowData
+layout_with_tokens s w d l r = record (layout s w d l r) { takes_tokens = true }
 
 abbrev paint : String → Want → Default → Limits → Reads → RowData
-paint s w d l r = record { name = codes s; place = Paint; want = w; fallback = d; limits = l; reads = r }
+paint s w d l r = record { name = codes s; place = Paint; want = w; fallback = d; limits = l; reads = r; takes_tokens = false }
 
 abbrev one_of : Choice → Want
 one_of c = wants.Enum c
@@ -171,7 +176,7 @@ symbol_rows =
     layout "icon-size" wants.Number (units 1) from_0 zf_i ∷
     layout "icon-text-fit" (one_of IconTextFit) (named "none") free z ∷
     layout "icon-text-fit-padding" numbers_4 (zeros 4) free z_i ∷
-    layout "icon-image" wants.Image absent free zf ∷
+    layout_with_tokens "icon-image" wants.Image absent free zf ∷
     layout "icon-rotate" wants.Number (units 0) free zf_i ∷
     layout "icon-keep-upright" wants.Boolean (flag false) free z ∷
     layout "icon-offset" numbers_2 (zeros 2) free zf_i ∷
@@ -179,7 +184,7 @@ symbol_rows =
     layout "icon-pitch-alignment" (one_of MapViewportAuto) (named "auto") free z ∷
     layout "text-pitch-alignment" (one_of MapViewportAuto) (named "auto") free z ∷
     layout "text-rotation-alignment" (one_of TextRotationAlignment) (named "auto") free z ∷
-    layout "text-field" wants.Shown (named "") free zf ∷
+    layout_with_tokens "text-field" wants.Shown (named "") free zf ∷
     layout "text-font" texts fonts free zf ∷
     layout "text-size" wants.Number (units 16) from_0 zf_i ∷
     layout "text-max-width" wants.Number (units 10) from_0 zf_i ∷
@@ -289,10 +294,6 @@ rows_of types.FillExtrusion = fill_extrusion_rows
 rows_of types.Raster = raster_rows
 rows_of types.Hillshade = hillshade_rows
 rows_of types.ColorRelief = color_relief_rows
-
--- A text with tokens is a token text where the row is one of these two.
-abbrev pub takes_tokens : List ℕ → Bool
-takes_tokens name = same_text name (codes "text-field") || same_text name (codes "icon-image")
 
 -- the row of a name, with its number among the rows, which are counted from this number on
 abbrev pub row_named : ℕ → List ℕ → List RowData → Option (ℕ × RowData)

@@ -39,4 +39,5 @@ pub(crate) struct Entry {
     pub given: Given,
     pub limits: Limits,
     pub reads: Reads,
+    pub takes_tokens: bool,
 }

@@ -3,7 +3,7 @@ ghost use Rattle.property_tables.specs.Stays.{FittedValuesStay};
 ghost use Rattle.property_tables.specs.TableLaws.{TableKeepsRules};
 
 /// A value that was fitted to a want is left as it is by the same want.
-#[tactic(auto, using(crate::specs::Stays::fit_again))]
+#[tactic(auto, using(crate::proofs::Stays::fit_again))]
 pub fn fitted_values_stay()
     ensures { FittedValuesStay }
 {}

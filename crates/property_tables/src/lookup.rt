@@ -1,6 +1,6 @@
-ghost use Rattle.std.specs.Prelude.{◌≡◌, true, option_map, IfSome, length, get_or, ◌<◌, ◌≤◌};
+ghost use Rattle.std.specs.Prelude.{◌≡◌, true, option_map, length, get_or, ◌<◌, ◌≤◌};
 ghost use Rattle.property_tables.specs.NameIndex.{is_index};
-ghost use Rattle.property_tables.specs.Rows.{RowData, row_of, row_named, rows_of, is_unread, takes_tokens, is_at};
+ghost use Rattle.property_tables.specs.Rows.{RowData, row_of, row_named, rows_of, is_unread, is_at};
 ghost use Rattle.property_tables.specs.RowView.{names_of, rows_seen, entry_seen, row_seen, numbered_seen, fallback_seen, given_seen};
 
 use crate::entry::{Entry, Given};
@@ -12,8 +12,7 @@ use fixed_num::Fixed;
 
 /// The row of a name in a place of a layer type, or `None` exactly where the table has none. Found by halving.
 pub fn row(layer_type: LayerType, place: Place, name: &str) -> Option<Row>
-    ensures row { option_map numbered_seen result ≡ row_of layer_type place name.now }
-    ensures tokens { IfSome result (λ r. r.tokens ≡ takes_tokens r.name.now) }
+    ensures { option_map numbered_seen result ≡ row_of layer_type place name.now }
 {
     match row_named(layer_type, name) {
         Some(found) if found.place == place => Some(found),
@@ -33,7 +32,6 @@ pub fn row_numbered(layer_type: LayerType, number: u16) -> Row
     requires { number < length (rows_of layer_type) }
     ensures row { (other : RowData) → row_seen result ≡ get_or (rows_of layer_type) number other }
     ensures number { result.number ≡ number }
-    ensures tokens { result.tokens ≡ takes_tokens result.name.now }
 {
     let (entries, _) = table_of(layer_type);
     row_at(&entries[usize::from(number)], number)
@@ -41,8 +39,7 @@ pub fn row_numbered(layer_type: LayerType, number: u16) -> Row
 
 // The row of a name, in whichever place it stands.
 fn row_named(layer_type: LayerType, name: &str) -> Option<Row>
-    ensures row { option_map numbered_seen result ≡ row_named 0 name.now (rows_of layer_type) }
-    ensures tokens { IfSome result (λ r. r.tokens ≡ takes_tokens r.name.now) }
+    ensures { option_map numbered_seen result ≡ row_named 0 name.now (rows_of layer_type) }
 {
     let (entries, order) = table_of(layer_type);
     row_among(entries, order, name)
@@ -72,8 +69,7 @@ fn table_of(layer_type: LayerType) -> (&'static [Entry], &'static [u8])
 fn row_among(entries: &[Entry], order: &[u8], name: &str) -> Option<Row>
     requires index { is_index (names_of entries.now) order.now ≡ true }
     requires few { length entries.now ≤ 1000 }
-    ensures row { option_map numbered_seen result ≡ row_named 0 name.now (rows_seen entries.now) }
-    ensures tokens { IfSome result (λ r. r.tokens ≡ takes_tokens r.name.now) }
+    ensures { option_map numbered_seen result ≡ row_named 0 name.now (rows_seen entries.now) }
 {
     match place_named(entries, order, name) {
         Some(place) => Some(row_at(&entries[place], place as u16)),
@@ -84,7 +80,6 @@ fn row_among(entries: &[Entry], order: &[u8], name: &str) -> Option<Row>
 fn row_at(entry: &Entry, number: u16) -> Row
     ensures row { row_seen result ≡ entry_seen entry.now }
     ensures number { result.number ≡ number }
-    ensures tokens { result.tokens ≡ takes_tokens result.name.now }
 {
     Row {
         name: entry.name,
@@ -98,7 +93,7 @@ fn row_at(entry: &Entry, number: u16) -> Row
         feature: entry.reads.feature,
         state: entry.reads.state,
         ramps: entry.reads.ramps,
-        tokens: matches!(entry.name, "text-field" | "icon-image"),
+        takes_tokens: entry.takes_tokens,
     }
 }
 

@@ -1,3 +1,5 @@
+ghost use Rattle.std.specs.Prelude.{◌≡◌};
+
 use fixed_num::Fixed;
 use prop_values::Want;
 
@@ -41,5 +43,42 @@ pub struct Row {
     /// Whether a function goes linearly between its stops where its type is not given, and may be exponential.
     pub ramps: bool,
     /// Whether a text with tokens is a token text.
-    pub tokens: bool,
+    pub takes_tokens: bool,
+}
+
+impl Row {
+    /// The same row, from behind a reference.
+    pub fn copy(&self) -> Row
+        ensures { result ≡ self.now }
+    {
+        Row {
+            name: self.name,
+            number: self.number,
+            place: self.place,
+            want: self.want,
+            fallback: self.fallback.copy(),
+            least: self.least,
+            most: self.most,
+            zoom: self.zoom,
+            feature: self.feature,
+            state: self.state,
+            ramps: self.ramps,
+            takes_tokens: self.takes_tokens,
+        }
+    }
+}
+
+impl Fallback {
+    fn copy(&self) -> Fallback
+        ensures { result ≡ self.now }
+    {
+        match self {
+            Fallback::Absent => Fallback::Absent,
+            Fallback::Flag(flag) => Fallback::Flag(*flag),
+            Fallback::Number(number) => Fallback::Number(*number),
+            Fallback::Word(word) => Fallback::Word(*word),
+            Fallback::Zeros(count) => Fallback::Zeros(*count),
+            Fallback::Fonts => Fallback::Fonts,
+        }
+    }
 }

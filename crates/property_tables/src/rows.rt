@@ -92,8 +92,9 @@ const ZFS_I: Reads = Reads {
     ramps: true,
 };
 
+// A row that ends with `tokens` takes token texts.
 macro_rules! rows {
-    ($($place:ident $name:literal: $want:expr, $given:expr, $limits:expr, $reads:expr;)*) => {
+    ($($place:ident $name:literal: $want:expr, $given:expr, $limits:expr, $reads:expr $(, $tokens:ident)?;)*) => {
         [$(Entry {
             name: $name,
             place: Place::$place,
@@ -101,7 +102,17 @@ macro_rules! rows {
             given: $given,
             limits: $limits,
             reads: $reads,
+            takes_tokens: takes!($($tokens)?),
         }),*]
+    };
+}
+
+macro_rules! takes {
+    () => {
+        false
+    };
+    (tokens) => {
+        true
     };
 }
 
@@ -164,7 +175,7 @@ pub(crate) static SYMBOL: [Entry; 57] = rows! {
     Layout "icon-size": NUMBER, Given::Amount(1_000_000), FROM_0, ZF_I;
     Layout "icon-text-fit": Want::Enum(Choice::IconTextFit), Given::Word("none"), FREE, Z;
     Layout "icon-text-fit-padding": NUMBERS_4, Given::Zeros(4), FREE, Z_I;
-    Layout "icon-image": IMAGE, ABSENT, FREE, ZF;
+    Layout "icon-image": IMAGE, ABSENT, FREE, ZF, tokens;
     Layout "icon-rotate": NUMBER, Given::Amount(0), FREE, ZF_I;
     Layout "icon-keep-upright": BOOLEAN, Given::Flag(false), FREE, Z;
     Layout "icon-offset": NUMBERS_2, Given::Zeros(2), FREE, ZF_I;
@@ -172,7 +183,7 @@ pub(crate) static SYMBOL: [Entry; 57] = rows! {
     Layout "icon-pitch-alignment": Want::Enum(Choice::MapViewportAuto), Given::Word("auto"), FREE, Z;
     Layout "text-pitch-alignment": Want::Enum(Choice::MapViewportAuto), Given::Word("auto"), FREE, Z;
     Layout "text-rotation-alignment": Want::Enum(Choice::TextRotationAlignment), Given::Word("auto"), FREE, Z;
-    Layout "text-field": SHOWN, Given::Word(""), FREE, ZF;
+    Layout "text-field": SHOWN, Given::Word(""), FREE, ZF, tokens;
     Layout "text-font": TEXTS, Given::Fonts, FREE, ZF;
     Layout "text-size": NUMBER, Given::Amount(16_000_000), FROM_0, ZF_I;
     Layout "text-max-width": NUMBER, Given::Amount(10_000_000), FROM_0, ZF_I;

@@ -75,7 +75,7 @@ text_source _ = outside
 
 abbrev pub formed_source : Form → RowData → List (List ℕ × Data) → Tree → Source
 formed_source forms.Expression row globals t = term_source (reading_with t globals)
-formed_source forms.Function row globals t = function_source row (functions.form (values.target_of row) t)
+formed_source forms.Function row globals t = function_source row (functions.form row t)
 formed_source forms.TokenText row globals t = text_source t
 formed_source forms.Literal row globals t = literal_source (literal_of t row)
 

@@ -3,13 +3,11 @@
 ghost use Rattle.std.specs.Prelude.{◌≡◌, IfOk};
 ghost use Rattle.decimal_json.specs.View.{tree_of, tree_at};
 ghost use Rattle.property_tables.specs.RowView.{row_seen};
-ghost use Rattle.property_tables.specs.Rows.{takes_tokens};
 ghost use Rattle.expr_syntax.specs.Mentioned.{mentions};
 ghost use Rattle.expr_syntax.specs.Reading.{reading_with};
 ghost use Rattle.expr_syntax.specs.TermView.{term_of};
 ghost use Rattle.legacy_functions.specs.Form.{form};
 ghost use Rattle.property_tables.specs.Literals.{literal_of};
-ghost use Rattle.value_forms.specs.Forms.{target_of};
 ghost use Rattle.style_layout.specs.CodeView.{source_seen, filter_seen};
 ghost use Rattle.style_layout.specs.Forms.{source_of, is_per_feature, filter_source, literal_source, term_source, function_source, text_source, reads_feature, term_mentions};
 
@@ -51,7 +49,6 @@ pub(crate) fn source_of(
     globals: &Entries,
     json: &Json,
 ) -> Result<Source, AllocError>
-    requires { row.now.tokens ≡ takes_tokens row.now.name.now }
     ensures { IfOk result (λ source. source_seen source ≡ source_of (row_seen row.now) globals.now (tree_of json.now)) }
 {
     match form_of(row, json) {
@@ -90,8 +87,7 @@ fn term_source(alloc: Global, globals: &Entries, json: &Json) -> Result<Source, 
 }
 
 fn function_source(alloc: Global, row: &Row, json: &Json) -> Result<Source, AllocError>
-    requires { row.now.tokens ≡ takes_tokens row.now.name.now }
-    ensures { IfOk result (λ source. source_seen source ≡ function_source (row_seen row.now) (form (target_of (row_seen row.now)) (tree_of json.now))) }
+    ensures { IfOk result (λ source. source_seen source ≡ function_source (row_seen row.now) (form (row_seen row.now) (tree_of json.now))) }
 {
     match legacy_functions::read(alloc, json, row)? {
         Ok(FunctionReading::Inside(function)) => Ok(Source::Function(function)),

@@ -1,10 +1,10 @@
 //! The properties that a layer sets, each read once.
 
-ghost use Rattle.std.specs.Prelude.{◌≡◌, ◌++◌, ◌<◌, length, get_or, map, OnOk, IfOk, IfSome, Some, option_map};
+ghost use Rattle.std.specs.Prelude.{◌≡◌, ◌++◌, ◌<◌, length, get_or, map, OnOk, IfOk, Some, option_map};
 ghost use Rattle.decimal_json.specs.Tree.{object, fields_of};
 ghost use Rattle.decimal_json.specs.View.{tree_of, tree_at};
 ghost use Rattle.property_tables.specs.RowView.{row_seen};
-ghost use Rattle.property_tables.specs.Rows.{RowData, rows_of, takes_tokens};
+ghost use Rattle.property_tables.specs.Rows.{RowData, rows_of};
 ghost use Rattle.style_layout.specs.CodeView.{property_seen};
 ghost use Rattle.style_layout.specs.Forms.{property_of};
 ghost use Rattle.style_layout.specs.Layers.{properties_of, set_property, set_value};
@@ -12,7 +12,7 @@ ghost use Rattle.style_layout.specs.Layers.{properties_of, set_property, set_val
 use crate::forms::{Source, is_per_feature, source_of};
 use decimal_json::{Json, Members};
 use prop_values::{Entries, Value};
-use property_tables::{Fallback, LayerType, Place, Row, default_value, row_count, row_numbered};
+use property_tables::{LayerType, Place, Row, default_value, row_count, row_numbered};
 use std::alloc::{AllocError, Global};
 
 /// A property that is set.
@@ -63,7 +63,6 @@ fn push_numbered(
 fn row_at(layer_type: LayerType, number: u16) -> Option<Row>
     requires { number < length (rows_of layer_type) }
     ensures row { (other : RowData) → option_map row_seen result ≡ Some (get_or (rows_of layer_type) number other) }
-    ensures tokens { IfSome result (λ row. row.tokens ≡ takes_tokens row.name.now) }
 {
     Some(row_numbered(layer_type, number))
 }
@@ -76,7 +75,6 @@ fn push_if_set(
     row: &Row,
     properties: &mut Vec<Property>,
 ) -> Result<(), AllocError>
-    requires { row.now.tokens ≡ takes_tokens row.now.name.now }
     ensures { OnOk result (map property_seen properties.new.items
         ≡ map property_seen properties.old.items ++ set_property globals.now (object (fields_of layer.now)) (row_seen row.now)) }
 {
@@ -110,48 +108,15 @@ fn read_property(
     row: &Row,
     json: &Json,
 ) -> Result<Property, AllocError>
-    requires { row.now.tokens ≡ takes_tokens row.now.name.now }
     ensures { IfOk result (λ property. property_seen property ≡ property_of (row_seen row.now) globals.now (tree_of json.now)) }
 {
     let source = source_of(alloc, row, globals, json)?;
     let is_per_feature = is_per_feature(alloc, globals, &source)?;
     let fallback = default_value(alloc, row)?;
     Ok(Property {
-        row: copy_of(row),
+        row: row.copy(),
         source,
         fallback,
         is_per_feature,
     })
-}
-
-fn copy_of(row: &Row) -> Row
-    ensures { result ≡ row.now }
-{
-    Row {
-        name: row.name,
-        number: row.number,
-        place: row.place,
-        want: row.want,
-        fallback: fallback_of(&row.fallback),
-        least: row.least,
-        most: row.most,
-        zoom: row.zoom,
-        feature: row.feature,
-        state: row.state,
-        ramps: row.ramps,
-        tokens: row.tokens,
-    }
-}
-
-fn fallback_of(fallback: &Fallback) -> Fallback
-    ensures { result ≡ fallback.now }
-{
-    match fallback {
-        Fallback::Absent => Fallback::Absent,
-        Fallback::Flag(flag) => Fallback::Flag(*flag),
-        Fallback::Number(number) => Fallback::Number(*number),
-        Fallback::Word(word) => Fallback::Word(*word),
-        Fallback::Zeros(count) => Fallback::Zeros(*count),
-        Fallback::Fonts => Fallback::Fonts,
-    }
 }

@@ -14,7 +14,7 @@ use Rattle.legacy_functions.specs.Tokens.{token_expression}
 use Rattle.legacy_filters.specs.Migrated.{migrated_filter}
 use Rattle.value_forms.specs.declared.forms.Form.TheVariants as forms
 use Rattle.value_forms.specs.LayerTypes.{layer_type, tested_type, place_named}
-use Rattle.value_forms.specs.Forms.{form_of, target_of}
+use Rattle.value_forms.specs.Forms.{form_of}
 use Rattle.value_forms.specs.declared.forms.Form.{Form}
 
 -- ---- the value of a property, by the form that it has
@@ -30,7 +30,7 @@ tokens_or (text s) = token_expression s
 tokens_or t = t
 
 abbrev pub value_by_form : Form → RowData → Tree → Tree
-value_by_form forms.Function row t = function_or row t (functions.form (target_of row) t)
+value_by_form forms.Function row t = function_or row t (functions.form row t)
 value_by_form forms.TokenText row t = tokens_or t
 value_by_form forms.Expression row t = t
 value_by_form forms.Literal row t = t

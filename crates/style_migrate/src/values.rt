@@ -3,9 +3,7 @@
 ghost use Rattle.std.specs.Prelude.{◌≡◌, IfOk};
 ghost use Rattle.decimal_json.specs.View.{tree_of};
 ghost use Rattle.property_tables.specs.RowView.{row_seen};
-ghost use Rattle.property_tables.specs.Rows.{takes_tokens};
 ghost use Rattle.legacy_functions.specs.Form.{form};
-ghost use Rattle.value_forms.specs.Forms.{target_of};
 ghost use Rattle.style_migrate.specs.Migrated.{migrated_value, function_or, tokens_or};
 
 use decimal_json::{Json, copy};
@@ -16,7 +14,6 @@ use value_forms::{Form, form_of};
 
 /// The migrated value of a property of a row. A row of literals alone keeps its value.
 pub(crate) fn migrate_value(alloc: Global, row: &Row, json: &Json) -> Result<Json, AllocError>
-    requires { row.now.tokens ≡ takes_tokens row.now.name.now }
     ensures { IfOk result (λ made. tree_of made ≡ migrated_value (row_seen row.now) (tree_of json.now)) }
 {
     match form_of(row, json) {
@@ -37,9 +34,8 @@ fn migrate_tokens(alloc: Global, json: &Json) -> Result<Json, AllocError>
 }
 
 fn migrate_function(alloc: Global, row: &Row, json: &Json) -> Result<Json, AllocError>
-    requires { row.now.tokens ≡ takes_tokens row.now.name.now }
     ensures { IfOk result (λ made. tree_of made
-        ≡ function_or (row_seen row.now) (tree_of json.now) (form (target_of (row_seen row.now)) (tree_of json.now))) }
+        ≡ function_or (row_seen row.now) (tree_of json.now) (form (row_seen row.now) (tree_of json.now))) }
 {
     match read(alloc, json, row)? {
         Ok(FunctionReading::Inside(function)) => function.to_expr(alloc),

@@ -18,7 +18,7 @@ use Rattle.legacy_functions.specs.Form as functions
 use Rattle.legacy_functions.specs.Function.{Function, has_zooms}
 use Rattle.legacy_functions.specs.ToExpression.{function_expression}
 use Rattle.value_forms.specs.declared.forms.Form.TheVariants as forms
-use Rattle.value_forms.specs.Forms.{form_of, target_of}
+use Rattle.value_forms.specs.Forms.{form_of}
 use Rattle.value_forms.specs.declared.forms.Form.{Form}
 use Rattle.style_rules.specs.declared.told.Mark.{Mark}
 use Rattle.style_rules.specs.declared.told.Mark.TheVariants.{Broken, Outside, Sound}
@@ -72,7 +72,7 @@ function_mark row None = Broken [] 19
 
 abbrev pub form_mark : Form → RowData → Tree → Mark
 form_mark forms.Expression row t = expression_mark row.want (Some row) t
-form_mark forms.Function row t = function_mark row (functions.form (target_of row) t)
+form_mark forms.Function row t = function_mark row (functions.form row t)
 form_mark forms.TokenText row t = Sound no_faults
 form_mark forms.Literal row t = literal_mark row t
 

@@ -3,10 +3,8 @@
 ghost use Rattle.std.specs.Prelude.{◌≡◌, [], Some, option_map, IfOk};
 ghost use Rattle.decimal_json.specs.View.{tree_of};
 ghost use Rattle.property_tables.specs.RowView.{row_seen};
-ghost use Rattle.property_tables.specs.Rows.{takes_tokens};
 ghost use Rattle.legacy_functions.specs.Form.{form};
 ghost use Rattle.legacy_functions.specs.View.{function_of, row_of};
-ghost use Rattle.value_forms.specs.Forms.{target_of};
 ghost use Rattle.style_rules.specs.CodeView.{judged_mark};
 ghost use Rattle.style_rules.specs.Values.{value_mark, literal_mark, expression_mark, rule_of, function_mark, function_reads, faults_told};
 
@@ -22,7 +20,6 @@ use value_forms::{Form, form_of};
 
 /// What is told of the value of a property of a row.
 pub(crate) fn value_mark(alloc: Global, row: &Row, json: &Json) -> Result<Mark, AllocError>
-    requires { row.now.tokens ≡ takes_tokens row.now.name.now }
     ensures { IfOk result (λ mark. mark ≡ value_mark (row_seen row.now) (tree_of json.now)) }
 {
     match form_of(row, json) {
@@ -87,8 +84,7 @@ fn rule_of(code: TypeCode) -> u8
 }
 
 fn function_mark(alloc: Global, row: &Row, json: &Json) -> Result<Mark, AllocError>
-    requires { row.now.tokens ≡ takes_tokens row.now.name.now }
-    ensures { IfOk result (λ mark. mark ≡ function_mark (row_seen row.now) (form (target_of (row_seen row.now)) (tree_of json.now))) }
+    ensures { IfOk result (λ mark. mark ≡ function_mark (row_seen row.now) (form (row_seen row.now) (tree_of json.now))) }
 {
     match read(alloc, json, row)? {
         Ok(FunctionReading::Inside(function)) => inside_mark(alloc, row, &function),

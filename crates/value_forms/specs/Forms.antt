@@ -3,9 +3,8 @@ use Rattle.std.specs.Prelude.{codes, Bool, false, ◌&&◌, is_some, if◌then�
 use Rattle.std.specs.Str.{bytes_eq}
 use Rattle.decimal_json.specs.Accessors.{is_object}
 use Rattle.decimal_json.specs.Tree.{Tree, text, list, tree}
-use Rattle.property_tables.specs.Rows.{RowData, takes_tokens}
+use Rattle.property_tables.specs.Rows.{RowData}
 use Rattle.expr_syntax.specs.Names.{name_of}
-use Rattle.legacy_functions.specs.Form.{Target}
 use Rattle.legacy_functions.specs.Tokens.{has_tokens}
 use Rattle.value_forms.specs.declared.forms.Form.{Form}
 use Rattle.value_forms.specs.declared.forms.Form.TheVariants.{Expression, Function, TokenText, Literal}
@@ -19,7 +18,7 @@ abbrev pub is_function : Tree → Bool
 is_function t = is_object t
 
 abbrev pub is_token_text : RowData → Tree → Bool
-is_token_text row (text s) = takes_tokens row.name && has_tokens s
+is_token_text row (text s) = row.takes_tokens && has_tokens s
 is_token_text row _ = false
 
 -- `visibility` takes a literal alone
@@ -33,7 +32,3 @@ form_of row t =
     if is_function t then Function else
     if is_token_text row t then TokenText else
     Literal
-
--- what a legacy function is read for
-abbrev pub target_of : RowData → Target
-target_of row = record { row = row; takes_tokens = takes_tokens row.name }

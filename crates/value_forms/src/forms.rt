@@ -4,7 +4,6 @@ ghost use Rattle.std.specs.Prelude.{◌≡◌};
 ghost use Rattle.decimal_json.specs.Tree.{list};
 ghost use Rattle.decimal_json.specs.View.{tree_of, trees};
 ghost use Rattle.property_tables.specs.RowView.{row_seen};
-ghost use Rattle.property_tables.specs.Rows.{takes_tokens};
 ghost use Rattle.value_forms.specs.Forms.{form_of, is_expression, is_token_text};
 
 use decimal_json::Json;
@@ -26,7 +25,6 @@ pub enum Form {
 
 /// The form of a value of a row. `visibility` takes a literal alone.
 pub fn form_of(row: &Row, json: &Json) -> Form
-    requires { row.now.tokens ≡ takes_tokens row.now.name.now }
     ensures { result ≡ form_of (row_seen row.now) (tree_of json.now) }
 {
     if row.name == "visibility" {
@@ -63,11 +61,10 @@ fn is_call(items: &[Json]) -> bool
 }
 
 fn is_token_text(row: &Row, json: &Json) -> bool
-    requires { row.now.tokens ≡ takes_tokens row.now.name.now }
     ensures { result ≡ is_token_text (row_seen row.now) (tree_of json.now) }
 {
     match json {
-        Json::Text(text) => row.tokens && has_tokens(text.as_str()),
+        Json::Text(text) => row.takes_tokens && has_tokens(text.as_str()),
         _ => false,
     }
 }

@@ -1,4 +1,4 @@
-use Rattle.std.proofs.Common.{◌≡◌, pos, replicate, length}
+use Rattle.std.proofs.Common.{◌≡◌, pos, replicate}
 use Rattle.prop_values.specs.Data.{number}
 use Rattle.property_tables.proofs.defaults.zeros.Given as goal
 

@@ -1,10 +1,9 @@
-use Rattle.std.proofs.Common.{◌≡◌, ◌∙◌, ℕ, ◌+◌, ◌-◌, ◌<◌, ◌≤◌, ◌/◌, sym, ap, subst, length, arith, rules}
+use Rattle.std.proofs.Common.{◌∙◌, ◌+◌, ◌-◌, ◌<◌, ◌/◌, sym, ap, length, arith}
 use Rattle.std.proofs.Common.{nat_cmp, inl, inr}
 use Rattle.std.specs.Prelude.{ltb}
 use Rattle.std.specs.Cmp.Lexicographic.{slice_cmp}
 use Rattle.std.proofs.lemmas.Bool.{cases_Bool, ltb-true, ltb-false}
 use Rattle.std.proofs.lemmas.List.{length-map}
-use Rattle.property_tables.specs.NameIndex.{is_index, IsPlaceOf, IsNowhere, name_at}
 use Rattle.property_tables.specs.RowView.{names_of}
 use Rattle.property_tables.proofs.NameIndexes.{placed, same_order, place_within, not_below, not_above, nowhere_from_order, place_from_order, entry_name}
 use Rattle.property_tables.proofs.search.place_named.Goals as goal
