@@ -88,7 +88,7 @@ fn type_by_parts(parts: &LayerParts<'_>) -> Option<LayerType>
     if parts.has_ref {
         return None;
     }
-    parts.layer_type.and_then(type_in)
+    type_in(parts.layer_type?)
 }
 
 fn sources_for(sources: Option<&Members>, layer_type: Option<LayerType>) -> Option<&Members>
