@@ -2,6 +2,7 @@
 use Rattle.std.specs.Prelude.{ℕ, List, Bool, Option, option_map, is_some, Result, Ok, Err}
 use Rattle.std.specs.Borrow.{Bor}
 use Rattle.decimal_json.specs.Tree.{Tree, Fields, fields_of}
+use Rattle.decimal_json.specs.View.{tree_at}
 use Rattle.decimal_json.specs.declared.paths.PathPart.{PathPart}
 use Rattle.prop_values.specs.Data.{Data, pairs_of}
 use Rattle.prop_values.specs.Equality.{at_key}

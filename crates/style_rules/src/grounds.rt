@@ -6,7 +6,7 @@ ghost use Rattle.decimal_json.specs.Tree.{object, HasDistinctKeys};
 ghost use Rattle.decimal_json.specs.View.{tree_of, fields, members_view, tree_at};
 ghost use Rattle.decimal_json.specs.Accessors.{text_in};
 ghost use Rattle.style_parts.specs.Parts.{is_among};
-ghost use Rattle.value_forms.specs.LayerTypes.{layer_type, type_in};
+ghost use Rattle.value_forms.specs.LayerTypes.{type_in};
 ghost use Rattle.style_rules.specs.CodeView.{fields_at, text_at, ground_seen, parts_seen};
 ghost use Rattle.style_rules.specs.Ground.{sources_for, named_type, source_type, source_types, is_source};
 ghost use Rattle.style_rules.specs.LayerParts.{parts_of, with_member, type_by_parts, ground_by_parts};
@@ -88,7 +88,7 @@ fn type_by_parts(parts: &LayerParts<'_>) -> Option<LayerType>
     if parts.has_ref {
         return None;
     }
-    parts.layer_type.and_then(type_in)
+    type_in(parts.layer_type?)
 }
 
 fn sources_for(sources: Option<&Members>, layer_type: Option<LayerType>) -> Option<&Members>
