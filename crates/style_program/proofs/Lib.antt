@@ -1,10 +1,11 @@
-pub mod OneOutcome
-pub mod Answered
-pub mod Moved
-pub mod ListedFaults
 mod TypedOutcome
-pub mod TileWords
-pub mod TileRuns
-pub mod ShownRuns
-pub mod ScriptRuns
+pub mod Answered
 pub mod AtFirst
+pub mod Kept
+pub mod ListedFaults
+pub mod Moved
+pub mod OneOutcome
+pub mod ScriptRuns
+pub mod ShownRuns
+pub mod TileRuns
+pub mod TileWords

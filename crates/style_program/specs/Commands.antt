@@ -1,5 +1,5 @@
 -- The run of each command, and of the words after the program's name.
-use Rattle.std.specs.Prelude.{ℕ, List, ◌++◌, codes, Bool}
+use Rattle.std.specs.Prelude.{ℕ, List, [], ◌++◌, codes, Bool}
 use Rattle.program_runs.specs.declared.status.Ending.TheVariants.{Fine, Usage}
 use Rattle.program_runs.specs.Outcome.{line, said, told}
 use Rattle.program_runs.specs.Runs.{Run, ends}
@@ -10,16 +10,45 @@ use Rattle.style_program.specs.ValidateRun.{validate_run}
 use Rattle.style_program.specs.ValueRun.{value_run}
 use Rattle.style_program.specs.Words as words
 
+-- Source: own.
 abbrev pub help_text : List ℕ
 help_text =
-    line (codes "value EXPR                      prints the value of an expression as JSON, or error and the fault's name") ++
-    line (codes "validate STYLE                  prints what a style breaks and invalid, or what may go wrong and valid") ++
-    line (codes "migrate STYLE                   prints a style with its legacy forms as expressions, or what it breaks and invalid") ++
-    line (codes "eval STYLE ZOOM SOURCE=TILE ..  prints what a style shows at a zoom over tiles of its sources") ++
-    line (codes "replay STYLE SCRIPT ZOOM SOURCE=TILE ..") ++
-    line (codes "                                prints what each line of an edit script is answered, listings of the edited style among them") ++
-    line (codes "--help                          prints these lines") ++
-    line (codes "--version                       prints the program's name and version")
+    line (codes "pirgesh checks, upgrades and evaluates MapLibre styles. Every answer is proved.") ++
+    line [] ++
+    line (codes "usage: pirgesh value EXPR") ++
+    line (codes "       pirgesh validate STYLE") ++
+    line (codes "       pirgesh migrate STYLE") ++
+    line (codes "       pirgesh eval STYLE ZOOM [SOURCE=TILE ..]") ++
+    line (codes "       pirgesh replay STYLE SCRIPT ZOOM [SOURCE=TILE ..]") ++
+    line (codes "       pirgesh --help") ++
+    line (codes "       pirgesh --version") ++
+    line [] ++
+    line (codes "  value     the value of an expression as JSON, or error and the fault's name") ++
+    line (codes "  validate  the rules that a style breaks and invalid, or what may fail and valid") ++
+    line (codes "  migrate   a style with its legacy forms as expressions, or the rules that it breaks and invalid") ++
+    line (codes "  eval      what a style shows at a zoom over tiles of its sources") ++
+    line (codes "  replay    the answer to each line of a script, which edits the style and asks for listings") ++
+    line [] ++
+    line (codes "STYLE, SCRIPT and TILE are files, and /dev/stdin is standard input. ZOOM is a number from 0 to 24.") ++
+    line (codes "SOURCE names a source of the style, and TILE is an uncompressed vector tile of it.") ++
+    line (codes "EXPR is one word, so quote it:") ++
+    line [] ++
+    line (codes "  pirgesh value '[\"+\",0.1,0.2]'") ++
+    line (codes "  pirgesh validate style.json") ++
+    line (codes "  pirgesh eval style.json 14.5 town=tile.mvt") ++
+    line (codes "  gzip -dc tile.mvt.gz | pirgesh eval style.json 14.5 town=/dev/stdin") ++
+    line [] ++
+    line (codes "Exit status, and the line on standard error:") ++
+    line (codes "  0  everything was written") ++
+    line (codes "  1  value gave a fault, the style is invalid, or a line of the script was refused") ++
+    line (codes "  2  usage: unknown command or wrong arguments") ++
+    line (codes "  3  refused ..: the expression, style, tile or script is not accepted, and why") ++
+    line (codes "  4  read NAME: this file could not be read") ++
+    line (codes "  5  standard output or standard error could not be written") ++
+    line (codes "  6  memory was not enough") ++
+    line (codes "  7  an argument is not UTF-8") ++
+    line [] ++
+    line (codes "docs/MESSAGES.md explains each message, and docs/REFERENCE.md is the manual.")
 
 abbrev pub version_text : List ℕ
 version_text = line (codes "pirgesh 0.1.0")

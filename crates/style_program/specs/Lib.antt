@@ -9,6 +9,7 @@ pub mod ShownRun
 pub mod EvalRun
 pub mod ReplayRun
 pub mod Commands
+pub mod Promises
 pub mod ListedFaults
 -- A law of these.
 pub mod OneOutcome

@@ -1,6 +1,6 @@
 -- What the words of a command line ask for.
-use Rattle.std.specs.Prelude.{ℕ, zero, suc, ◌+◌, ℤ, List, [], ◌∷◌, ◌++◌, length, filter, codes, nat_eq, nat_lt, Bool, true, ◌&&◌, Option, Some, None, is_some, Result, Ok, Err, if◌then◌else◌}
-use Rattle.std.specs.List.{before_first, after_first, filter_map, list_all}
+use Rattle.std.specs.Prelude.{ℕ, ℤ, List, [], ◌∷◌, length, filter, codes, nat_eq, nat_le, Bool, not, ◌&&◌, Option, Some, None, option_map, Result, Ok, Err, if◌then◌else◌}
+use Rattle.std.specs.List.{before_first, after_first, list_all}
 use Rattle.std.specs.Str.{bytes_eq}
 use Rattle.fixed_num.specs.Decimal.{read_text}
 use Rattle.fixed_num.specs.declared.decimal.NumFault.{NumFault}
@@ -47,12 +47,14 @@ both (a ∷ as_) (b ∷ bs) = Some (a ∷ as_, b ∷ bs)
 abbrev pub source_and_tile : List ℕ → Option (List ℕ × List ℕ)
 source_and_tile word = both (before_first (λ b. nat_eq b 61) word) (after_first (λ b. nat_eq b 61) word)
 
-abbrev pub are_pairs : List (List ℕ) → Bool
-are_pairs words = list_all (λ word. is_some (source_and_tile word)) words
+-- the tiles that words name, or nothing where a word has another form
+abbrev pub and_tile : Option TileWord → Option (List TileWord) → Option (List TileWord)
+and_tile (Some t) (Some ts) = Some (t ∷ ts)
+and_tile _ _ = None
 
--- the words of this form among words
-abbrev pub tile_words : List (List ℕ) → List TileWord
-tile_words words = filter_map source_and_tile words
+abbrev pub tiles_named : List (List ℕ) → Option (List TileWord)
+tiles_named [] = Some []
+tiles_named (w ∷ ws) = and_tile (source_and_tile w) (tiles_named ws)
 
 -- ---- at most 64 tiles of each of at most sixteen sources
 
@@ -62,35 +64,30 @@ most_sources = 16
 abbrev pub most_tiles : ℕ
 most_tiles = 64
 
+abbrev pub is_of : (source : List ℕ) → TileWord → Bool
+is_of source t = bytes_eq t.0 source
+
 -- how many of the tiles are of a source
 abbrev pub count_of : List ℕ → List TileWord → ℕ
-count_of source tiles = length (filter (λ (t : TileWord). bytes_eq t.0 source) tiles)
+count_of source tiles = length (filter (is_of source) tiles)
 
--- a tile after so many sources, by how many tiles of its own source stand before it
-abbrev pub is_allowed : (sources before : ℕ) → Bool
-is_allowed sources zero = nat_lt sources most_sources
-is_allowed sources (suc n) = nat_lt (suc n) most_tiles
-
-abbrev pub with_source : (sources before : ℕ) → ℕ
-with_source sources zero = sources + 1
-with_source sources (suc n) = sources
-
-abbrev pub are_allowed_after : (sources : ℕ) (before : List TileWord) → List TileWord → Bool
-are_allowed_after sources before [] = true
-are_allowed_after sources before (t ∷ ts) =
-    is_allowed sources (count_of t.0 before) && are_allowed_after (with_source sources (count_of t.0 before)) (before ++ t ∷ []) ts
+-- the sources of tiles, each once
+abbrev pub sources_of : List TileWord → List (List ℕ)
+sources_of [] = []
+sources_of (t ∷ ts) = t.0 ∷ filter (λ source. not (bytes_eq source t.0)) (sources_of ts)
 
 abbrev pub are_allowed : List TileWord → Bool
-are_allowed tiles = are_allowed_after 0 [] tiles
+are_allowed tiles =
+    nat_le (length (sources_of tiles)) most_sources && list_all (λ (t : TileWord). nat_le (count_of t.0 tiles) most_tiles) tiles
 
-abbrev pub are_tiles : List (List ℕ) → Bool
-are_tiles words = are_pairs words && are_allowed (tile_words words)
+abbrev pub if_allowed : Option (List TileWord) → Option (List TileWord)
+if_allowed (Some tiles) = if are_allowed tiles then Some tiles else None
+if_allowed None = None
 
 -- a style at a zoom, which is a decimal within the bound, over tiles
 abbrev pub shown_words : List ℕ → Result ℤ NumFault → List (List ℕ) → Option EvalWords
-shown_words style (Ok zoom) tiles =
-    if are_tiles tiles then Some (record { style = style; zoom = zoom; tiles = tile_words tiles }) else None
-shown_words style (Err fault) tiles = None
+shown_words style (Ok zoom) words = option_map (λ tiles. record { style = style; zoom = zoom; tiles = tiles }) (if_allowed (tiles_named words))
+shown_words style (Err fault) words = None
 
 abbrev pub asked_eval : Option EvalWords → Asked
 asked_eval (Some w) = Eval w

@@ -10,7 +10,7 @@
 //! (`words_have_one_outcome`). Where nothing outside fails and memory suffices, the run has its outcome; in every run what is written is a
 //! prefix of it, or of the line that tells which file could not be read; and each status has its cause.
 //!
-//! The text to believe is in `specs/`: `Words`, `Refusals`, `ValueRun`, `StyleFile`, `ValidateRun`, `MigrateRun`, `ShownRun`, `EvalRun`, `ReplayRun`, `Commands`. Law of it: `OneOutcome`.
+//! The text to believe is in `specs/`: `Words`, `Refusals`, `ValueRun`, `StyleFile`, `ValidateRun`, `MigrateRun`, `ShownRun`, `EvalRun`, `ReplayRun`, `Commands`, `Promises`, `ListedFaults`. Law of it: `OneOutcome`.
 #![tactic(auto)]
 
 mod eval_command;

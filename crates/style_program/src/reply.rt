@@ -17,14 +17,42 @@ use program_runs::{Answer, Halt, answer_said, answer_usage};
 use std::alloc::Global;
 
 const HELP: &[u8] =
-    b"value EXPR                      prints the value of an expression as JSON, or error and the fault's name
-validate STYLE                  prints what a style breaks and invalid, or what may go wrong and valid
-migrate STYLE                   prints a style with its legacy forms as expressions, or what it breaks and invalid
-eval STYLE ZOOM SOURCE=TILE ..  prints what a style shows at a zoom over tiles of its sources
-replay STYLE SCRIPT ZOOM SOURCE=TILE ..
-                                prints what each line of an edit script is answered, listings of the edited style among them
---help                          prints these lines
---version                       prints the program's name and version
+    b"pirgesh checks, upgrades and evaluates MapLibre styles. Every answer is proved.
+
+usage: pirgesh value EXPR
+       pirgesh validate STYLE
+       pirgesh migrate STYLE
+       pirgesh eval STYLE ZOOM [SOURCE=TILE ..]
+       pirgesh replay STYLE SCRIPT ZOOM [SOURCE=TILE ..]
+       pirgesh --help
+       pirgesh --version
+
+  value     the value of an expression as JSON, or error and the fault's name
+  validate  the rules that a style breaks and invalid, or what may fail and valid
+  migrate   a style with its legacy forms as expressions, or the rules that it breaks and invalid
+  eval      what a style shows at a zoom over tiles of its sources
+  replay    the answer to each line of a script, which edits the style and asks for listings
+
+STYLE, SCRIPT and TILE are files, and /dev/stdin is standard input. ZOOM is a number from 0 to 24.
+SOURCE names a source of the style, and TILE is an uncompressed vector tile of it.
+EXPR is one word, so quote it:
+
+  pirgesh value '[\"+\",0.1,0.2]'
+  pirgesh validate style.json
+  pirgesh eval style.json 14.5 town=tile.mvt
+  gzip -dc tile.mvt.gz | pirgesh eval style.json 14.5 town=/dev/stdin
+
+Exit status, and the line on standard error:
+  0  everything was written
+  1  value gave a fault, the style is invalid, or a line of the script was refused
+  2  usage: unknown command or wrong arguments
+  3  refused ..: the expression, style, tile or script is not accepted, and why
+  4  read NAME: this file could not be read
+  5  standard output or standard error could not be written
+  6  memory was not enough
+  7  an argument is not UTF-8
+
+docs/MESSAGES.md explains each message, and docs/REFERENCE.md is the manual.
 ";
 
 const VERSION: &[u8] = b"pirgesh 0.1.0\n";

@@ -1,6 +1,6 @@
 //! A style and tiles of its sources, as `eval` and `replay` read them.
 
-ghost use Rattle.std.specs.Prelude.{◌≡◌, ◌+◌, ◌<◌, ℕ, List, [], Option, length, map, string_bytes, OnOk, IfOk, IfErr};
+ghost use Rattle.std.specs.Prelude.{◌≡◌, ◌+◌, ◌<◌, ℕ, List, [], Option, length, map, OnOk, IfOk, IfErr};
 ghost use Rattle.decimal_json.specs.View.{tree_of};
 ghost use Rattle.program_runs.specs.FailedReads.{NoneFailed};
 ghost use Rattle.program_runs.specs.Progress.{GoesOn, Halts, HaltsAt, LeadsTo};
@@ -9,15 +9,14 @@ ghost use Rattle.style_layout.specs.CodeView.{tile_seen};
 ghost use Rattle.style_layout.specs.Shown as shown;
 ghost use Rattle.style_program.specs.ShownRun.{shown_part, sound_or_broken, tile_from, tile_part, tiles_part};
 ghost use Rattle.style_program.specs.TileRunView.{tiles_from, shown_seen};
-ghost use Rattle.style_program.specs.Words.{tile_words};
-ghost use Rattle.style_program.specs.WordsView.{eval_words};
+ghost use Rattle.style_program.specs.WordsView.{eval_words, tile_word};
 ghost use Rattle.style_rules.specs.CodeView.{finding_seen};
 ghost use Rattle.style_rules.specs.Findings.{findings};
 
 use crate::refusals::no_tile;
 use crate::style_file::STYLE_LIMIT;
 use crate::validate_command::answer_broken;
-use crate::words::{EvalRequest, count_of, source_and_tile};
+use crate::words::{EvalRequest, TileWord, count_of};
 use decimal_json::Json;
 use outside_io::Files;
 use program_runs::{Halt, Subject, read_file, read_json};
@@ -54,7 +53,7 @@ pub fn read_shown<'a, F: Files>(
 {
     let style = read_json(alloc, &Subject::Style, request.style, STYLE_LIMIT, files)?;
     refuse_broken(alloc, &style)?;
-    let tiles = read_tiles(alloc, request.tiles, files)?;
+    let tiles = read_tiles(alloc, request.tiles.as_slice(), files)?;
     Ok(ShownStyle { style, tiles })
 }
 
@@ -82,13 +81,13 @@ fn refuse_found<'a>(alloc: Global, found: &[Finding]) -> Result<(), Halt<'a>>
 // The tiles of words, in their order.
 fn read_tiles<'a, F: Files>(
     alloc: Global,
-    words: &'a [String],
+    words: &[TileWord<'a>],
     files: &mut F,
 ) -> Result<Vec<SourceTile<'a>>, Halt<'a>>
     ensures told { F.told files.new ≡ F.told files.old }
     ensures failed { OnOk result (NoneFailed (F.faults files.old) (F.faults files.new) (F.failed files.old) (F.failed files.new)) }
-    ensures on { IfOk result (λ tiles. GoesOn (F.told files.old) (tiles_part (tile_words (map string_bytes words.now))) (map tile_seen tiles.items)) }
-    ensures halt { IfErr result (λ halt. Halts (F.told files.old) (tiles_part (tile_words (map string_bytes words.now)))
+    ensures on { IfOk result (λ tiles. GoesOn (F.told files.old) (tiles_part (map tile_word words.now)) (map tile_seen tiles.items)) }
+    ensures halt { IfErr result (λ halt. Halts (F.told files.old) (tiles_part (map tile_word words.now))
         (F.faults files.old) (F.faults files.new) (F.failed files.old) (F.failed files.new) halt) }
 {
     let mut tiles = Vec::new(alloc);
@@ -102,7 +101,7 @@ fn read_tiles<'a, F: Files>(
 // Reads the tile of a word, where so many bytes are left for tiles, and says how many are left after it.
 fn read_next<'a, F: Files>(
     alloc: Global,
-    words: &'a [String],
+    words: &[TileWord<'a>],
     i: usize,
     left: usize,
     tiles: &mut Vec<SourceTile<'a>>,
@@ -116,11 +115,11 @@ fn read_next<'a, F: Files>(
     ensures halt { IfErr result (λ halt. Halts (F.told files.old) (tiles_from i words.now (map tile_seen tiles.old.items) left)
         (F.faults files.old) (F.faults files.new) (F.failed files.old) (F.failed files.new) halt) }
 {
-    let Some((source, name)) = source_and_tile(words[i].as_str()) else {
-        return Ok(left);
-    };
-    let number = count_of(source, &words[..i]);
-    let (size, tile) = read_one(alloc, source, number, name, left.min(TILE_LIMIT), files)?;
+    let word = words[i];
+    let number = count_of(word.source, &words[..i]);
+    let limit = left.min(TILE_LIMIT);
+    let (size, tile) = read_one(alloc, word.source, number, word.tile, limit, files)?;
+    let source = word.source;
     let Ok(()) = tiles.push(SourceTile { source, tile }) else {
         return Err(Halt::NoMemory);
     };

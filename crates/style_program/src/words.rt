@@ -1,27 +1,35 @@
-ghost use Rattle.std.specs.Prelude.{◌≡◌, ◌+◌, ◌^◌, ◌<◌, ◌≤◌, false, length, map, string_bytes, IfSome, IfNone, option_map};
+ghost use Rattle.std.specs.Prelude.{◌≡◌, ◌≤◌, length, map, string_bytes, option_map, IfOk, nat_eq, if◌then◌else◌};
 ghost use Rattle.fixed_num.specs.Decimal.{read_text};
-ghost use Rattle.style_program.specs.Words.{asked, asked_alone, asked_of_one, asked_of_more, asked_with_script, shown_words, source_and_tile, are_tiles, are_pairs, are_allowed, is_allowed, with_source, count_of, tile_words};
-ghost use Rattle.style_program.specs.WordsView.{asked_by, eval_words, is_tile_of, are_allowed_from};
+ghost use Rattle.style_program.specs.Words.{asked, asked_alone, asked_of_one, asked_of_more, asked_with_script, shown_words, source_and_tile, tiles_named, are_allowed, count_of};
+ghost use Rattle.style_program.specs.WordsView.{asked_by, eval_words, tile_word};
 
 use fixed_num::{Fixed, read_decimal};
+use std::alloc::{AllocError, Global};
 
-/// What `eval` is given: the name of the file of a style, and words `SOURCE=TILE` of tiles.
+/// A word `SOURCE=TILE`: a source, and the name of the file of a tile of it.
 #[derive(Clone, Copy, Debug)]
+pub struct TileWord<'a> {
+    pub source: &'a str,
+    pub tile: &'a str,
+}
+
+/// What `eval` is given: the name of the file of a style, a zoom, and tiles.
+#[derive(Debug, Drop)]
 pub struct EvalRequest<'a> {
     pub style: &'a str,
     pub zoom: Fixed,
-    pub tiles: &'a [String],
+    pub tiles: Vec<TileWord<'a>>,
 }
 
 /// What `replay` is given: the name of the file of a script, and what `eval` is given.
-#[derive(Clone, Copy, Debug)]
+#[derive(Debug, Drop)]
 pub struct ReplayRequest<'a> {
     pub script: &'a str,
     pub shown: EvalRequest<'a>,
 }
 
 /// What the words ask for.
-#[derive(Clone, Copy, Debug)]
+#[derive(Debug, Drop)]
 pub enum Request<'a> {
     /// The value of this expression.
     Value(&'a str),
@@ -40,16 +48,22 @@ pub enum Request<'a> {
 }
 
 /// What the words after the program's name ask for.
-pub fn request_of(words: &[String]) -> Request<'_>
-    ensures { asked_by result ≡ asked (map string_bytes words.now) }
+pub fn request_of(alloc: Global, words: &[String]) -> Result<Request<'_>, AllocError>
+    ensures { IfOk result (λ request. asked_by request ≡ asked (map string_bytes words.now)) }
 {
     match words {
-        [word] => request_alone(word.as_str()),
-        [command, word] => request_of_one(command.as_str(), word.as_str()),
+        [word] => Ok(request_alone(word.as_str())),
+        [command, word] => Ok(request_of_one(command.as_str(), word.as_str())),
         [command, style, word, words @ ..] => {
-            request_of_more(command.as_str(), style.as_str(), word.as_str(), words)
+            request_of_more(
+                alloc,
+                command.as_str(),
+                style.as_str(),
+                word.as_str(),
+                words,
+            )
         }
-        _ => Request::Wrong,
+        _ => Ok(Request::Wrong),
     }
 }
 
@@ -75,140 +89,125 @@ fn request_of_one<'a>(command: &str, word: &'a str) -> Request<'a>
 }
 
 fn request_of_more<'a>(
+    alloc: Global,
     command: &str,
     style: &'a str,
     word: &'a str,
     words: &'a [String],
-) -> Request<'a>
-    ensures { asked_by result ≡ asked_of_more command.now style.now word.now (map string_bytes words.now) }
+) -> Result<Request<'a>, AllocError>
+    ensures { IfOk result (λ request.
+        asked_by request ≡ asked_of_more command.now style.now word.now (map string_bytes words.now)) }
 {
     match command {
-        "eval" => match shown_request(style, word, words) {
-            Some(request) => Request::Eval(request),
-            None => Request::Wrong,
+        "eval" => match shown_request(alloc, style, word, words)? {
+            Some(request) => Ok(Request::Eval(request)),
+            None => Ok(Request::Wrong),
         },
-        "replay" => request_replay(style, word, words),
-        _ => Request::Wrong,
+        "replay" => request_replay(alloc, style, word, words),
+        _ => Ok(Request::Wrong),
     }
 }
 
-fn request_replay<'a>(style: &'a str, script: &'a str, words: &'a [String]) -> Request<'a>
-    ensures { asked_by result ≡ asked_with_script style.now script.now (map string_bytes words.now) }
+fn request_replay<'a>(
+    alloc: Global,
+    style: &'a str,
+    script: &'a str,
+    words: &'a [String],
+) -> Result<Request<'a>, AllocError>
+    ensures { IfOk result (λ request.
+        asked_by request ≡ asked_with_script style.now script.now (map string_bytes words.now)) }
 {
     let [zoom, tiles @ ..] = words else {
-        return Request::Wrong;
+        return Ok(Request::Wrong);
     };
-    match shown_request(style, zoom.as_str(), tiles) {
-        Some(shown) => Request::Replay(ReplayRequest { script, shown }),
-        None => Request::Wrong,
+    match shown_request(alloc, style, zoom.as_str(), tiles)? {
+        Some(shown) => Ok(Request::Replay(ReplayRequest { script, shown })),
+        None => Ok(Request::Wrong),
     }
 }
 
-fn shown_request<'a>(style: &'a str, zoom: &str, tiles: &'a [String]) -> Option<EvalRequest<'a>>
-    ensures { option_map eval_words result ≡ shown_words style.now (read_text zoom.now) (map string_bytes tiles.now) }
+fn shown_request<'a>(
+    alloc: Global,
+    style: &'a str,
+    zoom: &str,
+    words: &'a [String],
+) -> Result<Option<EvalRequest<'a>>, AllocError>
+    ensures { IfOk result (λ request. option_map eval_words request
+        ≡ shown_words style.now (read_text zoom.now) (map string_bytes words.now)) }
 {
     let Ok(zoom) = read_decimal(zoom.as_bytes()) else {
-        return None;
+        return Ok(None);
     };
-    if !are_tiles(tiles) {
-        return None;
+    match tiles_named(alloc, words)? {
+        Some(tiles) if are_allowed(tiles.as_slice()) => Ok(Some(EvalRequest {
+            style,
+            zoom,
+            tiles,
+        })),
+        _ => Ok(None),
     }
-    Some(EvalRequest { style, zoom, tiles })
 }
 
-fn are_tiles(words: &[String]) -> bool
-    ensures { result ≡ are_tiles (map string_bytes words.now) }
+// The tiles that words name, or nothing where a word has another form.
+fn tiles_named(alloc: Global, words: &[String]) -> Result<Option<Vec<TileWord<'_>>>, AllocError>
+    ensures { IfOk result (λ tiles. option_map (λ named. map tile_word named.items) tiles
+        ≡ tiles_named (map string_bytes words.now)) }
 {
-    are_pairs(words) && are_allowed(words)
-}
-
-fn are_pairs(words: &[String]) -> bool
-    ensures { result ≡ are_pairs (map string_bytes words.now) }
-{
+    let mut tiles = Vec::new(alloc);
     for word in words {
-        if source_and_tile(word.as_str()).is_none() {
-            return false;
+        match source_and_tile(word.as_str()) {
+            Some((source, tile)) => tiles.push(TileWord { source, tile })?,
+            None => return Ok(None),
         }
     }
-    true
+    Ok(Some(tiles))
 }
 
 const MOST_SOURCES: usize = 16;
 
 const MOST_TILES: usize = 64;
 
-fn are_allowed(words: &[String]) -> bool
-    ensures { result ≡ are_allowed (tile_words (map string_bytes words.now)) }
+// It ends at the first tile that is one too many, so no more than 1,024 are compared with each other.
+fn are_allowed(tiles: &[TileWord<'_>]) -> bool
+    ensures { result ≡ are_allowed (map tile_word tiles.now) }
 {
     let mut sources: usize = 0;
-    for i in 0..words.len() {
-        match sources_after(sources, words, i) {
-            Some(found) => sources = found,
-            None => return false,
+    for i in 0..tiles.len() {
+        let before = count_of(tiles[i].source, &tiles[..i]);
+        sources += new_sources(before);
+        if sources > MOST_SOURCES {
+            return false;
+        }
+        if before >= MOST_TILES {
+            return false;
         }
     }
     true
 }
 
-// How many sources there are after a word, by those before it; none where the word is one tile too many.
-fn sources_after(sources: usize, words: &[String], i: usize) -> Option<usize>
-    requires word { i < length words.now }
-    requires few { sources ≤ i }
-    ensures goes_on { IfSome result (λ found. are_allowed_from found (i + 1) words.now ≡ are_allowed_from sources i words.now) }
-    ensures stops { IfNone result (are_allowed_from sources i words.now ≡ false) }
-    ensures few { IfSome result (λ found. found ≤ i + 1) }
+// A tile is of a new source where there is none of its source before it.
+fn new_sources(before: usize) -> usize
+    ensures { result ≡ (if nat_eq before 0 then 1 else 0) }
 {
-    let Some((source, _)) = source_and_tile(words[i].as_str()) else {
-        return Some(sources);
-    };
-    let before = count_of(source, &words[..i]);
-    if !is_allowed(sources, before) {
-        return None;
-    }
-    Some(with_source(sources, before))
+    if before == 0 { 1 } else { 0 }
 }
 
-fn with_source(sources: usize, before: usize) -> usize
-    requires { sources < 2 ^ 63 }
-    ensures { result ≡ with_source sources before }
-{
-    if before == 0 { sources + 1 } else { sources }
-}
-
-fn is_allowed(sources: usize, before: usize) -> bool
-    ensures { result ≡ is_allowed sources before }
-{
-    if before == 0 {
-        sources < MOST_SOURCES
-    } else {
-        before < MOST_TILES
-    }
-}
-
-/// How many of the words are tiles of a source.
-pub(crate) fn count_of(source: &str, words: &[String]) -> usize
-    ensures { result ≡ count_of source.now (tile_words (map string_bytes words.now)) }
+/// How many of the tiles are of a source.
+pub(crate) fn count_of(source: &str, tiles: &[TileWord<'_>]) -> usize
+    ensures count { result ≡ count_of source.now (map tile_word tiles.now) }
+    ensures few { result ≤ length tiles.now }
 {
     let mut count: usize = 0;
-    for word in words {
-        if is_tile_of(source, word.as_str()) {
+    for tile in tiles {
+        if tile.source == source {
             count += 1;
         }
     }
     count
 }
 
-fn is_tile_of(source: &str, word: &str) -> bool
-    ensures { result ≡ is_tile_of source.now word.now }
-{
-    match source_and_tile(word) {
-        Some((found, _)) => found == source,
-        None => false,
-    }
-}
-
 // `SOURCE=TILE`, cut at its first `=`, where neither part is empty.
-pub(crate) fn source_and_tile(word: &str) -> Option<(&str, &str)>
+fn source_and_tile(word: &str) -> Option<(&str, &str)>
     ensures { option_map (λ parts. (parts.0.now, parts.1.now)) result ≡ source_and_tile word.now }
 {
     let Some((source, tile)) = word.split_once('=') else {

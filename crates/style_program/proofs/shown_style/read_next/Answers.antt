@@ -1,16 +1,16 @@
-use Rattle.std.proofs.Common.{rules, ◌∙◌, ap, map}
+use Rattle.std.proofs.Common.{[], ◌∙◌, ap, map}
 use Rattle.std.proofs.lemmas.List.{map-append}
 use Rattle.program_runs.specs.Progress.{Halts}
 use Rattle.program_runs.proofs.Going.{at_residual}
 use Rattle.style_layout.specs.CodeView.{tile_seen}
 use Rattle.style_program.specs.TileRunView.{tiles_from}
-use Rattle.style_program.proofs.TileRuns.{leads_over, leads_turn, halts_turn}
+use Rattle.style_program.specs.declared.words.TileWord.{TileWord}
+use Rattle.style_program.proofs.TileRuns.{leads_turn, halts_turn}
 use Rattle.style_program.proofs.shown_style.read_next.Goals as goal
 
-pub returns-in_default-clause-on : goal.returns-in_default-clause-on
-returns-in_default-clause-on g c =
-    leads_over c.args.words.now c.args.i c.index-words-i.result c.requires (search rules) (map tile_seen c.args.tiles.now.items) c.args.left
-    (g.F.Files.told c.args.files.now) (search rules)
+-- what stands past the end of words
+abbrev past : TileWord
+past = record { source = record { ref_ptr = (0, 0); now = [] }; tile = record { ref_ptr = (0, 0); now = [] } }
 
 pub returns-in_err-size-clause-halt : goal.returns-in_err-size-clause-halt
 returns-in_err-size-clause-halt g c =
@@ -18,17 +18,14 @@ returns-in_err-size-clause-halt g c =
     let got = map tile_seen c.args.tiles.now.items in
     at_residual (λ h. Halts files (tiles_from c.args.i c.args.words.now got c.args.left) _ _ _ _ h) c.in_err-size.field-0.0
     c.from_residual.result c.from_residual.ensures.1
-    (halts_turn c.args.words.now c.args.i c.index-words-i.result c.requires (search rules) got c.args.left
-    (c.in-Some.source.now, c.in-Some.name.now) (search rules) c.count_of-number.result c.min.result
-    (c.count_of-number.ensures ∙ search rules) c.min.ensures
-    files _ _ _ _ c.in_err-size.field-0.0 c.in_err-size.ensures.halt)
+    (halts_turn c.args.words.now c.args.i past c.requires got c.args.left c.count_of-number.result c.min-limit.result
+    c.count_of-number.ensures.count c.min-limit.ensures files _ _ _ _ c.in_err-size.field-0.0 c.in_err-size.ensures.halt)
 
 pub returns-clause-on : goal.returns-clause-on
 returns-clause-on g c =
     let files = g.F.Files.told c.args.files.now in
     let got = map tile_seen c.args.tiles.now.items in
-    leads_turn c.args.words.now c.args.i c.index-words-i.result c.requires (search rules) got c.args.left
-    (c.in-Some.source.now, c.in-Some.name.now) (search rules) c.count_of-number.result c.min.result
-    (c.count_of-number.ensures ∙ search rules) c.min.ensures
+    leads_turn c.args.words.now c.args.i past c.requires got c.args.left c.count_of-number.result c.min-limit.result
+    c.count_of-number.ensures.count c.min-limit.ensures
     files (c.in_ok-size.size, c.in_ok-size.tile) (map tile_seen c.push.new.self.items) c.saturating_sub.result c.in_ok-size.ensures.on
     (ap (map tile_seen) c.in-Ok.ensures.items ∙ map-append tile_seen c.args.tiles.now.items _) c.saturating_sub.ensures

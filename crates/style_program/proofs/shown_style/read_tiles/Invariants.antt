@@ -1,4 +1,4 @@
-use Rattle.std.proofs.Common.{◌≡◌, List, map, string_bytes}
+use Rattle.std.proofs.Common.{◌≡◌, List, map}
 use Rattle.program_runs.specs.FailedReads.{NoneFailed}
 use Rattle.program_runs.specs.Progress.{LeadsTo}
 use Rattle.program_runs.specs.Runs.{Run}
@@ -6,13 +6,13 @@ use Rattle.style_layout.specs.CodeView.{tile_seen}
 use Rattle.style_layout.specs.Shown.{SourceTile}
 use Rattle.style_program.specs.ShownRun.{tiles_part}
 use Rattle.style_program.specs.TileRunView.{tiles_from}
-use Rattle.style_program.specs.Words.{tile_words}
+use Rattle.style_program.specs.WordsView.{tile_word}
 use Rattle.style_program.proofs.shown_style.read_tiles.Given as goal
 
 abbrev pub invariant-loop-i : goal.invariant-loop-i
 invariant-loop-i g l = record {
   told : g.F.Files.told l.files ≡ g.F.Files.told l.fn.files;
   failed : NoneFailed (g.F.Files.faults l.fn.files) (g.F.Files.faults l.files) (g.F.Files.failed l.fn.files) (g.F.Files.failed l.files);
-  leads : (k : List SourceTile → Run) → LeadsTo (g.F.Files.told l.fn.files) (tiles_part (tile_words (map string_bytes l.words)) k)
+  leads : (k : List SourceTile → Run) → LeadsTo (g.F.Files.told l.fn.files) (tiles_part (map tile_word l.words) k)
       (tiles_from l.i l.words (map tile_seen l.tiles.items) l.left k);
 }
