@@ -1,7 +1,7 @@
 //! The fault of an edit.
 
 ghost use Rattle.std.specs.Prelude.{◌≡◌, Some, None, is_none, ◌&&◌, if◌then◌else◌};
-ghost use Rattle.decimal_json.specs.View.{tree_at, tree_of};
+ghost use Rattle.decimal_json.specs.View.{items_view, tree_at, tree_of};
 ghost use Rattle.edit_script.specs.View.{command_seen};
 ghost use Rattle.style_edits.specs.ByPlace.{fault_at, is_missing, layer_at};
 ghost use Rattle.style_edits.specs.Places.{places_of};
@@ -106,7 +106,6 @@ fn source_fault(style: &Json, source: &Text) -> Option<EditFault>
     }
 }
 
-#[tactic(auto, using(crate::proofs::DocumentLaws::layers_listed))]
 fn property_fault(
     style: &Json,
     places: EditPlaces,
@@ -122,10 +121,17 @@ fn property_fault(
     let Some(place) = places.layer else {
         return Some(EditFault::UnknownLayer);
     };
-    if is_null(value) && lacks_property(layers_of(style).get(place), key, name.as_str()) {
+    if is_null(value) && lacks_property(layer_list(style).get(place), key, name.as_str()) {
         return Some(EditFault::UnknownProperty);
     }
     None
+}
+
+#[tactic(auto, using(crate::proofs::DocumentLaws::layers_listed))]
+fn layer_list(style: &Json) -> &[Json]
+    ensures { items_view result.now ≡ layer_list (tree_of style.now) }
+{
+    layers_of(style)
 }
 
 fn lacks_property(layer: Option<&Json>, key: &str, name: &str) -> bool
