@@ -7,7 +7,8 @@ use Rattle.prop_values.specs.declared.kinds.Item.TheVariants as any
 use Rattle.prop_values.specs.declared.kinds.Kind.TheVariants as kinds
 use Rattle.prop_values.specs.declared.value.Value.{Value}
 use Rattle.property_tables.specs.Fitting.{item_count}
-use Rattle.expr_types.specs.Literals.{some_item_of, item_of, literal_kind}
+use Rattle.expr_types.specs.Literals.{item_of, literal_kind}
+use Rattle.expr_types.specs.LiteralView.{some_item_of}
 use Rattle.expr_types.specs.Ramping.{is_item_near, are_items_near}
 
 pub count_items : (vs : List Value) → item_count (items vs) ≡ length vs

@@ -1,18 +1,21 @@
 -- What a check says of an expression.
 use Rattle.std.specs.Prelude.{List, [], Bool, true, false, Option, Some, None, is_some, option_map, Result, Ok, Err}
-use Rattle.std.proofs.Common.{◌≡◌, ◌∙◌, ap, refl}
+use Rattle.std.proofs.Common.{◌≡◌, ◌<◌, ◌∙◌, ap, sym, refl, subst, length, arith}
 use Rattle.decimal_json.specs.declared.paths.PathPart.{PathPart}
+use Rattle.prop_values.specs.declared.kinds.Want.{Want}
 use Rattle.property_tables.specs.Rows.{RowData}
+use Rattle.expr_syntax.specs.Term.{Term}
 use Rattle.expr_types.specs.Allowed.{allowed_by, first_unread, first_stray_zoom}
-use Rattle.expr_types.specs.Checked.{allowed}
-use Rattle.expr_types.specs.Judged.{Judged, found_kind, found_may, found_places, judged, zoom_or, stray_or}
-use Rattle.expr_types.specs.Typing.{Typed, Found, fault}
+use Rattle.expr_types.specs.Checked.{allowed, checked}
+use Rattle.expr_types.specs.Judged.{Judged, found_kind, found_may, found_places, places_in, judged, zoom_or, stray_or}
+use Rattle.expr_types.specs.Typing.{Typed, Found, fault, typed}
 use Rattle.expr_types.specs.TypedView.{root_of, added}
-use Rattle.expr_types.specs.Visits.{Visit}
+use Rattle.expr_types.specs.Visits.{Visit, visits}
 use Rattle.expr_types.specs.declared.fault.TypeCode.TheVariants as codes
 use Rattle.expr_types.specs.declared.fault.TypeFault.{TypeFault}
 use Rattle.expr_types.specs.declared.placed.Kinded.{Kinded}
 use Rattle.expr_types.specs.declared.placed.Placed.{Placed}
+use Rattle.expr_types.specs.declared.standing.Standing.TheVariants.{Reached}
 
 pub kind_found : (t : Typed) (k : Kinded) → Ok k ≡ root_of t → k.kind ≡ found_kind t
 kind_found (Ok f) k is = let same : k ≡ f.node = cc in ap (λ j. j.kind) same
@@ -55,3 +58,17 @@ mapped_some f None = refl
 pub fault_kept : (t : Typed) (e : TypeFault) (row : Option RowData) (pair : Judged) (vs : List Visit) → Err e ≡ judged pair t → Err e ≡ judged pair (allowed row vs t)
 fault_kept (Ok f) e row pair vs is = absurd (cc)
 fault_kept (Err g) e row pair vs is = is
+
+-- For callers: what was checked has a root, of which the want is known.
+judged_is : (t : Typed) (pair given : Judged) → Ok pair ≡ judged given t → pair ≡ given
+judged_is (Ok f) pair given is = cc
+judged_is (Err e) pair given is = absurd (cc)
+
+root_there : (t : Typed) (row : Option RowData) (vs : List Visit) (pair given : Judged) → Ok pair ≡ judged given (allowed row vs t) → 0 < length (found_places t)
+root_there (Ok f) row vs pair given is = omega arith
+root_there (Err e) row vs pair given is = absurd (cc)
+
+pub has_root : (t : Term) (want : Want) (row : Option RowData) (pair : Judged) → Ok pair ≡ judged (t, want) (checked t want row) → 0 < length (places_in pair)
+has_root t want row pair is =
+    let same : pair ≡ (t, want) = judged_is (checked t want row) pair (t, want) is in
+    subst (λ p. 0 < length (places_in p)) (sym same) (root_there (typed t want [] []) row (visits t Reached []) pair (t, want) is)

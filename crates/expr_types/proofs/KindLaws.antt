@@ -5,7 +5,8 @@ use Rattle.expr_types.specs.OwnTable.{is_output, output_kinds}
 use Rattle.prop_values.specs.declared.kinds.Kind.{Kind}
 use Rattle.prop_values.specs.declared.kinds.Kind.TheVariants as kinds
 use Rattle.expr_types.specs.Fits.{same_kind}
-use Rattle.expr_types.specs.Own.{joined, noted, common_with, common_after, all_kinds}
+use Rattle.expr_types.specs.Own.{common_with, all_kinds}
+use Rattle.expr_types.specs.CommonKinds.{joined, noted, common_after}
 
 same_either : (b : Bool) → (if b then kinds.Any else kinds.Any) ≡ kinds.Any
 same_either true = refl

@@ -4,9 +4,8 @@ use Rattle.decimal_json.specs.declared.paths.PathPart.{PathPart}
 use Rattle.property_tables.specs.Rows.{RowData}
 use Rattle.expr_syntax.specs.declared.world_parts.Mentions.{Mentions}
 use Rattle.expr_types.specs.Visits.{Visit}
-use Rattle.expr_types.specs.declared.strays.Strays.{Strays}
 use Rattle.expr_types.specs.declared.standing.Standing.{Standing}
-use Rattle.expr_types.specs.declared.standing.Standing.TheVariants.{Reached, Input, Elsewhere}
+use Rattle.expr_types.specs.declared.standing.Standing.TheVariants.{Input}
 
 -- what may be read: the row of a property says it, and a filter reads no feature state
 abbrev pub Allowed : Type 0
@@ -44,26 +43,3 @@ first_stray_zoom (v ∷ vs) =
 abbrev pub stray_zoom_by : Option RowData → List Visit → Option (List PathPart)
 stray_zoom_by (Some row) vs = first_stray_zoom vs
 stray_zoom_by None vs = None
-
--- ---- for proofs: the same, as the nodes are walked
-
-abbrev pub first_path : Option (List PathPart) → Option (List PathPart) → Option (List PathPart)
-first_path (Some path) later = Some path
-first_path None later = later
-
-abbrev pub path_if : Bool → List PathPart → Option (List PathPart)
-path_if b path = if b then Some path else None
-
-abbrev pub noted_if : Bool → Visit → Strays → Strays
-noted_if allowed v s = record {
-  unread = first_path s.unread (path_if (not allowed) v.path);
-  zoom = first_path s.zoom (path_if (v.reads.zoom && (s.has_zoom || not (is_input v.standing))) v.path);
-  has_zoom = s.has_zoom || v.reads.zoom;
-}
-
-abbrev pub all_noted : Allowed → List Visit → Strays → Strays
-all_noted allows [] s = s
-all_noted allows (v ∷ vs) s = all_noted allows vs (noted_if (allows v.reads) v s)
-
-abbrev pub none_noted : Strays
-none_noted = record { unread = None; zoom = None; has_zoom = false }

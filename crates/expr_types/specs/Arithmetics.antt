@@ -7,14 +7,14 @@ use Rattle.prop_values.specs.Faults.{no_faults, one_fault, union}
 use Rattle.prop_values.specs.declared.fault.EvalFault.TheVariants.{DivideByZero, Overflow}
 use Rattle.prop_values.specs.declared.kinds.Kind.{Kind}
 use Rattle.prop_values.specs.declared.kinds.Kind.TheVariants as kinds
-use Rattle.expr_types.specs.Own.{owns, faults_if, misfit}
+use Rattle.expr_types.specs.Own.{owns, faults_if, ill_typed}
 use Rattle.expr_types.specs.declared.own.Own.{Own}
 
 -- `-`: the negation of a number is within the bound
 abbrev pub own_subtract : List Kind → Own
 own_subtract (a ∷ []) = owns kinds.Number no_faults
 own_subtract (a ∷ b ∷ []) = owns kinds.Number (one_fault Overflow)
-own_subtract ks = misfit
+own_subtract ks = ill_typed
 
 abbrev pub is_not_zero : Option Data → Bool
 is_not_zero (Some (number z)) = not (int_eq z (pos 0))

@@ -51,11 +51,3 @@ surely_fits wants.Color (text s) = is_value (fit wants.Color (text s))
 surely_fits (wants.Enum c) (text s) = is_value (fit (wants.Enum c) (text s))
 surely_fits (wants.EnumList c) (list ds) = is_value (fit (wants.EnumList c) (list ds))
 surely_fits want d = false
-
--- ---- for proofs: what all items of a value are, where it is a list
-abbrev pub some_item_of : Data → Item
-some_item_of d =
-    if is_value (fit (wants.List items.Boolean None) d) then items.Boolean
-    else if is_value (fit (wants.List items.Number None) d) then items.Number
-    else if is_value (fit (wants.List items.Text None) d) then items.Text
-    else items.Any

@@ -18,17 +18,17 @@ abbrev pub faults_if : Bool → EvalFault → FaultSet
 faults_if b fault = if b then one_fault fault else no_faults
 
 -- a number of arguments that the operator's row does not allow; no expression that was read has it
-abbrev pub misfit : Own
-misfit = record { kind = kinds.Any; code = Some codes.Kind; faults = no_faults }
+abbrev pub ill_typed : Own
+ill_typed = record { kind = kinds.Any; code = Some codes.Kind; faults = no_faults }
 
 -- operators of one argument, and of two
 abbrev pub one_own : (Kind → Own) → List Kind → Own
 one_own f (a ∷ []) = f a
-one_own f _ = misfit
+one_own f _ = ill_typed
 
 abbrev pub two_own : (Kind → Kind → Own) → List Kind → Own
 two_own f (a ∷ b ∷ []) = f a b
-two_own f _ = misfit
+two_own f _ = ill_typed
 
 -- whether an argument has a kind
 abbrev pub some_kind : Kind → List Kind → Bool
@@ -46,15 +46,3 @@ common_with k ks = if all_kinds k ks then k else kinds.Any
 abbrev pub common_kind : List Kind → Kind
 common_kind [] = kinds.Any
 common_kind (k ∷ ks) = common_with k ks
-
--- the same, as kinds are found one after the other
-abbrev pub joined : Option Kind → Kind → Kind
-joined (Some k) j = if same_kind k j then k else kinds.Any
-joined None j = j
-
-abbrev pub noted : Option Kind → Bool → Kind → Option Kind
-noted common is_output k = if is_output then Some (joined common k) else common
-
-abbrev pub common_after : Option Kind → List Kind → Kind
-common_after (Some k) ks = common_with k ks
-common_after None ks = common_kind ks

@@ -20,7 +20,7 @@ use Rattle.expr_types.specs.Arithmetics.{own_subtract, own_divide, own_remainder
 use Rattle.expr_types.specs.Assertions.{own_array, own_asserted, own_to_color, own_to_number}
 use Rattle.expr_types.specs.Comparing.{own_equal, own_ordered, has_such_labels, unless_comparable}
 use Rattle.expr_types.specs.Literals.{count_of}
-use Rattle.expr_types.specs.Own.{owns, misfit, one_own, two_own, common_kind}
+use Rattle.expr_types.specs.Own.{owns, ill_typed, one_own, two_own, common_kind}
 use Rattle.expr_types.specs.Ramping.{own_ramp}
 use Rattle.expr_types.specs.Sequences.{own_at, own_in, own_index_of, own_slice}
 use Rattle.expr_types.specs.declared.own.Own.{Own}
@@ -35,7 +35,7 @@ output_kinds m i (k ∷ ks) = if is_output m i then k ∷ output_kinds m (i + 1)
 
 -- `match`
 abbrev pub own_match : List Labelled → List Kind → Own
-own_match ls [] = misfit
+own_match ls [] = ill_typed
 own_match ls (input ∷ ks) = record { kind = common_kind ks; code = unless_comparable (has_such_labels input ls); faults = no_faults }
 
 -- `format`: a list with an item for each content
@@ -83,9 +83,9 @@ plain_own Case ls ks = owns (common_kind (output_kinds (length ks) 0 ks)) no_fau
 plain_own (Match labels) ls ks = own_match labels ks
 plain_own Coalesce ls ks = owns (common_kind ks) no_faults
 plain_own (Step inputs) ls ks = owns (common_kind (drop 1 ks)) no_faults
-plain_own (Interpolate r) ls ks = misfit
-plain_own (Let names) ls ks = misfit
-plain_own (Var name) ls ks = misfit
+plain_own (Interpolate r) ls ks = ill_typed
+plain_own (Let names) ls ks = ill_typed
+plain_own (Var name) ls ks = ill_typed
 plain_own Zoom ls ks = owns kinds.Number no_faults
 plain_own Concat ls ks = owns kinds.Text no_faults
 plain_own Rgb ls ks = owns kinds.Color (one_fault ColorRange)

@@ -9,7 +9,7 @@ use Rattle.prop_values.specs.declared.kinds.Item.TheVariants as items
 use Rattle.prop_values.specs.declared.kinds.Kind.{Kind}
 use Rattle.prop_values.specs.declared.kinds.Kind.TheVariants as kinds
 use Rattle.expr_types.specs.Comparing.{is_compound, unless_comparable}
-use Rattle.expr_types.specs.Own.{owns, misfit}
+use Rattle.expr_types.specs.Own.{owns, ill_typed}
 use Rattle.expr_types.specs.declared.fits.Fit.{Fit}
 use Rattle.expr_types.specs.declared.fits.Fit.TheVariants.{Always, Maybe, Never}
 use Rattle.expr_types.specs.declared.own.Own.{Own}
@@ -50,7 +50,7 @@ own_place needle faults = record { kind = kinds.Number; code = unless_comparable
 abbrev pub own_index_of : List Kind → Own
 own_index_of (needle ∷ k ∷ []) = own_place needle no_faults
 own_index_of (needle ∷ k ∷ from ∷ []) = own_place needle index_faults
-own_index_of ks = misfit
+own_index_of ks = ill_typed
 
 -- `slice`: a stretch of a text or of a list
 abbrev pub stretch_kind : Kind → Kind
@@ -59,5 +59,5 @@ stretch_kind (kinds.List i n) = kinds.List i None
 stretch_kind k = kinds.Any
 
 abbrev pub own_slice : List Kind → Own
-own_slice [] = misfit
+own_slice [] = ill_typed
 own_slice (k ∷ ks) = owns (stretch_kind k) (one_fault IndexNotWhole)

@@ -18,7 +18,7 @@ use Rattle.expr_syntax.specs.Term.{Term, literal, node, Terms, no_terms, term}
 use Rattle.expr_types.specs.ArgumentPaths.{argument_path}
 use Rattle.expr_types.specs.Fits.{fits, is_always, kind_under, branch_kind, fit_faults}
 use Rattle.expr_types.specs.Literals.{literal_kind, surely_fits}
-use Rattle.expr_types.specs.Own.{owns, misfit}
+use Rattle.expr_types.specs.Own.{owns, ill_typed}
 use Rattle.expr_types.specs.OwnTable.{own}
 use Rattle.expr_types.specs.Sequences.{sequence_fit}
 use Rattle.expr_types.specs.declared.fault.TypeCode.{TypeCode}
@@ -179,7 +179,7 @@ or_outer None outer = outer
 
 -- An expression that was read asks for no other name.
 abbrev pub own_named : Scope → List ℕ → Own
-own_named [] asked = misfit
+own_named [] asked = ill_typed
 own_named (bs ∷ outer) asked = or_outer (last_kind bs asked) (own_named outer asked)
 
 -- ---- nodes

@@ -6,7 +6,7 @@ ghost use Rattle.expr_types.specs.Arithmetics.{own_subtract, is_not_zero, has_di
 ghost use Rattle.expr_types.specs.LiteralView.{literals_of};
 
 use crate::literals::literal_of;
-use crate::own::{Own, faults_if, misfit, owns};
+use crate::own::{Own, faults_if, ill_typed, owns};
 use expr_syntax::Expr;
 use prop_values::{EvalFault, FaultSet, Kind, Value};
 
@@ -16,7 +16,7 @@ pub(crate) fn own_subtract(kinds: &[Kind]) -> Own
     match kinds {
         [_] => owns(Kind::Number, FaultSet::empty()),
         [_, _] => owns(Kind::Number, FaultSet::one(EvalFault::Overflow)),
-        _ => misfit(),
+        _ => ill_typed(),
     }
 }
 

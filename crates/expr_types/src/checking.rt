@@ -3,11 +3,9 @@
 ghost use Rattle.std.specs.Prelude.{◌≡◌, ◌<◌, ◌^◌, [], length, take, drop, IfOk, Ok};
 ghost use Rattle.decimal_json.specs.Place.{path_of};
 ghost use Rattle.expr_syntax.specs.declared.expression.Operator.TheVariants as operators;
-ghost use Rattle.expr_types.specs.LiteralView.{typings_of};
-ghost use Rattle.expr_types.specs.ScopeView.{scope_of};
-ghost use Rattle.expr_types.specs.Typing.{argument_want, handed, let_typed, finished_node, sequence_if, is_sequence_of};
+ghost use Rattle.expr_types.specs.Typing.{argument_want, handed, finished_node, sequence_if, is_sequence_of};
 ghost use Rattle.prop_values.specs.Faults.{no_faults};
-ghost use Rattle.expr_types.specs.TypedView.{typed_of, node_of, founds_in, root_of, added, added_below, kinds_after, kinds_of, all_added, plain_of, body_of, argument_found, found_at};
+ghost use Rattle.expr_types.specs.TypedView.{typed_of, node_of, founds_in, root_of, added, added_below, kinds_after, kinds_of, all_added, plain_of, let_of, body_of, argument_found, found_at};
 
 use crate::argument_paths::{element_at, key_at};
 use crate::bindings::Bound;
@@ -32,191 +30,266 @@ pub(crate) struct ArgumentKinds {
     may: FaultSet,
 }
 
-/// What is known of an expression under a want, in the names around it. The places of its nodes are added in preorder.
-#[tactic(auto, using(expr_syntax::specs::Falls::argument_weight))]
-#[cycle(checking)]
-pub(crate) fn check_expression<'x>(
-    alloc: Global,
-    expression: &'x Expr,
-    want: &Want,
+/// What the arguments of a node are checked by: the operator, the want under which the node is checked, the names around it, and where
+/// it is.
+#[derive(Drop)]
+pub(crate) struct NodeContext<'x> {
+    op: &'x Operator,
+    want: Want,
     scope: &'x Scope<'x>,
-    here: &Here<'_>,
-    places: &mut Vec<Placed>,
-) -> Result<Result<Kinded, TypeFault>, AllocError>
-    ensures node { IfOk result (λ r. r ≡ root_of (typed_of expression.now want.now scope.now here.now)) }
-    ensures places { IfOk result (λ r. IfOk r (λ _. Ok places.new.items ≡ added places.old.items (typed_of expression.now want.now scope.now here.now))) }
-{
-    match expression {
-        Expr::Literal(value) => match literal_node(alloc, value, want, here)? {
+    here: &'x Here<'x>,
+}
+
+/// A check of an expression, with what is known of the nodes that it has come to, in preorder.
+#[derive(Drop)]
+pub(crate) struct Checking {
+    pub(crate) alloc: Global,
+    pub(crate) places: Vec<Placed>,
+}
+
+impl Checking {
+    /// What is known of an expression under a want, in the names around it. The places of its nodes are added.
+    #[tactic(auto, using(expr_syntax::specs::Falls::argument_weight))]
+    #[cycle(checking)]
+    pub(crate) fn check_expression<'x>(
+        &mut self,
+        expression: &'x Expr,
+        want: &Want,
+        scope: &'x Scope<'x>,
+        here: &'x Here<'x>,
+    ) -> Result<Result<Kinded, TypeFault>, AllocError>
+        ensures node { IfOk result (λ r. r ≡ root_of (typed_of expression.now want.now scope.now here.now)) }
+        ensures places { IfOk result (λ r. IfOk r (λ _. Ok self.new.places.items ≡ added self.old.places.items (typed_of expression.now want.now scope.now here.now))) }
+    {
+        match expression {
+            Expr::Literal(value) => match literal_node(self.alloc, value, want, here)? {
+                Ok(node) => {
+                    self.places.push(node.root)?;
+                    Ok(Ok(node))
+                }
+                Err(fault) => Ok(Err(fault)),
+            },
+            Expr::Node(op, arguments) => {
+                let context = NodeContext {
+                    op,
+                    want: *want,
+                    scope: &*scope,
+                    here: &*here,
+                };
+                self.check_node(&context, arguments.as_slice())
+            }
+        }
+    }
+
+    #[tactic(auto, using(expr_syntax::specs::Falls::argument_weight))]
+    #[cycle(checking)]
+    fn check_node<'x>(
+        &mut self,
+        context: &'x NodeContext<'x>,
+        arguments: &'x [Expr],
+    ) -> Result<Result<Kinded, TypeFault>, AllocError>
+        ensures node { IfOk result (λ r. r ≡ root_of (node_of context.now arguments.now)) }
+        ensures places { IfOk result (λ r. IfOk r (λ _. Ok self.new.places.items ≡ added self.old.places.items (node_of context.now arguments.now))) }
+    {
+        let at = count(&self.places);
+        self.places.push(Placed {
+            want: context.want,
+            always: true,
+        })?;
+        match self.check_inside(context, arguments)? {
             Ok(node) => {
-                places.push(node.root)?;
+                settle(&mut self.places, at, node.root);
                 Ok(Ok(node))
             }
             Err(fault) => Ok(Err(fault)),
-        },
-        Expr::Node(op, arguments) => check_node(
-            alloc,
-            op,
-            arguments.as_slice(),
-            want,
-            scope,
-            here,
-            places,
-        ),
-    }
-}
-
-#[tactic(auto, using(expr_syntax::specs::Falls::argument_weight))]
-#[cycle(checking)]
-fn check_node<'x>(
-    alloc: Global,
-    op: &'x Operator,
-    arguments: &'x [Expr],
-    want: &Want,
-    scope: &'x Scope<'x>,
-    here: &Here<'_>,
-    places: &mut Vec<Placed>,
-) -> Result<Result<Kinded, TypeFault>, AllocError>
-    ensures node { IfOk result (λ r. r ≡ root_of (node_of op.now arguments.now want.now scope.now here.now)) }
-    ensures places { IfOk result (λ r. IfOk r (λ _. Ok places.new.items ≡ added places.old.items (node_of op.now arguments.now want.now scope.now here.now))) }
-{
-    let at = count(places);
-    places.push(Placed {
-        want: *want,
-        always: true,
-    })?;
-    match check_inside(alloc, op, arguments, want, scope, here, places)? {
-        Ok(node) => {
-            settle(places, at, node.root);
-            Ok(Ok(node))
         }
-        Err(fault) => Ok(Err(fault)),
     }
-}
 
-#[tactic(auto, using(expr_syntax::specs::Falls::argument_weight))]
-#[cycle(checking)]
-fn check_inside<'x>(
-    alloc: Global,
-    op: &'x Operator,
-    arguments: &'x [Expr],
-    want: &Want,
-    scope: &'x Scope<'x>,
-    here: &Here<'_>,
-    places: &mut Vec<Placed>,
-) -> Result<Result<Kinded, TypeFault>, AllocError>
-    ensures node { IfOk result (λ r. r ≡ root_of (node_of op.now arguments.now want.now scope.now here.now)) }
-    ensures places { IfOk result (λ r. IfOk r (λ _. Ok places.new.items ≡ added_below places.old.items (node_of op.now arguments.now want.now scope.now here.now))) }
-{
-    match op {
-        Operator::Let(names) => check_let(alloc, op, names, arguments, want, scope, here, places),
-        Operator::Var(name) => fitted(
-            alloc,
-            want,
-            own_named(scope, name.as_str()),
-            FaultSet::empty(),
-            here,
-        ),
-        _ => check_plain(alloc, op, arguments, want, scope, here, places),
-    }
-}
-
-#[tactic(auto, using(expr_syntax::specs::Falls::argument_weight))]
-#[cycle(checking)]
-fn check_plain<'x>(
-    alloc: Global,
-    op: &'x Operator,
-    arguments: &'x [Expr],
-    want: &Want,
-    scope: &'x Scope<'x>,
-    here: &Here<'_>,
-    places: &mut Vec<Placed>,
-) -> Result<Result<Kinded, TypeFault>, AllocError>
-    ensures node { IfOk result (λ r. r ≡ root_of (plain_of op.now arguments.now want.now scope.now here.now)) }
-    ensures places { IfOk result (λ r. IfOk r (λ _. Ok places.new.items ≡ added_below places.old.items (plain_of op.now arguments.now want.now scope.now here.now))) }
-{
-    match check_arguments(
-        alloc,
-        op,
-        arguments.len(),
-        arguments,
-        want,
-        scope,
-        here,
-        places,
-    )? {
-        Ok(found) => {
-            let own = own(alloc, op, want, arguments, found.kinds.as_slice())?;
-            finished(alloc, op, want, own, found.may, here)
+    // The node, without its own place.
+    #[tactic(auto, using(expr_syntax::specs::Falls::argument_weight))]
+    #[cycle(checking)]
+    fn check_inside<'x>(
+        &mut self,
+        context: &'x NodeContext<'x>,
+        arguments: &'x [Expr],
+    ) -> Result<Result<Kinded, TypeFault>, AllocError>
+        ensures node { IfOk result (λ r. r ≡ root_of (node_of context.now arguments.now)) }
+        ensures places { IfOk result (λ r. IfOk r (λ _. Ok self.new.places.items ≡ added_below self.old.places.items (node_of context.now arguments.now))) }
+    {
+        match context.op {
+            Operator::Let(names) => self.check_let(context, names, arguments),
+            Operator::Var(name) => fitted(
+                self.alloc,
+                &context.want,
+                own_named(context.scope, name.as_str()),
+                FaultSet::empty(),
+                context.here,
+            ),
+            _ => self.check_plain(context, arguments),
         }
-        Err(fault) => Ok(Err(fault)),
+    }
+
+    #[tactic(auto, using(expr_syntax::specs::Falls::argument_weight))]
+    #[cycle(checking)]
+    fn check_plain<'x>(
+        &mut self,
+        context: &'x NodeContext<'x>,
+        arguments: &'x [Expr],
+    ) -> Result<Result<Kinded, TypeFault>, AllocError>
+        ensures node { IfOk result (λ r. r ≡ root_of (plain_of context.now arguments.now)) }
+        ensures places { IfOk result (λ r. IfOk r (λ _. Ok self.new.places.items ≡ added_below self.old.places.items (plain_of context.now arguments.now))) }
+    {
+        match self.check_arguments(context, arguments.len(), arguments)? {
+            Ok(found) => {
+                let own = own(
+                    self.alloc,
+                    context.op,
+                    &context.want,
+                    arguments,
+                    found.kinds.as_slice(),
+                )?;
+                finished(self.alloc, context, own, found.may)
+            }
+            Err(fault) => Ok(Err(fault)),
+        }
+    }
+
+    #[tactic(auto, using(expr_syntax::specs::Falls::argument_weight))]
+    #[cycle(checking)]
+    fn check_let<'x>(
+        &mut self,
+        context: &'x NodeContext<'x>,
+        names: &'x Names,
+        arguments: &'x [Expr],
+    ) -> Result<Result<Kinded, TypeFault>, AllocError>
+        requires { context.now.op.now ≡ operators.Let names.now }
+        ensures node { IfOk result (λ r. r ≡ root_of (let_of context.now names.now arguments.now)) }
+        ensures places { IfOk result (λ r. IfOk r (λ _. Ok self.new.places.items ≡ added_below self.old.places.items (let_of context.now names.now arguments.now))) }
+    {
+        let (bindings, rest) = cut(arguments, names);
+        match self.check_arguments(&*context, arguments.len(), bindings)? {
+            Ok(found) => {
+                if rest.len() != 1 {
+                    return refused(self.alloc, context.here, TypeCode::Kind);
+                }
+                match self.check_body(&*context, &*names, found.kinds.as_slice(), &rest[0])? {
+                    Ok(node) => Ok(Ok(with_bindings(&context.want, found.may, node))),
+                    Err(fault) => Ok(Err(fault)),
+                }
+            }
+            Err(fault) => Ok(Err(fault)),
+        }
+    }
+
+    // The body of a `let`, in the names that it binds.
+    #[tactic(auto, using(expr_syntax::specs::Falls::argument_weight))]
+    #[cycle(checking)]
+    fn check_body<'x>(
+        &mut self,
+        context: &'x NodeContext<'x>,
+        names: &'x Names,
+        kinds: &'x [Kind],
+        body: &'x Expr,
+    ) -> Result<Result<Kinded, TypeFault>, AllocError>
+        requires each { length names.now ≡ length kinds.now }
+        ensures node { IfOk result (λ r. r ≡ root_of (body_of context.now names.now kinds.now body.now)) }
+        ensures places { IfOk result (λ r. IfOk r (λ _. Ok self.new.places.items ≡ added self.old.places.items (body_of context.now names.now kinds.now body.now))) }
+    {
+        let count = names.len();
+        let scope = Scope::Inside(Bound { names, kinds }, &*context.scope);
+        let inside = NodeContext {
+            op: &*context.op,
+            want: context.want,
+            scope: &scope,
+            here: &*context.here,
+        };
+        self.check_argument(&inside, count + 1, count, &*body)
+    }
+
+    // The arguments from left to right, of which the first has the place 0 among so many.
+    #[tactic(auto, using(expr_syntax::specs::Falls::argument_weight))]
+    #[cycle(checking)]
+    fn check_arguments<'x>(
+        &mut self,
+        context: &'x NodeContext<'x>,
+        count: usize,
+        arguments: &'x [Expr],
+    ) -> Result<Result<ArgumentKinds, TypeFault>, AllocError>
+        ensures kinds { IfOk result (λ r. kinds_of r ≡ kinds_after [] no_faults (founds_in context.now count 0 arguments.now)) }
+        ensures places { IfOk result (λ r. IfOk r (λ _. Ok self.new.places.items ≡ all_added self.old.places.items (founds_in context.now count 0 arguments.now))) }
+    {
+        let mut kinds = Vec::with_capacity(self.alloc, arguments.len())?;
+        let mut may = FaultSet::empty();
+        for (place, argument) in arguments.iter().enumerate() {
+            match self.check_argument(context, count, place, argument)? {
+                Ok(node) => {
+                    kinds.push(node.kind)?;
+                    may = may.union(node.may);
+                }
+                Err(fault) => return Ok(Err(fault)),
+            }
+        }
+        Ok(Ok(ArgumentKinds { kinds, may }))
+    }
+
+    #[tactic(auto, using(expr_syntax::specs::Falls::argument_weight))]
+    #[cycle(checking)]
+    fn check_argument<'x>(
+        &mut self,
+        context: &'x NodeContext<'x>,
+        count: usize,
+        place: usize,
+        argument: &'x Expr,
+    ) -> Result<Result<Kinded, TypeFault>, AllocError>
+        requires short { place < 2 ^ 60 }
+        ensures node { IfOk result (λ r. r ≡ root_of (argument_found context.now count place argument.now)) }
+        ensures places { IfOk result (λ r. IfOk r (λ _. Ok self.new.places.items ≡ added self.old.places.items (argument_found context.now count place argument.now))) }
+    {
+        let element = Here::Index(element_at(context.op, count, place), &*context.here);
+        match key_at(context.op, place) {
+            None => self.check_at(&*context, count, place, &*argument, &element),
+            Some(key) => {
+                let option = Here::Key(key, &element);
+                self.check_at(&*context, count, place, &*argument, &option)
+            }
+        }
+    }
+
+    // The argument of a place, where it is.
+    #[tactic(auto, using(expr_syntax::specs::Falls::argument_weight))]
+    #[cycle(checking)]
+    fn check_at<'x>(
+        &mut self,
+        context: &'x NodeContext<'x>,
+        count: usize,
+        place: usize,
+        argument: &'x Expr,
+        there: &'x Here<'x>,
+    ) -> Result<Result<Kinded, TypeFault>, AllocError>
+        requires short { place < 2 ^ 60 }
+        ensures node { IfOk result (λ r. r ≡ root_of (found_at context.now count place argument.now (path_of there.now))) }
+        ensures places { IfOk result (λ r. IfOk r (λ _. Ok self.new.places.items ≡ added self.old.places.items (found_at context.now count place argument.now (path_of there.now)))) }
+    {
+        let own = argument_want(context.op, count, place, &context.want);
+        match self.check_expression(argument, &own, context.scope, there)? {
+            Ok(node) => looked_at(self.alloc, is_sequence(context.op, place), node, there),
+            Err(fault) => Ok(Err(fault)),
+        }
     }
 }
 
 fn finished(
     alloc: Global,
-    op: &Operator,
-    want: &Want,
+    context: &NodeContext<'_>,
     own: Own,
     may: FaultSet,
-    here: &Here<'_>,
 ) -> Result<Result<Kinded, TypeFault>, AllocError>
-    ensures { IfOk result (λ node. node ≡ finished_node op.now want.now own may (path_of here.now)) }
+    ensures { IfOk result (λ node. node ≡ finished_node context.now.op.now context.now.want own may (path_of context.now.here.now)) }
 {
-    if is_branching(op) {
-        branched(alloc, want, own, may, here)
+    if is_branching(context.op) {
+        branched(alloc, &context.want, own, may, context.here)
     } else {
-        fitted(alloc, want, own, may, here)
-    }
-}
-
-#[tactic(auto, using(expr_syntax::specs::Falls::argument_weight))]
-#[cycle(checking)]
-fn check_let<'x>(
-    alloc: Global,
-    op: &'x Operator,
-    names: &'x Names,
-    arguments: &'x [Expr],
-    want: &Want,
-    scope: &'x Scope<'x>,
-    here: &Here<'_>,
-    places: &mut Vec<Placed>,
-) -> Result<Result<Kinded, TypeFault>, AllocError>
-    requires { op.now ≡ operators.Let names.now }
-    ensures node { IfOk result (λ r. r ≡ root_of (let_typed names.now (typings_of arguments.now) want.now (scope_of scope.now) (path_of here.now))) }
-    ensures places { IfOk result (λ r. IfOk r (λ _. Ok places.new.items ≡ added_below places.old.items (let_typed names.now (typings_of arguments.now) want.now (scope_of scope.now) (path_of here.now)))) }
-{
-    let (bindings, rest) = cut(arguments, names);
-    match check_arguments(
-        alloc,
-        op,
-        arguments.len(),
-        bindings,
-        want,
-        &*scope,
-        here,
-        places,
-    )? {
-        Ok(found) => {
-            if rest.len() != 1 {
-                return refused(alloc, here, TypeCode::Kind);
-            }
-            match check_body(
-                alloc,
-                &*op,
-                &*names,
-                found.kinds.as_slice(),
-                &rest[0],
-                want,
-                &*scope,
-                here,
-                places,
-            )? {
-                Ok(node) => Ok(Ok(with_bindings(want, found.may, node))),
-                Err(fault) => Ok(Err(fault)),
-            }
-        }
-        Err(fault) => Ok(Err(fault)),
+        fitted(alloc, &context.want, own, may, context.here)
     }
 }
 
@@ -230,125 +303,6 @@ fn cut<'x>(arguments: &'x [Expr], names: &Names) -> (&'x [Expr], &'x [Expr])
         arguments.split_at(count)
     } else {
         (arguments, &[])
-    }
-}
-
-// The body of a `let`, in the names that it binds.
-#[tactic(auto, using(expr_syntax::specs::Falls::argument_weight))]
-#[cycle(checking)]
-fn check_body<'x>(
-    alloc: Global,
-    op: &'x Operator,
-    names: &'x Names,
-    kinds: &'x [Kind],
-    body: &'x Expr,
-    want: &Want,
-    scope: &'x Scope<'x>,
-    here: &Here<'_>,
-    places: &mut Vec<Placed>,
-) -> Result<Result<Kinded, TypeFault>, AllocError>
-    requires each { length names.now ≡ length kinds.now }
-    ensures node { IfOk result (λ r. r ≡ root_of (body_of op.now names.now kinds.now body.now want.now scope.now here.now)) }
-    ensures places { IfOk result (λ r. IfOk r (λ _. Ok places.new.items ≡ added places.old.items (body_of op.now names.now kinds.now body.now want.now scope.now here.now))) }
-{
-    let count = names.len();
-    let inside = Scope::Inside(Bound { names, kinds }, &*scope);
-    check_argument(
-        alloc,
-        op,
-        count + 1,
-        count,
-        body,
-        want,
-        &inside,
-        here,
-        places,
-    )
-}
-
-// The arguments from left to right, of which the first has the place `from` among so many.
-#[tactic(auto, using(expr_syntax::specs::Falls::argument_weight))]
-#[cycle(checking)]
-fn check_arguments<'x>(
-    alloc: Global,
-    op: &'x Operator,
-    count: usize,
-    arguments: &'x [Expr],
-    want: &Want,
-    scope: &'x Scope<'x>,
-    here: &Here<'_>,
-    places: &mut Vec<Placed>,
-) -> Result<Result<ArgumentKinds, TypeFault>, AllocError>
-    ensures kinds { IfOk result (λ r. kinds_of r ≡ kinds_after [] no_faults (founds_in op.now count 0 arguments.now want.now scope.now here.now)) }
-    ensures places { IfOk result (λ r. IfOk r (λ _. Ok places.new.items ≡ all_added places.old.items (founds_in op.now count 0 arguments.now want.now scope.now here.now))) }
-{
-    let mut kinds = Vec::with_capacity(alloc, arguments.len())?;
-    let mut may = FaultSet::empty();
-    for (place, argument) in arguments.iter().enumerate() {
-        match check_argument(alloc, op, count, place, argument, want, scope, here, places)? {
-            Ok(node) => {
-                kinds.push(node.kind)?;
-                may = may.union(node.may);
-            }
-            Err(fault) => return Ok(Err(fault)),
-        }
-    }
-    Ok(Ok(ArgumentKinds { kinds, may }))
-}
-
-#[tactic(auto, using(expr_syntax::specs::Falls::argument_weight))]
-#[cycle(checking)]
-fn check_argument<'x>(
-    alloc: Global,
-    op: &'x Operator,
-    count: usize,
-    place: usize,
-    argument: &'x Expr,
-    want: &Want,
-    scope: &'x Scope<'x>,
-    here: &Here<'_>,
-    places: &mut Vec<Placed>,
-) -> Result<Result<Kinded, TypeFault>, AllocError>
-    requires short { place < 2 ^ 60 }
-    ensures node { IfOk result (λ r. r ≡ root_of (argument_found op.now count place argument.now want.now scope.now here.now)) }
-    ensures places { IfOk result (λ r. IfOk r (λ _. Ok places.new.items ≡ added places.old.items (argument_found op.now count place argument.now want.now scope.now here.now))) }
-{
-    let element = Here::Index(element_at(op, count, place), &*here);
-    match key_at(op, place) {
-        None => check_at(
-            alloc, op, count, place, argument, want, scope, &element, places,
-        ),
-        Some(key) => {
-            let option = Here::Key(key, &element);
-            check_at(
-                alloc, op, count, place, argument, want, scope, &option, places,
-            )
-        }
-    }
-}
-
-// The argument of a place, where it stands.
-#[tactic(auto, using(expr_syntax::specs::Falls::argument_weight))]
-#[cycle(checking)]
-fn check_at<'x>(
-    alloc: Global,
-    op: &'x Operator,
-    count: usize,
-    place: usize,
-    argument: &'x Expr,
-    want: &Want,
-    scope: &'x Scope<'x>,
-    there: &Here<'_>,
-    places: &mut Vec<Placed>,
-) -> Result<Result<Kinded, TypeFault>, AllocError>
-    requires short { place < 2 ^ 60 }
-    ensures node { IfOk result (λ r. r ≡ root_of (found_at op.now count place argument.now want.now scope.now (path_of there.now))) }
-    ensures places { IfOk result (λ r. IfOk r (λ _. Ok places.new.items ≡ added places.old.items (found_at op.now count place argument.now want.now scope.now (path_of there.now)))) }
-{
-    let own = argument_want(op, count, place, want);
-    match check_expression(alloc, argument, &own, scope, there, places)? {
-        Ok(node) => looked_at(alloc, is_sequence(op, place), node, there),
-        Err(fault) => Ok(Err(fault)),
     }
 }
 

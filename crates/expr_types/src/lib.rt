@@ -15,9 +15,9 @@
 //! What is promised: `check_free` gives exactly the first type fault of `checked_free`, else the expression with its want; `check` the
 //! same by `checked`, and then the first node that reads what its row, or a filter, may not read, and then the first `zoom` that is
 //! elsewhere than at the input of the root. `kind`, `may`, `want_at` and `always_at` are exactly what `typed` of `specs/Typing.antt`
-//! finds. That no other fault comes at evaluation is not stated yet.
+//! finds. That evaluation gives no other fault, and only values of the kind, are laws of the crate `typing_laws`.
 //!
-//! Time is linear in the expression, but for names: a `var` is looked for among the names of the `let`s around it, one by one. The
+//! Time is linear in the expression, but for names: a `var` asks each `let` around it, which finds a name in logarithmic time. The
 //! recursion is as deep as the tree. Memory is taken for a path of a fault, for the kinds of arguments, and for what is known of each
 //! node.
 //!
@@ -34,6 +34,7 @@ mod comparing;
 mod fault;
 mod fits;
 mod literals;
+mod misplaced_reads;
 mod nodes;
 mod own;
 mod placed;
@@ -41,7 +42,6 @@ mod ramping;
 mod scope;
 mod sequences;
 mod standing;
-mod strays;
 mod table;
 mod typed;
 mod visiting;

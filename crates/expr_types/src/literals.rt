@@ -5,7 +5,8 @@ ghost use Rattle.prop_values.specs.View.{data_of};
 ghost use Rattle.prop_values.specs.declared.kinds.Want.TheVariants as wants;
 ghost use Rattle.property_tables.specs.Fitting.{fit};
 ghost use Rattle.expr_syntax.specs.TermView.{term_of};
-ghost use Rattle.expr_types.specs.Literals.{is_value, some_item_of, count_of, literal_kind, surely_fits};
+ghost use Rattle.expr_types.specs.Literals.{is_value, count_of, literal_kind, surely_fits};
+ghost use Rattle.expr_types.specs.LiteralView.{some_item_of};
 ghost use Rattle.expr_types.specs.Typing.{literal_of};
 
 use expr_syntax::Expr;

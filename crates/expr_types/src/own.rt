@@ -1,7 +1,7 @@
 //! What a node has of its own.
 
 ghost use Rattle.std.specs.Prelude.{◌≡◌};
-ghost use Rattle.expr_types.specs.Own.{owns, faults_if, misfit, some_kind, all_kinds, common_with, common_kind};
+ghost use Rattle.expr_types.specs.Own.{owns, faults_if, ill_typed, some_kind, all_kinds, common_with, common_kind};
 
 use crate::fault::TypeCode;
 use crate::fits::same_kind;
@@ -36,8 +36,8 @@ pub(crate) fn faults_if(holds: bool, fault: EvalFault) -> FaultSet
 }
 
 /// A number of arguments that no expression that was read has.
-pub(crate) fn misfit() -> Own
-    ensures { result ≡ misfit }
+pub(crate) fn ill_typed() -> Own
+    ensures { result ≡ ill_typed }
 {
     Own {
         kind: Kind::Any,

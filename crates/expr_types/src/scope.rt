@@ -5,7 +5,7 @@ ghost use Rattle.expr_types.specs.Typing.{own_named};
 ghost use Rattle.expr_types.specs.ScopeView.{scope_of};
 
 use crate::bindings::{Bound, last_kind};
-use crate::own::{Own, misfit, owns};
+use crate::own::{Own, ill_typed, owns};
 use prop_values::FaultSet;
 
 /// The names around an expression with their kinds: those of each `let`, the innermost first.
@@ -20,7 +20,7 @@ pub(crate) fn own_named(scope: &Scope<'_>, asked: &str) -> Own
     ensures { result ≡ own_named (scope_of scope.now) asked.now }
 {
     match scope {
-        Scope::Empty => misfit(),
+        Scope::Empty => ill_typed(),
         Scope::Inside(bound, outer) => match last_kind(bound, asked) {
             Some(kind) => owns(kind, FaultSet::empty()),
             None => own_named(outer, asked),

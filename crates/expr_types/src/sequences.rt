@@ -5,7 +5,7 @@ ghost use Rattle.expr_types.specs.Sequences.{sequence_fit, item_kind, kind_of_it
 
 use crate::comparing::{is_compound, unless_comparable};
 use crate::fits::Fit;
-use crate::own::{Own, misfit, owns};
+use crate::own::{Own, ill_typed, owns};
 use prop_values::{EvalFault, FaultSet, Item, Kind};
 
 /// How a kind fits where a text or a list is asked.
@@ -68,7 +68,7 @@ pub(crate) fn own_index_of(kinds: &[Kind]) -> Own
     match kinds {
         [needle, _] => own_place(*needle, FaultSet::empty()),
         [needle, _, _] => own_place(*needle, index_faults()),
-        _ => misfit(),
+        _ => ill_typed(),
     }
 }
 
@@ -96,7 +96,7 @@ pub(crate) fn own_slice(kinds: &[Kind]) -> Own
     ensures { result ≡ own_slice kinds.now }
 {
     match kinds {
-        [] => misfit(),
+        [] => ill_typed(),
         [sequence, ..] => owns(
             stretch_kind(*sequence),
             FaultSet::one(EvalFault::IndexNotWhole),

@@ -2,7 +2,8 @@
 
 ghost use Rattle.std.specs.Prelude.{◌≡◌, ◌<◌, ◌^◌, IfOk, length, drop};
 ghost use Rattle.prop_values.specs.Faults.{no_faults};
-ghost use Rattle.expr_types.specs.Own.{owns, one_own, two_own, joined, noted, common_kind};
+ghost use Rattle.expr_types.specs.Own.{owns, one_own, two_own, common_kind};
+ghost use Rattle.expr_types.specs.CommonKinds.{joined, noted};
 ghost use Rattle.expr_types.specs.Sequences.{own_at, own_in};
 ghost use Rattle.expr_types.specs.Comparing.{own_equal, own_ordered};
 ghost use Rattle.expr_types.specs.Assertions.{own_array};
@@ -14,7 +15,7 @@ use crate::assertions::{item_or_any, own_array, own_asserted, own_to_color, own_
 use crate::comparing::{has_such_labels, own_equal, own_ordered, unless_comparable};
 use crate::fits::same_kind;
 use crate::literals::count_of;
-use crate::own::{Own, common_kind, misfit, owns};
+use crate::own::{Own, common_kind, ill_typed, owns};
 use crate::ramping::own_ramp;
 use crate::sequences::{own_at, own_in, own_index_of, own_slice};
 use expr_syntax::{Expr, Labelled, Operator, Piece, Role};
@@ -71,7 +72,7 @@ fn own_plain(op: &Operator, arguments: &[Expr], kinds: &[Kind]) -> Own
         Operator::Match(labels) => own_match(labels.as_slice(), kinds),
         Operator::Coalesce => just(common_kind(kinds)),
         Operator::Step(_) => just(common_kind(later(kinds))),
-        Operator::Interpolate(_) | Operator::Let(_) | Operator::Var(_) => misfit(),
+        Operator::Interpolate(_) | Operator::Let(_) | Operator::Var(_) => ill_typed(),
         Operator::Zoom => just(Kind::Number),
         Operator::Concat => just(Kind::Text),
         Operator::Rgb | Operator::Rgba => owns(Kind::Color, FaultSet::one(EvalFault::ColorRange)),
@@ -118,7 +119,7 @@ fn own_array_of(item: Item, count: Option<u32>, kinds: &[Kind]) -> Own
 {
     match kinds {
         [kind] => own_array(item, count, *kind),
-        _ => misfit(),
+        _ => ill_typed(),
     }
 }
 
@@ -127,7 +128,7 @@ fn at_two(kinds: &[Kind]) -> Own
 {
     match kinds {
         [index, list] => own_at(*index, *list),
-        _ => misfit(),
+        _ => ill_typed(),
     }
 }
 
@@ -136,7 +137,7 @@ fn in_two(kinds: &[Kind]) -> Own
 {
     match kinds {
         [needle, sequence] => own_in(*needle, *sequence),
-        _ => misfit(),
+        _ => ill_typed(),
     }
 }
 
@@ -145,7 +146,7 @@ fn equal_two(kinds: &[Kind]) -> Own
 {
     match kinds {
         [one, other] => own_equal(*one, *other),
-        _ => misfit(),
+        _ => ill_typed(),
     }
 }
 
@@ -154,7 +155,7 @@ fn ordered_two(kinds: &[Kind]) -> Own
 {
     match kinds {
         [one, other] => own_ordered(*one, *other),
-        _ => misfit(),
+        _ => ill_typed(),
     }
 }
 
@@ -206,7 +207,7 @@ fn own_match(labels: &[Labelled], kinds: &[Kind]) -> Own
     ensures { result ≡ own_match labels.now kinds.now }
 {
     match kinds {
-        [] => misfit(),
+        [] => ill_typed(),
         [input, outputs @ ..] => Own {
             kind: common_kind(outputs),
             code: unless_comparable(has_such_labels(*input, labels)),

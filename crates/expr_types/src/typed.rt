@@ -8,13 +8,13 @@ ghost use Rattle.expr_types.specs.Checked.{checked, checked_free};
 ghost use Rattle.expr_types.specs.Judged.{kind_of, may_of, places_in, want_in, always_in, judged, stray_or};
 ghost use Rattle.expr_types.specs.Typing.{typed};
 
-use crate::checking::check_expression;
+use crate::checking::Checking;
 use crate::fault::{TypeCode, TypeFault};
+use crate::misplaced_reads::MisplacedReads;
 use crate::placed::{Kinded, Placed};
 use crate::scope::Scope;
 use crate::standing::Standing;
-use crate::strays::Strays;
-use crate::visiting::visit;
+use crate::visiting::Walk;
 use decimal_json::Here;
 use expr_syntax::Expr;
 use prop_values::{FaultSet, Kind, Want};
@@ -102,22 +102,25 @@ pub fn check<'a>(
         Ok(typed) => typed,
         Err(fault) => return Ok(Err(fault)),
     };
-    let strays = visit(
-        alloc,
+    let walk = Walk { alloc, row };
+    let found = walk.visit(
         expression,
-        row,
         Standing::Reached,
         &Here::Root,
-        Strays::none(),
+        MisplacedReads::none(),
     )?;
-    Ok(unless_stray(typed, strays, row.is_some()))
+    Ok(unless_misplaced(typed, found, row.is_some()))
 }
 
 // Where nothing stands where it may not.
-fn unless_stray<'a>(typed: Typed<'a>, strays: Strays, has_row: bool) -> Result<Typed<'a>, TypeFault>
-    ensures { result ≡ stray_or strays.unread strays.zoom has_row typed.entry }
+fn unless_misplaced<'a>(
+    typed: Typed<'a>,
+    found: MisplacedReads,
+    has_row: bool,
+) -> Result<Typed<'a>, TypeFault>
+    ensures { result ≡ stray_or found.unread found.zoom has_row typed.entry }
 {
-    let Strays { unread, zoom, .. } = strays;
+    let MisplacedReads { unread, zoom, .. } = found;
     match (unread, zoom) {
         (Some(path), _) => Err(TypeFault {
             path,
@@ -148,20 +151,16 @@ fn check_under<'a>(
 ) -> Result<Result<Typed<'a>, TypeFault>, AllocError>
     ensures { IfOk result (λ r. r ≡ judged (term_of expression.now, want.now) (typed (term_of expression.now) want.now [] [])) }
 {
-    let mut places = Vec::new(alloc);
-    match check_expression(
+    let mut checking = Checking {
         alloc,
-        expression,
-        want,
-        &Scope::Empty,
-        &Here::Root,
-        &mut places,
-    )? {
+        places: Vec::new(alloc),
+    };
+    match checking.check_expression(expression, want, &Scope::Empty, &Here::Root)? {
         Ok(node) => Ok(Ok(Typed {
             expression,
             want: *want,
             node,
-            places,
+            places: checking.places,
         })),
         Err(fault) => Ok(Err(fault)),
     }

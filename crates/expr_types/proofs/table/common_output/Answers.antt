@@ -1,6 +1,7 @@
 use Rattle.std.proofs.Common.{◌≡◌, ◌+◌, ap, ◌∙◌, drop, length, get_or}
 use Rattle.prop_values.specs.declared.kinds.Kind.TheVariants as kinds
-use Rattle.expr_types.specs.Own.{common_after, common_kind}
+use Rattle.expr_types.specs.Own.{common_kind}
+use Rattle.expr_types.specs.CommonKinds.{common_after}
 use Rattle.expr_types.specs.OwnTable.{output_kinds}
 use Rattle.expr_types.proofs.KindLaws.{output_turn}
 use Rattle.expr_types.proofs.table.common_output.Goals as goal

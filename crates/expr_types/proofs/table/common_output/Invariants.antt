@@ -1,5 +1,6 @@
 use Rattle.std.proofs.Common.{◌≡◌, drop, length}
-use Rattle.expr_types.specs.Own.{common_kind, common_after}
+use Rattle.expr_types.specs.Own.{common_kind}
+use Rattle.expr_types.specs.CommonKinds.{common_after}
 use Rattle.expr_types.specs.OwnTable.{output_kinds}
 use Rattle.expr_types.proofs.table.common_output.Given as goal
 

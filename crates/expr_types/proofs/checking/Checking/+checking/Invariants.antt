@@ -1,14 +1,10 @@
 use Rattle.std.proofs.Common.{◌≡◌, ℕ, ◌+◌, ◌*◌, drop, []}
-use Rattle.decimal_json.specs.Place.{path_of}
 use Rattle.prop_values.specs.Faults.{no_faults}
 use Rattle.expr_syntax.specs.Term.{nodes}
-use Rattle.expr_syntax.specs.TermView.{term_of}
 use Rattle.expr_syntax.specs.Falls.{weight}
-use Rattle.expr_types.specs.LiteralView.{typings_of}
-use Rattle.expr_types.specs.ScopeView.{scope_of}
-use Rattle.expr_types.specs.Typing.{founds_of}
+use Rattle.expr_syntax.specs.TermView.{term_of}
 use Rattle.expr_types.specs.TypedView.{kinds_after, all_added, founds_in}
-use Rattle.expr_types.proofs.checking.+checking.Given as goal
+use Rattle.expr_types.proofs.checking.Checking.+checking.Given as goal
 
 abbrev pub decreases-check_expression : goal.decreases-check_expression
 decreases-check_expression l = 8 * nodes (term_of l.expression.now)
@@ -39,6 +35,6 @@ decreases-check_at l = 8 * nodes (term_of l.argument.now) + 1
 
 abbrev pub invariant-check_arguments-loop-place : goal.invariant-check_arguments-loop-place
 invariant-check_arguments-loop-place l = record {
-  kinds : kinds_after l.kinds.items l.may (founds_in l.op l.count l.place (drop l.place l.arguments) l.want l.scope l.here) ≡ kinds_after [] no_faults (founds_in l.op l.count 0 l.arguments l.want l.scope l.here);
-  places : all_added l.places.items (founds_in l.op l.count l.place (drop l.place l.arguments) l.want l.scope l.here) ≡ all_added l.fn.places.items (founds_in l.op l.count 0 l.arguments l.want l.scope l.here);
+  kinds : kinds_after l.kinds.items l.may (founds_in l.context l.count l.place (drop l.place l.arguments)) ≡ kinds_after [] no_faults (founds_in l.context l.count 0 l.arguments);
+  places : all_added l.self.places.items (founds_in l.context l.count l.place (drop l.place l.arguments)) ≡ all_added l.fn.self.places.items (founds_in l.context l.count 0 l.arguments);
 }

@@ -3,7 +3,8 @@
 ghost use Rattle.std.specs.Prelude.{◌≡◌, IfOk, option_map};
 ghost use Rattle.decimal_json.specs.Place.{path_of};
 ghost use Rattle.property_tables.specs.RowView.{row_seen};
-ghost use Rattle.expr_types.specs.Allowed.{allowed_by, is_input, first_path, path_if, noted_if, none_noted};
+ghost use Rattle.expr_types.specs.Allowed.{allowed_by, is_input};
+ghost use Rattle.expr_types.specs.MisplacedReads.{first_path, path_if, noted_if, none_noted};
 
 use crate::standing::Standing;
 use decimal_json::{Here, Path, path_to};
@@ -14,17 +15,17 @@ use std::alloc::{AllocError, Global};
 /// What a walk over the nodes of an expression in document order has found: the first that reads what it may not, the first `zoom`
 /// that stands elsewhere than as the input of the root, or behind another, and whether there was a `zoom`.
 #[derive(Drop)]
-pub(crate) struct Strays {
+pub(crate) struct MisplacedReads {
     pub(crate) unread: Option<Path>,
     pub(crate) zoom: Option<Path>,
     pub(crate) has_zoom: bool,
 }
 
-impl Strays {
-    pub(crate) fn none() -> Strays
+impl MisplacedReads {
+    pub(crate) fn none() -> MisplacedReads
         ensures { result ≡ none_noted }
     {
-        Strays {
+        MisplacedReads {
             unread: None,
             zoom: None,
             has_zoom: false,
@@ -55,14 +56,14 @@ fn is_input(standing: Standing) -> bool
 fn first_path(
     alloc: Global,
     found: Option<Path>,
-    is_stray: bool,
+    is_misplaced: bool,
     here: &Here<'_>,
 ) -> Result<Option<Path>, AllocError>
-    ensures { IfOk result (λ path. path ≡ first_path found (path_if is_stray (path_of here.now))) }
+    ensures { IfOk result (λ path. path ≡ first_path found (path_if is_misplaced (path_of here.now))) }
 {
     match found {
         Some(path) => Ok(Some(path)),
-        None if is_stray => Ok(Some(path_to(alloc, here)?)),
+        None if is_misplaced => Ok(Some(path_to(alloc, here)?)),
         None => Ok(None),
     }
 }
@@ -70,23 +71,23 @@ fn first_path(
 /// What was found, and one node more.
 pub(crate) fn noted(
     alloc: Global,
-    strays: Strays,
+    found: MisplacedReads,
     allowed: bool,
     reads: Mentions,
     standing: Standing,
     here: &Here<'_>,
-) -> Result<Strays, AllocError>
-    ensures { IfOk result (λ s. s ≡ noted_if allowed (record { reads = reads; standing = standing; path = path_of here.now }) strays) }
+) -> Result<MisplacedReads, AllocError>
+    ensures { IfOk result (λ s. s ≡ noted_if allowed (record { reads = reads; standing = standing; path = path_of here.now }) found) }
 {
-    let Strays {
+    let MisplacedReads {
         unread,
         zoom,
         has_zoom,
-    } = strays;
-    let is_stray = reads.zoom && (has_zoom || !is_input(standing));
-    Ok(Strays {
+    } = found;
+    let is_misplaced = reads.zoom && (has_zoom || !is_input(standing));
+    Ok(MisplacedReads {
         unread: first_path(alloc, unread, !allowed, here)?,
-        zoom: first_path(alloc, zoom, is_stray, here)?,
+        zoom: first_path(alloc, zoom, is_misplaced, here)?,
         has_zoom: has_zoom || reads.zoom,
     })
 }
