@@ -3,7 +3,7 @@ use Rattle.std.proofs.Common.{◌≡◌, ◌≢◌, ◌∙◌, ℕ, zero, suc, �
 use Rattle.std.specs.Prelude.{Some, None, if◌then◌else◌}
 use Rattle.std.proofs.lemmas.List.{length-map}
 use Rattle.prop_values.specs.Equality.{same_text}
-use Rattle.prop_values.specs.Keys.{texts_same, texts_differ}
+use Rattle.prop_values.proofs.KeyLaws.{texts_same, texts_differ}
 use Rattle.property_tables.specs.NameIndex.{name_at, IsPlaceOf, IsNowhere}
 use Rattle.property_tables.specs.Rows.{RowData, row_named}
 use Rattle.property_tables.specs.RowView.{names_of, rows_seen, entry_seen}
