@@ -8,7 +8,7 @@ use Rattle.edit_script.specs.Edit.{Edit}
 use Rattle.feature_states.specs.Members.{same_feature}
 use Rattle.prop_values.specs.Changes.{merged}
 use Rattle.prop_values.specs.Data.{Data, pairs_of}
-use Rattle.prop_values.specs.View.{entries_of-pairs_of}
+use Rattle.prop_values.proofs.ViewLaws.{entries_of-pairs_of}
 use Rattle.style_edits.specs.Edited.{edited}
 use Rattle.style_edits.specs.Faults.{edit_fault}
 use Rattle.style_edits.specs.declared.faults.EditFault.{EditFault}

@@ -6,7 +6,7 @@ ghost use Rattle.expr_plain.specs.Resolved.{resolved, passes};
 use prop_values::{EvalFault, Outcome, Value};
 
 /// What a listing has for a property: its value, or after a fault the default, where there is one, with the fault.
-#[tactic(auto, using(prop_values::specs::View::value_again))]
+#[tactic(auto, using(prop_values::proofs::ViewLaws::value_again))]
 pub fn resolved(evaluated: Result<Value, EvalFault>, default: Option<Value>) -> Outcome
     ensures { result ≡ resolved (option_map data_of default) (evaluated_of evaluated) }
 {

@@ -95,7 +95,7 @@ fn with_scale(current: Section, value: &Value) -> Result<Section, Halt>
     }
 }
 
-#[tactic(auto, using(prop_values::specs::View::value_again))]
+#[tactic(auto, using(prop_values::proofs::ViewLaws::value_again))]
 fn with_font(current: Section, value: &Value) -> Result<Section, Halt>
     ensures { (before : List Data) → GivesOpen before result (add_piece Font (data_of value.now) (before, current)) }
 {

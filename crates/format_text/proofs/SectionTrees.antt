@@ -23,7 +23,8 @@ use Rattle.decimal_json.specs.Tree.{Tree, object}
 use Rattle.prop_values.specs.Data.{Data, null, boolean, number, text, color, list, map, Items, no_items, item, items_of, list_of, Pairs, no_pairs}
 use Rattle.prop_values.specs.Equality.{at_key}
 use Rattle.prop_values.specs.JsonData.{json_data}
-use Rattle.prop_values.specs.View.{data_of, items, value_of, value_again}
+use Rattle.prop_values.specs.View.{data_of, items, value_of}
+use Rattle.prop_values.proofs.ViewLaws.{value_again}
 use Rattle.prop_values.specs.declared.value.Value.{Value}
 use Rattle.format_text.specs.ReadText.{AreTexts, IsFont, IsSection, AreSections, EachTextIsOfOneList}
 use Rattle.format_text.specs.Reading.{font_in, section_by, section_in, section_said, joined, sections_in, sections_said, sections_of_json, after, AreFonts, SaysSections}

@@ -167,7 +167,7 @@ fn scale_in(value: Option<&Value>) -> Option<Fixed>
     }
 }
 
-#[tactic(auto, using(prop_values::specs::View::value_again))]
+#[tactic(auto, using(prop_values::proofs::ViewLaws::value_again))]
 fn font_in(value: Option<&Value>) -> Result<Option<Value>, AllocError>
     ensures { IfOk result (λ font. font ≡ font_in (option_map (λ v. data_of v.now) value.entry)) }
 {

@@ -13,7 +13,7 @@ use Rattle.prop_values.specs.Data.{Data, null, boolean, number as number_data, t
 use Rattle.prop_values.specs.Equality.{equal, same_flag, same_text}
 use Rattle.prop_values.specs.Forms.{kind_name}
 use Rattle.prop_values.specs.JsonData.{json_data}
-use Rattle.prop_values.specs.Keys.{texts_same, same_texts}
+use Rattle.prop_values.proofs.KeyLaws.{texts_same, same_texts}
 use Rattle.prop_values.specs.declared.kinds.Want.{Want}
 use Rattle.prop_values.specs.declared.kinds.Want.TheVariants as wants
 use Rattle.interpolate_fixed.specs.Places.{input_at, count_not_above}

@@ -3,7 +3,7 @@ use Rattle.std.proofs.Common.{◌≡◌, ◌≢◌, ◌∙◌, ℕ, ◌+◌, zer
 use Rattle.std.proofs.lemmas.List.Elements.{All-head, All-tail}
 use Rattle.std.specs.Prelude.{Bool, All, AllPairs, Option, Some, None, if◌then◌else◌}
 use Rattle.prop_values.specs.Equality.{same_text}
-use Rattle.prop_values.specs.Keys.{texts_same, same_texts, texts_differ}
+use Rattle.prop_values.proofs.KeyLaws.{texts_same, same_texts, texts_differ}
 use Rattle.property_tables.specs.Rows.{RowData, rows_of, row_named, is_at, at_place, row_of}
 use Rattle.property_tables.specs.TableLaws.{TableKeepsRules}
 use Rattle.property_tables.specs.declared.layer_type.LayerType.{LayerType}

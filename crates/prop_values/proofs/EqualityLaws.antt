@@ -8,8 +8,8 @@ use Rattle.fixed_num.specs.declared.color.Color.{Color}
 use Rattle.prop_values.specs.Data.{Data, null, boolean, number, text, color, list, map, Items, no_items, item, Pairs, no_pairs, pair, pairs_of, entries_of, LacksKey, HasDistinctKeys}
 use Rattle.prop_values.specs.Equality.{same_flag, same_text, same_color, at_key, keys_in, equal, items_equal, pairs_in}
 use Rattle.prop_values.specs.EqualityLaws.{IsKeyed, AreKeyed, HasKeyedData, both_equal, MapsAreEqualByKeys, EqualityIsReflexive, EqualityIsSymmetric}
-use Rattle.prop_values.specs.Keys.{texts_same, same_texts, texts_differ}
-use Rattle.prop_values.specs.View.{entries_of-pairs_of}
+use Rattle.prop_values.proofs.KeyLaws.{texts_same, same_texts, texts_differ}
+use Rattle.prop_values.proofs.ViewLaws.{entries_of-pairs_of}
 
 parts_true : (x y : Bool) → (x && y) ≡ true → (x ≡ true) × (y ≡ true)
 parts_true true true h = (refl, refl)

@@ -1,3 +1,9 @@
+-- For callers: what stands at a key, what a value's data gives back, and the measures of a recursion.
+pub mod KeyLaws
+pub mod ViewLaws
+pub mod Falls
+-- What models and laws use.
+pub mod ChangeLaws
 pub mod Keys
 pub mod IndexSteps
 pub mod JsonKeys

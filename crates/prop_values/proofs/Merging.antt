@@ -6,7 +6,8 @@ use Rattle.std.proofs.lemmas.List.{append-nil, length-take, take-append-le}
 use Rattle.prop_values.specs.Changes.{with_member, merged}
 use Rattle.prop_values.specs.Data.{Data, null, pairs_of, LacksKey, HasDistinctKeys}
 use Rattle.prop_values.specs.Equality.{same_text, at_key}
-use Rattle.prop_values.specs.Keys.{keys, texts_same, texts_differ}
+use Rattle.prop_values.specs.Keys.{keys}
+use Rattle.prop_values.proofs.KeyLaws.{texts_same, texts_differ}
 use Rattle.prop_values.specs.MergeSteps.{with_key, with_keys, replaced, all_replaced}
 use Rattle.prop_values.proofs.Replacing.{keys_replaced}
 

@@ -1,16 +1,16 @@
--- Each child is smaller than its parent: what the two models owe, and what a recursion over a value does.
-use Rattle.std.specs.Prelude.{◌≡◌, ℕ, ◌≤◌, ◌<◌, List, [], ◌∷◌, length, Option, Some, None, Vec}
+-- Each child is smaller than its parent: what the models of lists and entries owe.
+use Rattle.std.specs.Prelude.{◌≤◌, List, [], ◌∷◌, Option, Some, None, Vec}
 use Rattle.std.specs.declared.rc.Rc.{Rc}
 use Rattle.std.specs.declared.alloc.Global.{Global}
-use Rattle.std.proofs.Common.{arith, ap, get_or, zero, suc}
-use denote.Param.Weighed.{most, at_most}
+use Rattle.std.proofs.Common.{arith}
+use denote.Param.Weighed.{most}
 use Rattle.prop_values.specs.declared.value.Value.{Value}
 use Rattle.prop_values.specs.declared.value.Value.TheVariants.{the_data, Null, Bool as Flag, Num, Text, Color, List as ListOf, Map}
 use Rattle.prop_values.specs.declared.value.Entry.{Entry}
 use Rattle.prop_values.specs.declared.value.Entries.TheDeep.{deep-Value, deep-Entry}
 use Rattle.prop_values.specs.declared.value.Entries.TheShapes.{weighed-Values-values}
-use Rattle.prop_values.specs.Data.{Data, nodes, items_nodes, pairs_nodes}
-use Rattle.prop_values.specs.View.{data_of, values_view, entries_view, values_size, entries_size, items, pairs, kept}
+use Rattle.prop_values.specs.Data.{nodes}
+use Rattle.prop_values.specs.View.{data_of, values_view, entries_view, values_size, entries_size, kept}
 
 deep_le-nodes : (v : Value) → deep-Value v ≤ nodes (data_of v)
 deep_le-nodes Null = omega arith
@@ -32,23 +32,3 @@ kept_fall (Some values) = omega (arith, values_fall values.value.items)
 pub entries_fall : (es : List Entry) → most deep-Entry es ≤ entries_size (entries_view es)
 entries_fall [] = omega arith
 entries_fall (e ∷ es) = omega (arith, deep_le-nodes e.value, entries_fall es)
-
--- For callers: a value that `as_slice` of `Values` lends is smaller than the values.
-pub value_falls : (vs : List Value) (ds : List Data) (i : ℕ) (v : Value) → values_view vs ≡ ds → i < length vs → v ≡ get_or vs i v → deep-Value v ≤ values_size ds
-value_falls vs ds i v e h p = let a = at_most deep-Value vs i v h in let b = values_fall vs in let q = ap deep-Value p in let r = ap values_size e in omega arith
-
--- For callers: a value that `as_slice` of `Entries` lends is smaller than the entries.
-pub entry_falls : (es : List Entry) (ps : List (List ℕ × Data)) (i : ℕ) (x : Entry) → entries_view es ≡ ps → i < length es → x ≡ get_or es i x → deep-Value x.value ≤ entries_size ps
-entry_falls es ps i x e h p = let a = at_most deep-Entry es i x h in let b = entries_fall es in let q = ap deep-Entry p in let r = ap entries_size e in omega arith
-
--- For callers whose measure is a number of nodes: a value has no more nodes than the values.
-pub value_weight : (vs : List Value) (i : ℕ) (v : Value) → v ≡ get_or vs i v → i < length vs → nodes (data_of v) ≤ items_nodes (items vs)
-value_weight [] i v p h = absurd (omega arith)
-value_weight (x ∷ vs) zero v p h = let q = ap (λ y. nodes (data_of y)) p in omega arith
-value_weight (x ∷ vs) (suc i) v p h = let r = value_weight vs i v p (omega arith) in omega arith
-
--- For callers: a value has no more nodes than the entries.
-pub entry_weight : (es : List Entry) (i : ℕ) (e : Entry) → e ≡ get_or es i e → i < length es → nodes (data_of e.value) ≤ pairs_nodes (pairs es)
-entry_weight [] i e p h = absurd (omega arith)
-entry_weight (x ∷ es) zero e p h = let q = ap (λ (y : Entry). nodes (data_of y.value)) p in omega arith
-entry_weight (x ∷ es) (suc i) e p h = let r = entry_weight es i e p (omega arith) in omega arith

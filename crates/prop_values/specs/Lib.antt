@@ -11,7 +11,6 @@ pub mod JsonData
 pub mod Changes
 -- Laws of these.
 pub mod EqualityLaws
-pub mod ChangeLaws
 -- What only contracts of private functions, models and proofs use.
 pub mod DataCode
 pub mod Falls

@@ -1,11 +1,8 @@
 -- Which data a value of the program is.
-use Rattle.std.specs.Prelude.{◌≡◌, ℕ, ◌+◌, List, [], ◌∷◌, map, refl, Result, Ok, Err, Option, Some, None, Vec}
-use Rattle.std.proofs.Common.{ap}
-use Rattle.std.specs.Coded.{Coded, code_by}
+use Rattle.std.specs.Prelude.{ℕ, ◌+◌, List, [], map, Result, Ok, Err, Option, Some, None, Vec}
 use Rattle.std.specs.declared.rc.Rc.{Rc}
 use Rattle.std.specs.declared.alloc.Global.{Global}
 use Rattle.prop_values.specs.Data.{Data, null, boolean, number, text, color, list, map as mapping, Items, Pairs, items_of, pairs_of, list_of, entries_of, items_nodes, pairs_nodes}
-use Rattle.prop_values.specs.DataCode.{data_code}
 use Rattle.prop_values.specs.declared.value.Value.{Value}
 use Rattle.prop_values.specs.declared.value.Value.TheVariants.{Null, Bool as Flag, Num, Text, Color, List as ListOf, Map}
 use Rattle.prop_values.specs.declared.value.Entry.{Entry}
@@ -30,28 +27,6 @@ value_of (text s) = Text s
 value_of (color c) = Color c
 value_of (list ds) = ListOf (list_of ds)
 value_of (mapping ps) = Map (entries_of ps)
-
-pub list_of-items_of : (ds : List Data) → list_of (items_of ds) ≡ ds
-list_of-items_of [] = refl
-list_of-items_of (d ∷ ds) = ap (λ xs. d ∷ xs) (list_of-items_of ds)
-
-pub entries_of-pairs_of : (ps : List (List ℕ × Data)) → entries_of (pairs_of ps) ≡ ps
-entries_of-pairs_of [] = refl
-entries_of-pairs_of (p ∷ ps) = ap (λ xs. p ∷ xs) (entries_of-pairs_of ps)
-
--- For callers: the data gives the value back.
-pub value_again : (v : Value) → value_of (data_of v) ≡ v
-value_again Null = refl
-value_again (Flag b) = refl
-value_again (Num n) = refl
-value_again (Text s) = refl
-value_again (Color c) = refl
-value_again (ListOf ds) = ap ListOf (list_of-items_of ds)
-value_again (Map ps) = ap Map (entries_of-pairs_of ps)
-
--- For callers whose models hold values.
-abbrev pub value_code : Coded Value
-value_code = code_by Data data_code data_of value_of value_again
 
 -- the items that a list has in common with others
 abbrev pub kept : Option (Rc (Vec Value Global) Global) → List Value

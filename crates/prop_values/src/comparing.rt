@@ -12,7 +12,7 @@ use std::cmp::Ordering;
 
 /// Whether two values are of one form with equal parts. Maps are equal in whatever order their
 /// entries stand, in n log n of them.
-#[tactic(auto, using(crate::specs::Falls::value_weight, crate::specs::Falls::entry_weight))]
+#[tactic(auto, using(crate::proofs::Falls::value_weight, crate::proofs::Falls::entry_weight))]
 #[cycle(equals)]
 pub fn equals(a: &Value, b: &Value) -> bool
     ensures { result ≡ equal (data_of a.now) (data_of b.now) }
@@ -35,7 +35,7 @@ pub fn equals(a: &Value, b: &Value) -> bool
     }
 }
 
-#[tactic(auto, using(crate::specs::Falls::value_weight, crate::specs::Falls::entry_weight, crate::proofs::Lengths::other_length))]
+#[tactic(auto, using(crate::proofs::Falls::value_weight, crate::proofs::Falls::entry_weight, crate::proofs::Lengths::other_length))]
 #[cycle(equals)]
 fn are_equal(a: &[Value], b: &[Value]) -> bool
     ensures { result ≡ items_equal (items a.now) (items b.now) }
@@ -52,7 +52,7 @@ fn are_equal(a: &[Value], b: &[Value]) -> bool
 }
 
 // Whether the map has each of the entries.
-#[tactic(auto, using(crate::specs::Falls::value_weight, crate::specs::Falls::entry_weight))]
+#[tactic(auto, using(crate::proofs::Falls::value_weight, crate::proofs::Falls::entry_weight))]
 #[cycle(equals)]
 fn has_pairs(map: &Entries, entries: &[Entry]) -> bool
     ensures { result ≡ pairs_in (pairs entries.now) (pairs_of map.now) }

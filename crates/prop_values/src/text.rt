@@ -62,7 +62,7 @@ pub fn to_text(alloc: Global, value: &Value) -> Result<Text, AllocError>
     Text::copy_of(alloc, text.as_str())
 }
 
-#[tactic(auto, using(crate::specs::Falls::value_falls, crate::specs::Falls::entry_falls))]
+#[tactic(auto, using(crate::proofs::Falls::value_falls, crate::proofs::Falls::entry_falls))]
 #[cycle(append)]
 fn append_json(alloc: Global, value: &Value, out: &mut String) -> Result<(), AllocError>
     ensures { OnOk result (string_bytes out.new ≡ string_bytes out.old ++ data_json (data_of value.now)) }
@@ -82,7 +82,7 @@ fn append_json(alloc: Global, value: &Value, out: &mut String) -> Result<(), All
     }
 }
 
-#[tactic(auto, using(crate::specs::Falls::value_falls, crate::specs::Falls::entry_falls))]
+#[tactic(auto, using(crate::proofs::Falls::value_falls, crate::proofs::Falls::entry_falls))]
 #[cycle(append)]
 fn append_values(alloc: Global, values: &Values, out: &mut String) -> Result<(), AllocError>
     ensures { OnOk result (string_bytes out.new ≡ string_bytes out.old ++ data_json (list (items_of values.now))) }
@@ -97,7 +97,7 @@ fn append_values(alloc: Global, values: &Values, out: &mut String) -> Result<(),
     out.push_str("]")
 }
 
-#[tactic(auto, using(crate::specs::Falls::value_falls, crate::specs::Falls::entry_falls))]
+#[tactic(auto, using(crate::proofs::Falls::value_falls, crate::proofs::Falls::entry_falls))]
 #[cycle(append)]
 fn append_entries(alloc: Global, entries: &Entries, out: &mut String) -> Result<(), AllocError>
     ensures { OnOk result (string_bytes out.new ≡ string_bytes out.old ++ data_json (map (pairs_of entries.now))) }

@@ -281,7 +281,7 @@ impl Entries {
     }
 
     /// The value at a key, or `None` exactly where no entry has the key.
-    #[tactic(auto, using(crate::specs::Keys::none_at_lacking, crate::specs::Keys::lacking_from_none, crate::proofs::IndexSteps::place_none))]
+    #[tactic(auto, using(crate::proofs::KeyLaws::none_at_lacking, crate::proofs::KeyLaws::lacking_from_none, crate::proofs::IndexSteps::place_none))]
     pub fn get(&self, key: &str) -> Option<&Value>
         ensures value { option_map (λ v. data_of v.now) result ≡ at_key key.now (pairs_of self.now) }
         ensures none { IsNone result ↔ LacksKey key.now self.now }

@@ -2,7 +2,7 @@
 use Rattle.std.proofs.Common.{◌≡◌, ◌≢◌, ◌∙◌, ℕ, zero, suc, ◌+◌, ◌<◌, sym, ap, refl, List, [], ◌∷◌, get_or, length, arith}
 use Rattle.std.specs.Prelude.{Some, None}
 use Rattle.std.proofs.lemmas.List.{length-map}
-use Rattle.prop_values.specs.Keys.{texts_same, texts_differ}
+use Rattle.prop_values.proofs.KeyLaws.{texts_same, texts_differ}
 use Rattle.property_tables.specs.NameIndex.{name_at, IsPlaceOf, IsNowhere}
 use Rattle.property_tables.specs.Rows.{row_named}
 use Rattle.property_tables.specs.RowView.{names_of, rows_seen, entry_seen}

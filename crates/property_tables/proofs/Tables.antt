@@ -12,7 +12,7 @@ use Rattle.color_values.specs.HexColor.{hexadecimal_color}
 use Rattle.color_values.specs.Parts.{trimmed, parts_of, cut}
 use Rattle.color_values.specs.RgbColor.{rgb_color}
 use Rattle.prop_values.specs.Equality.{same_text}
-use Rattle.prop_values.specs.Keys.{texts_same}
+use Rattle.prop_values.proofs.KeyLaws.{texts_same}
 use Rattle.prop_values.specs.Data.{Data}
 use Rattle.property_tables.specs.Defaults.{written_default, default_of, fitted, fitted_default}
 use Rattle.property_tables.specs.Fitting.{fit}

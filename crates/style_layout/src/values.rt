@@ -23,7 +23,7 @@ use std::alloc::{AllocError, Global};
 use tile_reader::Feature;
 
 /// What is listed for a property of a feature.
-#[tactic(auto, using(prop_values::specs::View::value_again))]
+#[tactic(auto, using(prop_values::proofs::ViewLaws::value_again))]
 pub(crate) fn outcome_of(
     alloc: Global,
     property: &Property,

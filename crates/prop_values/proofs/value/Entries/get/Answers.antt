@@ -1,7 +1,8 @@
 use Rattle.std.proofs.Common.{◌≡◌, sym, ap, ◌∙◌, Some, arith}
 use Rattle.prop_values.specs.Data.{pairs_of}
 use Rattle.prop_values.specs.Equality.{at_key}
-use Rattle.prop_values.specs.Keys.{keys, none_at_lacking}
+use Rattle.prop_values.specs.Keys.{keys}
+use Rattle.prop_values.proofs.KeyLaws.{none_at_lacking}
 use Rattle.key_index.specs.Keys.{place_from}
 use Rattle.prop_values.specs.View.{data_of, entries_view}
 use Rattle.prop_values.proofs.IndexSteps.{found_within, found_value}

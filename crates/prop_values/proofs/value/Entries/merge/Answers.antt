@@ -1,7 +1,7 @@
 use Rattle.std.proofs.Common.{◌≡◌, List, [], ◌∷◌, length, arith, ap, ◌∙◌, sym, refl}
 use Rattle.std.specs.Prelude.{vec_len}
 use Rattle.std.proofs.lemmas.Bool.{eqb-true}
-use Rattle.prop_values.specs.ChangeLaws.{at_merged}
+use Rattle.prop_values.proofs.ChangeLaws.{at_merged}
 use Rattle.prop_values.specs.Changes.{merged}
 use Rattle.prop_values.specs.Data.{pairs_of}
 use Rattle.prop_values.specs.Equality.{at_key}

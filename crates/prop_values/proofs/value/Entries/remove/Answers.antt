@@ -1,5 +1,5 @@
 use Rattle.std.proofs.Common.{◌≡◌, ◌+◌, Some, None, sym, ap, ◌∙◌, arith, subst, remove}
-use Rattle.prop_values.specs.ChangeLaws.{at_without}
+use Rattle.prop_values.proofs.ChangeLaws.{at_without}
 use Rattle.prop_values.specs.Data.{HasDistinctKeys, pairs_of}
 use Rattle.prop_values.specs.Equality.{at_key}
 use Rattle.prop_values.specs.Changes.{without_key}

@@ -6,7 +6,7 @@ use Rattle.std.proofs.lemmas.Bool.{both_ways}
 use Rattle.prop_values.specs.Changes.{with_member, merged, without_key}
 use Rattle.prop_values.specs.Data.{Data, pairs_of, LacksKey, HasDistinctKeys}
 use Rattle.prop_values.specs.Equality.{same_text, at_key}
-use Rattle.prop_values.specs.Keys.{same_texts, texts_same, none_at_lacking}
+use Rattle.prop_values.proofs.KeyLaws.{same_texts, texts_same, none_at_lacking}
 
 -- two tests that do not both hold may be asked in either order
 either_first : (a b : Bool) (x y z : Option Data) → (a ≡ true → b ≡ true → x ≡ y) → (if a then x else (if b then y else z)) ≡ (if b then y else (if a then x else z))
