@@ -3,7 +3,7 @@
 //! ```text
 //! let style = prepare(alloc, &document, &globals)?;          // a document without findings
 //! if cell_count(&style, &tiles) <= 8_000_000 {
-//!     write_listing(alloc, &style, &scene, &tiles, &mut out)?;
+//!     write_listing(alloc, &style, &scene, images, scripts, &tiles, &mut out)?;
 //!     // zoom 12.24
 //!     // layer "place" symbol
 //!     // ..
