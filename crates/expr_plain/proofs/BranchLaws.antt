@@ -15,8 +15,7 @@ use Rattle.expr_syntax.specs.declared.expression.Expr.{Expr}
 use Rattle.expr_syntax.specs.declared.parts.Labelled.{Labelled}
 use Rattle.expr_syntax.specs.Chosen.{output_of}
 use Rattle.expr_syntax.specs.Operators.{ramp_want}
-use Rattle.expr_syntax.specs.TermView.{term_of}
-use Rattle.expr_syntax.specs.Falls.{weight}
+use Rattle.expr_syntax.specs.TermView.{term_of, weight}
 use Rattle.operator_values.specs.declared.halt.Halt.{Halt}
 use Rattle.operator_values.specs.Arithmetic.{then_number}
 use Rattle.operator_values.specs.Evaluated.{Evaluated, Gives, then_value, or_fault}

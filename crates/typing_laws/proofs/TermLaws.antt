@@ -18,7 +18,7 @@ use Rattle.operator_values.specs.Texts.{concat_of}
 use Rattle.eval_face.specs.Bindings.{var_of}
 use Rattle.eval_face.specs.Branches.{case_of, match_of, step_of, ramp_of}
 use Rattle.eval_face.specs.Decisions.{first_of}
-use Rattle.eval_face.specs.Fitted.{each_value_is_fitted}
+use Rattle.eval_face.proofs.FittedLaws.{each_value_is_fitted}
 use Rattle.eval_face.specs.Lookups.{id_value, shape_name}
 use Rattle.eval_face.specs.Meaning.{node_meaning, mean, means}
 use Rattle.eval_face.specs.Meanings.{Meaning}
