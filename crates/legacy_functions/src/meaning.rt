@@ -20,7 +20,7 @@ use crate::categories::Categories;
 use crate::function::{Body, Function, Output, Rule, Way};
 use crate::stops::{Base, NumberStops, ZoomRules};
 use crate::tokens::token_text;
-use fixed_num::{Arith, Fixed};
+use fixed_num::Fixed;
 use interpolate_fixed::{StopPlace, step_place, stop_place, warp};
 use operator_values::{Halt, value_between};
 use prop_values::{Curve, EvalFault, Value, Want, copy};
@@ -236,11 +236,7 @@ fn numeric_value(
 fn moved_input(base: &Base, stops: &NumberStops, input: Fixed) -> Result<Fixed, EvalFault>
     ensures { result ≡ or_fault (warp_of (Exponential base.now.value) (inputs_in stops.now) input) }
 {
-    match warp(&Curve::Exponential(base.value()), stops.inputs(), input) {
-        Ok(moved) => Ok(moved),
-        Err(Arith::Overflow) => Err(EvalFault::Overflow),
-        Err(Arith::DivideByZero) => Err(EvalFault::DivideByZero),
-    }
+    Ok(warp(&Curve::Exponential(base.value()), stops.inputs(), input)?)
 }
 
 #[tactic(auto, using(crate::proofs::MeaningLaws::inputs_length))]

@@ -6,7 +6,7 @@ ghost use Rattle.prop_values.specs.View.{data_of, items, evaluated_of};
 ghost use Rattle.operator_values.specs.Evaluated.{Gives};
 ghost use Rattle.operator_values.specs.Ramps.{between_of, list_between, number_between, pairs_in};
 
-use crate::arithmetic::{fault_of, number_value};
+use crate::arithmetic::number_value;
 use crate::halt::Halt;
 use fixed_num::Fixed;
 use interpolate_fixed::{linear, linear_color};

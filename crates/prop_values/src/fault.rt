@@ -1,6 +1,8 @@
 ghost use Rattle.std.specs.Prelude.{◌≡◌, ◌↔◌, IsTrue};
 ghost use Rattle.prop_values.specs.Faults.{fault_name, holds, no_faults, one_fault, union};
 
+use fixed_num::Arith;
+
 /// Why an expression has no value.
 #[derive(Clone, Copy, Debug, PartialEq, Eq)]
 pub enum EvalFault {
@@ -42,6 +44,20 @@ impl EvalFault {
             EvalFault::ColorRange => "ColorRange",
             EvalFault::NotOrdered => "NotOrdered",
             EvalFault::NotInEnum => "NotInEnum",
+        }
+    }
+}
+
+impl From<Arith> for EvalFault {
+    ghost use Rattle.std.specs.Prelude.{◌≡◌};
+    ghost use Rattle.prop_values.specs.Faults.{fault_of};
+
+    ghost from_gives = { λ arith fault. fault ≡ fault_of arith };
+
+    fn from(arith: Arith) -> EvalFault {
+        match arith {
+            Arith::Overflow => EvalFault::Overflow,
+            Arith::DivideByZero => EvalFault::DivideByZero,
         }
     }
 }
