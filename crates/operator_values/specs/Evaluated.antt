@@ -6,14 +6,14 @@ use Rattle.prop_values.specs.Faults.{fault_of}
 use Rattle.prop_values.specs.View.{data_of}
 use Rattle.prop_values.specs.declared.fault.EvalFault.{EvalFault}
 use Rattle.prop_values.specs.declared.value.Value.{Value}
-use Rattle.operator_values.specs.declared.halt.Halt.{Halt}
-use Rattle.operator_values.specs.declared.halt.Halt.TheVariants.{Fault, NoMemory}
+use Rattle.halts.specs.declared.halt.Halt.{Halt}
+use Rattle.halts.specs.declared.halt.Halt.TheVariants.{Fault, NoMemory}
 
 abbrev pub Evaluated : Type 0
 Evaluated = Result Data EvalFault
 
 -- What the program gives is what is meant, unless it lacks memory.
-abbrev pub Gives : Result Value Halt → Evaluated → Type 0
+abbrev pub Gives : Result Value (Halt EvalFault) → Evaluated → Type 0
 Gives (Ok v) meant = meant ≡ Ok (data_of v)
 Gives (Err (Fault fault)) meant = meant ≡ Err fault
 Gives (Err NoMemory) meant = Unit {0}

@@ -2,6 +2,7 @@ ghost use Rattle.std.specs.Prelude.{◌≡◌, ◌↔◌, IsTrue};
 ghost use Rattle.prop_values.specs.Faults.{fault_name, holds, no_faults, one_fault, union};
 
 use fixed_num::Arith;
+use halts::Halt;
 
 /// Why an expression has no value.
 #[derive(Clone, Copy, Debug, PartialEq, Eq)]
@@ -59,6 +60,17 @@ impl From<Arith> for EvalFault {
             Arith::Overflow => EvalFault::Overflow,
             Arith::DivideByZero => EvalFault::DivideByZero,
         }
+    }
+}
+
+impl From<EvalFault> for Halt<EvalFault> {
+    ghost use Rattle.std.specs.Prelude.{◌≡◌};
+    ghost use Rattle.halts.specs.declared.halt.Halt.TheVariants.{Fault};
+
+    ghost from_gives = { λ fault halt. halt ≡ Fault fault };
+
+    fn from(fault: EvalFault) -> Halt<EvalFault> {
+        Halt::Fault(fault)
     }
 }
 

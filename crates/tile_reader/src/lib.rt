@@ -23,7 +23,6 @@
 
 mod fault;
 mod feature;
-mod halt;
 mod laws;
 mod layer;
 mod properties;

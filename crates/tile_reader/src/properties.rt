@@ -7,11 +7,11 @@ ghost use Rattle.tile_reader.specs.Lookup.{AreFirsts, AreInside, ArePlaces, pair
 
 use crate::fault::{TileFault, TileKind};
 use crate::feature::TaggedFeature;
-use crate::halt::Halt;
 use crate::tile::{Feature, Features};
 use crate::value::Held;
 use decimal_json::Text;
 use fixed_num::Fixed;
+use halts::Halt;
 use prop_values::{Entries, Value, copy};
 use std::alloc::{AllocError, Global};
 use std::collections::BTreeMap;
@@ -40,7 +40,7 @@ pub(crate) fn features(
     values: &[Held<'_>],
     tagged: &[TaggedFeature],
     tags: &[u64],
-) -> Result<Features, Halt>
+) -> Result<Features, Halt<TileFault>>
     requires { HasAllTags tagged.now tags.now }
     ensures { GivesOrLacks (λ all. all) result (features_of (texts_seen keys.now) (map value_seen values.now) [] (tagged_all tagged.now tags.now)) }
 {
@@ -83,7 +83,7 @@ fn features_with(
     table: &TagTable<'_>,
     tagged: &[TaggedFeature],
     tags: &[u64],
-) -> Result<Features, Halt>
+) -> Result<Features, Halt<TileFault>>
     requires firsts { AreFirsts table.now.firsts.now table.now.keys.now }
     requires tags { HasAllTags tagged.now tags.now }
     ensures { GivesOrLacks (λ all. all) result (features_of table.now.keys.now (map data_of table.now.values.now) [] (tagged_all tagged.now tags.now)) }
@@ -140,7 +140,7 @@ fn with_properties(
     tagged: &TaggedFeature,
     tags: &[u64],
     choice: &mut Choice,
-) -> Result<Feature, Halt>
+) -> Result<Feature, Halt<TileFault>>
     requires firsts { AreFirsts table.now.firsts.now table.now.keys.now }
     requires places { length choice.old.places.items ≡ length table.now.keys.now }
     ensures feature { GivesOrLacks (λ feature. feature) result (feature_of table.now.keys.now (map data_of table.now.values.now) (tagged_seen tagged.now tags.now)) }
