@@ -1,5 +1,5 @@
-//! Tests of public calls that no command of the program reaches: the table of operators, labels,
-//! legacy filters and edits of a style.
+//! Tests of public calls that no command of the program reaches: the table of operators, labels, the wants of
+//! nodes, legacy filters and edits of a style.
 //!
 //! A row that a command reaches stands in `worked_rows`, where it costs no proof. Here each call that can lack
 //! memory is made once with ample memory, and its answer is compared. Rows are constants, since each one in a
@@ -12,3 +12,5 @@ mod edit_calls;
 mod legacy_calls;
 #[cfg(test)]
 mod syntax_calls;
+#[cfg(test)]
+mod typing_calls;

@@ -5,8 +5,8 @@ use Rattle.std.specs.List.{list_all}
 use Rattle.std.proofs.lemmas.Bool.{and_parts}
 use Rattle.json_tokens.specs.declared.kind.JsonKind.{JsonKind}
 use Rattle.json_tokens.specs.declared.kind.JsonKind.TheVariants.{Syntax}
-use Rattle.json_tokens.specs.declared.halt.Halt.{Halt}
-use Rattle.json_tokens.specs.declared.halt.Halt.TheVariants.{Fault, NoMemory}
+use Rattle.halts.specs.declared.halt.Halt.{Halt}
+use Rattle.halts.specs.declared.halt.Halt.TheVariants.{Fault, NoMemory}
 use Rattle.json_tokens.specs.Rules.{Rules}
 use Rattle.json_tokens.specs.Number.{is_number_byte}
 use Rattle.json_tokens.specs.Runs.{Stops}
@@ -175,7 +175,7 @@ item_reaches {V} {L} s vs v b c taken =
     (reaches_next (s.Item vs) (λ w. PaddedBy (s.Rest (vs ++ w ∷ []))) v b c (rest_ends s (vs ++ v ∷ [])) taken)
 
 -- A fault in an item is one of the items.
-pub item_halts : {V L : Type 0} (s : CommaList V L) (halt : Halt) (start now left : List ℕ) (vs : List V) → IsRead s start vs now → Halts (s.Item vs) halt now left → Halts (s.Items []) halt start left
+pub item_halts : {V L : Type 0} (s : CommaList V L) (halt : Halt JsonKind) (start now left : List ℕ) (vs : List V) → IsRead s start vs now → Halts (s.Item vs) halt now left → Halts (s.Items []) halt start left
 item_halts s NoMemory start now left vs way fails = tt
 item_halts {V} {L} s (Fault kind) start now left vs way fails =
     reaches_fails (s.Items []) (s.Items vs) (joined s vs) kind start now left way
@@ -239,6 +239,6 @@ some_reaches {V} {L} s b other = ([], refl, record { there = λ r l x q h. s.fil
     | inr items ↦ (l, refl, items)
   ]
 
-pub whole_gives : {V L : Type 0} (s : CommaList V L) (b c left : List ℕ) (answer : Result (List V) Halt) → c ≡ b → ((x : List ℕ) → b ≡ s.close ∷ x → ⊥) → Gives (s.Items []) s.list_of c answer left → Gives s.Whole s.list_of b answer left
+pub whole_gives : {V L : Type 0} (s : CommaList V L) (b c left : List ℕ) (answer : Result (List V) (Halt JsonKind)) → c ≡ b → ((x : List ℕ) → b ≡ s.close ∷ x → ⊥) → Gives (s.Items []) s.list_of c answer left → Gives s.Whole s.list_of b answer left
 whole_gives {V} {L} s b c left (Ok vs) same other given = reaches_taken s.Whole (s.Items []) (λ (l : L). l) (s.list_of vs) b b left (some_reaches s b other) (subst (λ x. Takes (s.Items []) (s.list_of vs) x left) same given)
 whole_gives {V} {L} s b c left (Err halt) same other given = reaches_halts s.Whole (s.Items []) (λ (l : L). l) halt b b left (some_reaches s b other) (subst (λ x. Halts (s.Items []) halt x left) same given)

@@ -11,7 +11,8 @@ ghost use Rattle.decimal_json.specs.View.{tree_of};
 use crate::fault::JsonFault;
 use crate::tokens::{read_number, read_string, read_text, read_word};
 use crate::tree::{EXPRESSION_ROOM, Items, Json, Member, Members, PAIR_ROOM};
-use json_tokens::{Cursor, Halt, JsonKind};
+use halts::Halt;
+use json_tokens::{Cursor, JsonKind};
 use shared_text::{Document, Text};
 use std::alloc::{AllocError, Global};
 
@@ -51,7 +52,7 @@ fn read_document(alloc: Global, document: &Document) -> Result<Result<Json, Json
 }
 
 // Reads a value with the white space round it, to the end.
-fn read_whole(alloc: Global, cursor: &mut Cursor<'_>) -> Result<Json, Halt>
+fn read_whole(alloc: Global, cursor: &mut Cursor<'_>) -> Result<Json, Halt<JsonKind>>
     ensures gives { GivesWhole cursor.old result cursor.new }
     ensures shorter { length cursor.new ≤ length cursor.old }
 {
@@ -69,7 +70,7 @@ fn read_whole(alloc: Global, cursor: &mut Cursor<'_>) -> Result<Json, Halt>
 
 #[inline(always)]
 #[cycle(read)]
-fn read_value(alloc: Global, cursor: &mut Cursor<'_>, depth: usize) -> Result<Json, Halt>
+fn read_value(alloc: Global, cursor: &mut Cursor<'_>, depth: usize) -> Result<Json, Halt<JsonKind>>
     requires { depth ≤ MAX_OPEN }
     ensures gives { Gives (SpellsValue depth) tree_of cursor.old result cursor.new }
     ensures shorter { length cursor.new ≤ length cursor.old }
@@ -88,7 +89,7 @@ fn read_value(alloc: Global, cursor: &mut Cursor<'_>, depth: usize) -> Result<Js
 
 #[inline(never)]
 #[cycle(read)]
-fn read_list(alloc: Global, cursor: &mut Cursor<'_>, depth: usize) -> Result<Json, Halt>
+fn read_list(alloc: Global, cursor: &mut Cursor<'_>, depth: usize) -> Result<Json, Halt<JsonKind>>
     requires within { depth ≤ MAX_OPEN }
     requires bracket { first_of cursor.old ≡ Some 91 }
     ensures gives { Gives (SpellsValue depth) tree_of cursor.old result cursor.new }
@@ -108,7 +109,7 @@ fn read_list(alloc: Global, cursor: &mut Cursor<'_>, depth: usize) -> Result<Jso
 // Reads the items of an array whose bracket is open, and the bracket that closes it.
 #[inline(always)]
 #[cycle(read)]
-fn read_items(alloc: Global, cursor: &mut Cursor<'_>, depth: usize) -> Result<Items, Halt>
+fn read_items(alloc: Global, cursor: &mut Cursor<'_>, depth: usize) -> Result<Items, Halt<JsonKind>>
     requires { depth ≤ MAX_OPEN }
     ensures gives { Gives (SpellsItems depth) trees_of cursor.old result cursor.new }
     ensures shorter { length cursor.new ≤ length cursor.old }
@@ -131,7 +132,11 @@ fn first_room(cursor: &Cursor<'_>) -> usize {
 // Reads at least one item, and the bracket that closes the array.
 #[inline(always)]
 #[cycle(read)]
-fn read_elements(alloc: Global, cursor: &mut Cursor<'_>, depth: usize) -> Result<Items, Halt>
+fn read_elements(
+    alloc: Global,
+    cursor: &mut Cursor<'_>,
+    depth: usize,
+) -> Result<Items, Halt<JsonKind>>
     requires { depth ≤ MAX_OPEN }
     ensures gives { Gives (SpellsSome depth) trees_of cursor.old result cursor.new }
     ensures shorter { length cursor.new ≤ length cursor.old }
@@ -153,7 +158,7 @@ fn read_elements(alloc: Global, cursor: &mut Cursor<'_>, depth: usize) -> Result
 
 #[inline(never)]
 #[cycle(read)]
-fn read_object(alloc: Global, cursor: &mut Cursor<'_>, depth: usize) -> Result<Json, Halt>
+fn read_object(alloc: Global, cursor: &mut Cursor<'_>, depth: usize) -> Result<Json, Halt<JsonKind>>
     requires within { depth ≤ MAX_OPEN }
     requires brace { first_of cursor.old ≡ Some 123 }
     ensures gives { Gives (SpellsValue depth) tree_of cursor.old result cursor.new }
@@ -172,7 +177,11 @@ fn read_object(alloc: Global, cursor: &mut Cursor<'_>, depth: usize) -> Result<J
 
 // Reads the members of an object whose brace is open, and the brace that closes it.
 #[cycle(read)]
-fn read_members(alloc: Global, cursor: &mut Cursor<'_>, depth: usize) -> Result<Members, Halt>
+fn read_members(
+    alloc: Global,
+    cursor: &mut Cursor<'_>,
+    depth: usize,
+) -> Result<Members, Halt<JsonKind>>
     requires { depth ≤ MAX_OPEN }
     ensures gives { Gives (SpellsMembers depth) fields_of cursor.old result cursor.new }
     ensures shorter { length cursor.new ≤ length cursor.old }
@@ -185,7 +194,11 @@ fn read_members(alloc: Global, cursor: &mut Cursor<'_>, depth: usize) -> Result<
 
 // Reads at least one member, and the brace that closes the object.
 #[cycle(read)]
-fn read_pairs(alloc: Global, cursor: &mut Cursor<'_>, depth: usize) -> Result<Members, Halt>
+fn read_pairs(
+    alloc: Global,
+    cursor: &mut Cursor<'_>,
+    depth: usize,
+) -> Result<Members, Halt<JsonKind>>
     requires { depth ≤ MAX_OPEN }
     ensures gives { Gives (SpellsMembersOn depth []) fields_of cursor.old result cursor.new }
     ensures shorter { length cursor.new ≤ length cursor.old }
@@ -212,7 +225,7 @@ fn read_pair(
     cursor: &mut Cursor<'_>,
     depth: usize,
     members: &Members,
-) -> Result<Member, Halt>
+) -> Result<Member, Halt<JsonKind>>
     requires within { depth ≤ MAX_OPEN }
     requires utf8 { AreUtf8 (keys_of members.now) }
     ensures gives { Gives (SpellsPair depth (keys_of members.now)) pair_of cursor.old result cursor.new }
@@ -231,7 +244,7 @@ fn read_pair(
 
 // Reads the colon behind a key, and the value.
 #[cycle(read)]
-fn read_named(alloc: Global, cursor: &mut Cursor<'_>, depth: usize) -> Result<Json, Halt>
+fn read_named(alloc: Global, cursor: &mut Cursor<'_>, depth: usize) -> Result<Json, Halt<JsonKind>>
     requires { depth ≤ MAX_OPEN }
     ensures gives { Gives (SpellsNamed depth) tree_of cursor.old result cursor.new }
     ensures shorter { length cursor.new ≤ length cursor.old }
@@ -245,7 +258,11 @@ fn read_named(alloc: Global, cursor: &mut Cursor<'_>, depth: usize) -> Result<Js
 }
 
 // Reads a key that none of these members has, its marks included.
-fn read_key(alloc: Global, cursor: &mut Cursor<'_>, members: &Members) -> Result<Text, Halt>
+fn read_key(
+    alloc: Global,
+    cursor: &mut Cursor<'_>,
+    members: &Members,
+) -> Result<Text, Halt<JsonKind>>
     requires { AreUtf8 (keys_of members.now) }
     ensures gives { Gives (BehindByte 34 (SpellsKey (keys_of members.now))) (λ key. key) cursor.old result cursor.new }
     ensures fresh { IfOk result (λ key. IsNew key (keys_of members.now) × IsUtf8 key) }

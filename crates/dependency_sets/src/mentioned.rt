@@ -5,7 +5,7 @@ ghost use Rattle.expr_syntax.specs.TermView.{term_of, terms};
 use expr_syntax::{Expr, Mentions, Operator, Reads};
 
 /// What an expression reads of the world.
-#[tactic(auto, using(expr_syntax::specs::Falls::argument_weight))]
+#[tactic(auto, using(expr_syntax::proofs::Falls::argument_weight))]
 #[cycle(mentions)]
 pub fn mentions(expression: &Expr) -> Mentions
     ensures { result ≡ mentions (term_of expression.now) }
@@ -19,7 +19,7 @@ pub fn mentions(expression: &Expr) -> Mentions
     }
 }
 
-#[tactic(auto, using(expr_syntax::specs::Falls::argument_weight))]
+#[tactic(auto, using(expr_syntax::proofs::Falls::argument_weight))]
 #[cycle(mentions)]
 fn all_mentions(arguments: &[Expr]) -> Mentions
     ensures { result ≡ all_mentions (terms arguments.now) }
@@ -50,7 +50,7 @@ fn either(a: Mentions, b: Mentions) -> Mentions
 }
 
 /// What an operator itself reads, with these arguments.
-#[tactic(auto, using(expr_syntax::specs::Falls::count_terms))]
+#[tactic(auto, using(expr_syntax::proofs::Falls::count_terms))]
 pub fn of_operator(op: &Operator, arguments: &[Expr]) -> Mentions
     ensures { result ≡ of_operator op.now (count (terms arguments.now)) }
 {

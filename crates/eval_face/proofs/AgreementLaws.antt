@@ -20,12 +20,13 @@ use Rattle.expr_syntax.specs.Mentioned.{mentions, all_mentions, either, of_opera
 use Rattle.expr_syntax.specs.Names.{row}
 use Rattle.expr_syntax.specs.Operators.{operator_name, wanted_by, want_of, ramp_want}
 use Rattle.expr_syntax.specs.Term.{Term, literal, node, Terms, no_terms, term}
+use Rattle.tile_reader.specs.ShapeName.{shape_name}
 use Rattle.operator_values.specs.Arithmetic.{then_number}
 use Rattle.operator_values.specs.Evaluated.{Evaluated, then_value}
 use Rattle.eval_face.specs.World.{World}
 use Rattle.eval_face.specs.Names.{Names, bound}
 use Rattle.eval_face.specs.Meanings.{Meaning, argument_of, looked_at, is_sequence, values_of, and_values, then_values}
-use Rattle.eval_face.specs.Lookups.{entry_at, get_of, has_of, state_at, id_value, shape_name, image_of, script_of}
+use Rattle.eval_face.specs.Lookups.{entry_at, get_of, has_of, state_at, id_value, image_of, script_of}
 use Rattle.eval_face.specs.Decisions.{first_of, or_later}
 use Rattle.eval_face.specs.Branches.{branch, case_of, output_at, match_of, with_number, step_of, between_values, ramp_at, ramp_of}
 use Rattle.eval_face.specs.Bindings.{outcomes_of, body_of, let_of}

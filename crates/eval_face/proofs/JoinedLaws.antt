@@ -19,7 +19,7 @@ use Rattle.format_text.specs.Sections.{section_with, section_of, sections_values
 use Rattle.format_text.specs.declared.formatted.Section.{Section}
 use Rattle.operator_values.specs.Evaluated.{Evaluated, then_value}
 use Rattle.operator_values.specs.Texts.{joined, concat_of}
-use Rattle.eval_face.specs.Fitted.{each_value_is_fitted}
+use Rattle.eval_face.proofs.FittedLaws.{each_value_is_fitted}
 use Rattle.eval_face.specs.JoinedContents.{content_first, contents, IsOfContents, FormatsJoinTheirContents}
 use Rattle.eval_face.specs.Meaning.{mean, means}
 use Rattle.eval_face.specs.Meanings.{then_values, and_values, values_of}

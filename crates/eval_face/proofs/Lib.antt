@@ -1,3 +1,4 @@
+pub mod FittedLaws
 pub mod AgreementLaws
 pub mod ShownLaws
 pub mod JoinedLaws

@@ -1,11 +1,9 @@
 -- Operators that look something up: in the feature, in its state, or in an object (MapLibre style specification, version 8,
 -- expressions).
-use Rattle.std.specs.Prelude.{ℕ, ◌*◌, pos, List, [], ◌∷◌, Bool, codes, Option, Some, None, is_some, unwrap_or, Ok, Err, if◌then◌else◌}
+use Rattle.std.specs.Prelude.{ℕ, ◌*◌, pos, List, [], ◌∷◌, Bool, Option, Some, None, is_some, unwrap_or, Ok, Err, if◌then◌else◌}
 use Rattle.prop_values.specs.Data.{Data, null, boolean, number, text, map, Pairs, pairs_of}
 use Rattle.prop_values.specs.Equality.{at_key}
 use Rattle.prop_values.specs.declared.fault.EvalFault.TheVariants.{WrongType}
-use Rattle.tile_reader.specs.declared.tile.Shape.{Shape}
-use Rattle.tile_reader.specs.declared.tile.Shape.TheVariants.{Unknown, Point, LineString, Polygon}
 use Rattle.operator_values.specs.Evaluated.{Evaluated}
 
 -- what stands at a key, and null where nothing does
@@ -33,13 +31,6 @@ state_at state _ = Err WrongType
 abbrev pub id_value : Option ℕ → Data
 id_value (Some id) = number (pos (id * 1000000))
 id_value None = null
-
--- `geometry-type`
-abbrev pub shape_name : Shape → List ℕ
-shape_name Unknown = codes "Unknown"
-shape_name Point = codes "Point"
-shape_name LineString = codes "LineString"
-shape_name Polygon = codes "Polygon"
 
 -- `image`: the name itself, or null where the test says no
 abbrev pub image_of : (List ℕ → Bool) → List Data → Evaluated

@@ -11,6 +11,7 @@ use Rattle.expr_syntax.specs.declared.expression.Operator.{Operator}
 use Rattle.expr_syntax.specs.declared.expression.Operator.TheVariants.{Array, Boolean, Number, String, Object, ToBoolean, ToColor, ToNumber, ToString, TypeOf, Get, Has, Properties, Id, GeometryType, FeatureState, At, In, IndexOf, Length, Slice, Not, Equal, NotEqual, Less, LessOrEqual, Greater, GreaterOrEqual, All, Any, Case, Match, Coalesce, Step, Interpolate, Let, Var, Zoom, Concat, Rgb, Rgba, ToRgba, Add, Multiply, Subtract, Divide, Remainder, Abs, Ceil, Floor, Round, Min, Max, Image, IsSupportedScript, Format}
 use Rattle.expr_syntax.specs.declared.parts.Labelled.{Labelled}
 use Rattle.expr_syntax.specs.Operators.{item_or_any}
+use Rattle.tile_reader.specs.ShapeName.{shape_name}
 use Rattle.operator_values.specs.Evaluated.{Evaluated}
 use Rattle.operator_values.specs.Arithmetic.{sum_of, product_of, difference_of, quotient_of, remainder_of, of_number, least_of, greatest_of}
 use Rattle.operator_values.specs.Colors.{rgba_of, parts_of}
@@ -19,7 +20,7 @@ use Rattle.operator_values.specs.Sequences.{at_of, in_of, index_of_of, length_of
 use Rattle.operator_values.specs.Conversions.{truth_of, text_of, kind_of, negation_of}
 use Rattle.operator_values.specs.Texts.{concat_of}
 use Rattle.eval_face.specs.Decisions.{if_boolean, if_number, if_text, if_object, if_color, if_readable, if_false, if_true, if_there}
-use Rattle.eval_face.specs.Lookups.{get_of, has_of, state_at, id_value, shape_name, image_of, script_of}
+use Rattle.eval_face.specs.Lookups.{get_of, has_of, state_at, id_value, image_of, script_of}
 use Rattle.eval_face.specs.Sections.{format_of}
 use Rattle.eval_face.specs.World.{World}
 

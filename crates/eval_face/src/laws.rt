@@ -3,7 +3,7 @@ ghost use Rattle.eval_face.specs.Fitted.{EachValueIsFitted};
 ghost use Rattle.eval_face.specs.JoinedContents.{FormatsJoinTheirContents};
 
 /// A value that an expression gives under a want is fitted to it: fitting it once more changes nothing.
-#[tactic(auto, using(crate::specs::Fitted::each_value_is_fitted))]
+#[tactic(auto, using(crate::proofs::FittedLaws::each_value_is_fitted))]
 pub fn values_are_fitted()
     ensures { EachValueIsFitted }
 {}

@@ -15,9 +15,9 @@ use Rattle.expr_syntax.specs.declared.expression.Expr.{Expr}
 use Rattle.expr_syntax.specs.declared.parts.Labelled.{Labelled}
 use Rattle.expr_syntax.specs.Chosen.{output_of}
 use Rattle.expr_syntax.specs.Operators.{ramp_want}
-use Rattle.expr_syntax.specs.TermView.{term_of}
-use Rattle.expr_syntax.specs.Falls.{weight}
-use Rattle.operator_values.specs.declared.halt.Halt.{Halt}
+use Rattle.expr_syntax.specs.TermView.{term_of, weight}
+use Rattle.halts.specs.declared.halt.Halt.{Halt}
+use Rattle.prop_values.specs.declared.fault.EvalFault.{EvalFault}
 use Rattle.operator_values.specs.Arithmetic.{then_number}
 use Rattle.operator_values.specs.Evaluated.{Evaluated, Gives, then_value, or_fault}
 use Rattle.eval_face.specs.World.{World}
@@ -111,14 +111,14 @@ moved_given (Err a) z go h = absurd (cc)
 
 -- ---- what is given of the output that is chosen
 
-pub match_given : (r : Result Value Halt) (labels : List Labelled) (es : List Expr) (e : Expr) (want : Want) (names : Names) (world : World) (d : Data) (place : ℕ) → e ≡ get_or es 0 e → 1 ≤ length es → mean (term_of e) wants.Any names world ≡ Ok d → place ≡ output_of labels d (length (outputs_in es) - 1) → Gives r (output_at (meanings (outputs_in es)) place want names world) → Gives r (match_of labels (meanings es) want names world)
+pub match_given : (r : Result Value (Halt EvalFault)) (labels : List Labelled) (es : List Expr) (e : Expr) (want : Want) (names : Names) (world : World) (d : Data) (place : ℕ) → e ≡ get_or es 0 e → 1 ≤ length es → mean (term_of e) wants.Any names world ≡ Ok d → place ≡ output_of labels d (length (outputs_in es) - 1) → Gives r (output_at (meanings (outputs_in es)) place want names world) → Gives r (match_of labels (meanings es) want names world)
 match_given r labels es e want names world d place p h m s k =
     let outputs = outputs_in es in
     subst (Gives r) (match_first labels es e want names world p h)
     (subst (Gives r) (sym (ap (λ x. then_value x (λ y. output_at (meanings outputs) (output_of labels y (length outputs - 1)) want names world)) m))
     (subst (λ (n : ℕ). Gives r (output_at (meanings outputs) n want names world)) s k))
 
-pub ramp_given : (r : Result Value Halt) (curve : Curve) (inputs : List ℤ) (es : List Expr) (e : Expr) (want own : Want) (names : Names) (world : World) (d v : Data) (z x : ℤ) (place : StopPlace) → e ≡ get_or es 0 e → 1 ≤ length es → mean (term_of e) wants.Number names world ≡ Ok d → number_in d ≡ Ok z → or_fault (warp_of curve inputs z) ≡ Ok x → place ≡ place_of inputs x → own ≡ ramp_want want → ramp_at inputs (meanings (outputs_in es)) x place own names world ≡ Ok v → Gives r (fit want v) → Gives r (ramp_of curve inputs (meanings es) want names world)
+pub ramp_given : (r : Result Value (Halt EvalFault)) (curve : Curve) (inputs : List ℤ) (es : List Expr) (e : Expr) (want own : Want) (names : Names) (world : World) (d v : Data) (z x : ℤ) (place : StopPlace) → e ≡ get_or es 0 e → 1 ≤ length es → mean (term_of e) wants.Number names world ≡ Ok d → number_in d ≡ Ok z → or_fault (warp_of curve inputs z) ≡ Ok x → place ≡ place_of inputs x → own ≡ ramp_want want → ramp_at inputs (meanings (outputs_in es)) x place own names world ≡ Ok v → Gives r (fit want v) → Gives r (ramp_of curve inputs (meanings es) want names world)
 ramp_given r curve inputs es e want own names world d v z x place p h m n w s o a k =
     let outputs = meanings (outputs_in es) in
     let value_at = λ (y : ℤ). then_value (ramp_at inputs outputs y (place_of inputs y) (ramp_want want) names world) (fit want) in

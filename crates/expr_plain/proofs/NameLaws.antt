@@ -7,10 +7,9 @@ use Rattle.prop_values.specs.declared.kinds.Want.{Want}
 use Rattle.prop_values.specs.declared.kinds.Want.TheVariants as wants
 use Rattle.expr_syntax.specs.declared.expression.Expr.{Expr}
 use Rattle.expr_syntax.specs.BoundNames.{last_place}
-use Rattle.expr_syntax.specs.Falls.{weight}
-use Rattle.expr_syntax.specs.LastPlaces.{none_first, some_cases, last_above}
+use Rattle.expr_syntax.proofs.LastPlaces.{none_first, some_cases, last_above}
 use Rattle.expr_syntax.specs.Term.{nodes}
-use Rattle.expr_syntax.specs.TermView.{term_of}
+use Rattle.expr_syntax.specs.TermView.{term_of, weight}
 use Rattle.operator_values.specs.Evaluated.{Evaluated}
 use Rattle.eval_face.specs.World.{World}
 use Rattle.eval_face.specs.Names.{Names, bound, last_named, or_outer, named}

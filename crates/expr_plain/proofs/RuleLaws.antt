@@ -11,7 +11,8 @@ use Rattle.expr_syntax.specs.declared.rows.Manner.{Manner}
 use Rattle.expr_syntax.specs.declared.rows.Manner.TheVariants as manners
 use Rattle.expr_syntax.specs.Names.{row}
 use Rattle.expr_syntax.specs.Operators.{operator_name}
-use Rattle.operator_values.specs.declared.halt.Halt.{Halt}
+use Rattle.halts.specs.declared.halt.Halt.{Halt}
+use Rattle.prop_values.specs.declared.fault.EvalFault.{EvalFault}
 use Rattle.operator_values.specs.Evaluated.{Gives}
 use Rattle.eval_face.specs.World.{World}
 use Rattle.eval_face.specs.Rules.{Rule, each, rule_of}
@@ -53,5 +54,5 @@ each_rule Coalesce p d = absurd (d refl)
 each_rule _ p d = refl
 
 -- what is given of a node by the rule of its operator
-pub by_rule : (r : Result Value Halt) (op : Operator) (rule : Rule) (es : List Expr) (want : Want) (scope : Scope) (world : World) → rule ≡ rule_of op → Gives r (in_scope (meaning_by rule op (meanings es)) want scope world) → Gives r (in_scope (node_meaning op (meanings es)) want scope world)
+pub by_rule : (r : Result Value (Halt EvalFault)) (op : Operator) (rule : Rule) (es : List Expr) (want : Want) (scope : Scope) (world : World) → rule ≡ rule_of op → Gives r (in_scope (meaning_by rule op (meanings es)) want scope world) → Gives r (in_scope (node_meaning op (meanings es)) want scope world)
 by_rule r op rule es want scope world p h = subst (λ (x : Rule). Gives r (in_scope (meaning_by x op (meanings es)) want scope world)) p h

@@ -8,7 +8,7 @@ use Rattle.property_tables.specs.Fitting.{fit}
 use Rattle.expr_syntax.specs.TermView.{term_of}
 use Rattle.expr_syntax.specs.declared.expression.Expr.{Expr}
 use Rattle.expr_syntax.specs.declared.expression.Operator.{Operator}
-use Rattle.operator_values.specs.declared.halt.Halt.{Halt}
+use Rattle.halts.specs.declared.halt.Halt.{Halt}
 use Rattle.operator_values.specs.Evaluated.{Evaluated, Gives, then_value}
 use Rattle.eval_face.specs.World.{World}
 use Rattle.eval_face.specs.Names.{Names}
@@ -57,29 +57,29 @@ pub each_all : (op : Operator) (es : List Expr) (want : Want) (names : Names) (w
 each_all op es want names world = ap (λ n. then_values (values_of op n 0 (meanings es) want names world) (λ ds. then_value (applied_by (rule_of op) world ds) (fit want))) (sym (meanings_length es))
 
 -- what is given of the values of one argument, of two, and of all
-pub one_given : (r : Result Value Halt) (op : Operator) (es : List Expr) (e : Expr) (want : Want) (names : Names) (world : World) (d : Data) → e ≡ get_or es 0 e → length es ≡ 1 → argument_of op 1 0 (mean (term_of e)) want names world ≡ Ok d → Gives r (then_value (applied_by (rule_of op) world (d ∷ [])) (fit want)) → Gives r (each_of op (meanings es) want names world)
+pub one_given : (r : Result Value (Halt EvalFault)) (op : Operator) (es : List Expr) (e : Expr) (want : Want) (names : Names) (world : World) (d : Data) → e ≡ get_or es 0 e → length es ≡ 1 → argument_of op 1 0 (mean (term_of e)) want names world ≡ Ok d → Gives r (then_value (applied_by (rule_of op) world (d ∷ [])) (fit want)) → Gives r (each_of op (meanings es) want names world)
 one_given r op es e want names world d p h a k =
     subst (Gives r) (each_one op es e want names world p h)
     (subst (Gives r) (sym (ap (λ x. then_value x (λ y. then_value (applied_by (rule_of op) world (y ∷ [])) (fit want))) a)) k)
 
-pub two_halted : (h : Halt) (op : Operator) (es : List Expr) (e f : Expr) (want : Want) (names : Names) (world : World) (d : Data) → e ≡ get_or es 0 e → f ≡ get_or es 1 f → length es ≡ 2 → argument_of op 2 0 (mean (term_of e)) want names world ≡ Ok d → Gives (Err h) (argument_of op 2 1 (mean (term_of f)) want names world) → Gives (Err h) (each_of op (meanings es) want names world)
+pub two_halted : (h : Halt EvalFault) (op : Operator) (es : List Expr) (e f : Expr) (want : Want) (names : Names) (world : World) (d : Data) → e ≡ get_or es 0 e → f ≡ get_or es 1 f → length es ≡ 2 → argument_of op 2 0 (mean (term_of e)) want names world ≡ Ok d → Gives (Err h) (argument_of op 2 1 (mean (term_of f)) want names world) → Gives (Err h) (each_of op (meanings es) want names world)
 two_halted h op es e f want names world d p q l a k =
     subst (Gives (Err h)) (each_two op es e f want names world p q l)
     (second_halted h (argument_of op 2 0 (mean (term_of e)) want names world) (argument_of op 2 1 (mean (term_of f)) want names world) d (λ x y. then_value (applied_by (rule_of op) world (x ∷ y ∷ [])) (fit want)) a k)
 
-pub two_given : (r : Result Value Halt) (op : Operator) (es : List Expr) (e f : Expr) (want : Want) (names : Names) (world : World) (d g : Data) → e ≡ get_or es 0 e → f ≡ get_or es 1 f → length es ≡ 2 → argument_of op 2 0 (mean (term_of e)) want names world ≡ Ok d → argument_of op 2 1 (mean (term_of f)) want names world ≡ Ok g → Gives r (then_value (applied_by (rule_of op) world (d ∷ g ∷ [])) (fit want)) → Gives r (each_of op (meanings es) want names world)
+pub two_given : (r : Result Value (Halt EvalFault)) (op : Operator) (es : List Expr) (e f : Expr) (want : Want) (names : Names) (world : World) (d g : Data) → e ≡ get_or es 0 e → f ≡ get_or es 1 f → length es ≡ 2 → argument_of op 2 0 (mean (term_of e)) want names world ≡ Ok d → argument_of op 2 1 (mean (term_of f)) want names world ≡ Ok g → Gives r (then_value (applied_by (rule_of op) world (d ∷ g ∷ [])) (fit want)) → Gives r (each_of op (meanings es) want names world)
 two_given r op es e f want names world d g p q l a b k =
     let second = argument_of op 2 1 (mean (term_of f)) want names world in
     subst (Gives r) (each_two op es e f want names world p q l)
     (subst (Gives r) (sym (ap (λ x. then_value x (λ y. then_value second (λ z. then_value (applied_by (rule_of op) world (y ∷ z ∷ [])) (fit want)))) a
     ∙ ap (λ x. then_value x (λ z. then_value (applied_by (rule_of op) world (d ∷ z ∷ [])) (fit want))) b)) k)
 
-pub all_halted : (h : Halt) (op : Operator) (es : List Expr) (want : Want) (names : Names) (world : World) → EndsAll h (values_of op (length es) 0 (meanings es) want names world) → Gives (Err h) (each_of op (meanings es) want names world)
+pub all_halted : (h : Halt EvalFault) (op : Operator) (es : List Expr) (want : Want) (names : Names) (world : World) → EndsAll h (values_of op (length es) 0 (meanings es) want names world) → Gives (Err h) (each_of op (meanings es) want names world)
 all_halted h op es want names world k =
     subst (Gives (Err h)) (each_all op es want names world)
     (values_halted h (values_of op (length es) 0 (meanings es) want names world) (λ ds. then_value (applied_by (rule_of op) world ds) (fit want)) k)
 
-pub all_given : (r : Result Value Halt) (op : Operator) (es : List Expr) (want : Want) (names : Names) (world : World) (ds : List Data) → values_of op (length es) 0 (meanings es) want names world ≡ Ok ds → Gives r (then_value (applied_by (rule_of op) world ds) (fit want)) → Gives r (each_of op (meanings es) want names world)
+pub all_given : (r : Result Value (Halt EvalFault)) (op : Operator) (es : List Expr) (want : Want) (names : Names) (world : World) (ds : List Data) → values_of op (length es) 0 (meanings es) want names world ≡ Ok ds → Gives r (then_value (applied_by (rule_of op) world ds) (fit want)) → Gives r (each_of op (meanings es) want names world)
 all_given r op es want names world ds a k =
     subst (Gives r) (each_all op es want names world)
     (subst (Gives r) (sym (ap (λ x. then_values x (λ ys. then_value (applied_by (rule_of op) world ys) (fit want))) a)) k)
@@ -115,7 +115,7 @@ pub first_end : (decides : Data → Option Data) (none : Evaluated) (op : Operat
 first_end decides none op m n es want names world h = ap (λ ms. first_of decides none op m n ms want names world) (none_left n es h)
 
 -- an argument that halts, and one that decides
-pub first_halted : (h : Halt) (decides : Data → Option Data) (none : Evaluated) (op : Operator) (m n : ℕ) (es : List Expr) (e : Expr) (want : Want) (names : Names) (world : World) (whole : Evaluated) → e ≡ get_or es n e → n < length es → first_of decides none op m n (meanings (drop n es)) want names world ≡ whole → Gives (Err h) (argument_of op m n (mean (term_of e)) want names world) → Gives (Err h) whole
+pub first_halted : (h : Halt EvalFault) (decides : Data → Option Data) (none : Evaluated) (op : Operator) (m n : ℕ) (es : List Expr) (e : Expr) (want : Want) (names : Names) (world : World) (whole : Evaluated) → e ≡ get_or es n e → n < length es → first_of decides none op m n (meanings (drop n es)) want names world ≡ whole → Gives (Err h) (argument_of op m n (mean (term_of e)) want names world) → Gives (Err h) whole
 first_halted h decides none op m n es e want names world whole p l q g =
     subst (Gives (Err h)) (sym (first_at decides none op m n es e want names world p l) ∙ q)
     (then_halted h (argument_of op m n (mean (term_of e)) want names world) (λ d. or_later (decides d) (first_of decides none op m (n + 1) (meanings (drop (n + 1) es)) want names world)) g)

@@ -6,8 +6,7 @@ use Rattle.prop_values.specs.declared.kinds.Want.TheVariants as wants
 use Rattle.prop_values.specs.Data.{Data}
 use Rattle.prop_values.specs.View.{data_of}
 use Rattle.expr_syntax.specs.declared.expression.Expr.{Expr}
-use Rattle.expr_syntax.specs.Falls.{weight}
-use Rattle.expr_syntax.specs.TermView.{term_of}
+use Rattle.expr_syntax.specs.TermView.{term_of, weight}
 use Rattle.operator_values.specs.Evaluated.{Evaluated}
 use Rattle.eval_face.specs.World.{World}
 use Rattle.eval_face.specs.Names.{Names, bound}

@@ -3,8 +3,8 @@ use Rattle.std.specs.Prelude.{◌≡◌, ℤ, List, Bool, Result, Ok, Err}
 use Rattle.prop_values.specs.Data.{Data, boolean, number}
 use Rattle.prop_values.specs.declared.fault.EvalFault.{EvalFault}
 use Rattle.prop_values.specs.declared.fault.EvalFault.TheVariants.{WrongType}
-use Rattle.operator_values.specs.declared.halt.Halt.{Halt}
-use Rattle.operator_values.specs.declared.halt.Halt.TheVariants.{Fault, NoMemory}
+use Rattle.halts.specs.declared.halt.Halt.{Halt}
+use Rattle.halts.specs.declared.halt.Halt.TheVariants.{Fault, NoMemory}
 use Rattle.expr_syntax.specs.TermView.{terms}
 use Rattle.expr_syntax.specs.declared.expression.Expr.{Expr}
 use Rattle.eval_face.specs.Meanings.{Meaning}
@@ -15,12 +15,12 @@ abbrev pub meanings : List Expr → List Meaning
 meanings es = means (terms es)
 
 -- values that were to be evaluated have the fault with which the evaluation ended, unless memory lacked
-abbrev pub EndsAll : Halt → Result (List Data) EvalFault → Type 0
+abbrev pub EndsAll : Halt EvalFault → Result (List Data) EvalFault → Type 0
 EndsAll (Fault fault) meant = meant ≡ Err fault
 EndsAll NoMemory meant = Unit {0}
 
 -- values that were evaluated are those that are meant
-abbrev pub GivesAll : {A : Type 0} → Result A Halt → List Data → Result (List Data) EvalFault → Type 0
+abbrev pub GivesAll : {A : Type 0} → Result A (Halt EvalFault) → List Data → Result (List Data) EvalFault → Type 0
 GivesAll (Ok done) ds meant = meant ≡ Ok ds
 GivesAll (Err halt) ds meant = EndsAll halt meant
 

@@ -17,7 +17,7 @@ use operator_values::Halt;
 use prop_values::{EvalFault, Value, Want, copy};
 use std::alloc::Global;
 
-#[tactic(auto, using(expr_syntax::specs::Falls::argument_weight))]
+#[tactic(auto, using(expr_syntax::proofs::Falls::argument_weight))]
 #[cycle(evaluation)]
 pub(crate) fn evaluate_let<'x, W: Surroundings>(
     alloc: Global,

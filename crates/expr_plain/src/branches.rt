@@ -21,7 +21,7 @@ use operator_values::{Halt, value_between};
 use prop_values::{Curve, EvalFault, Value, Want};
 use std::alloc::Global;
 
-#[tactic(auto, using(expr_syntax::specs::Falls::argument_weight))]
+#[tactic(auto, using(expr_syntax::proofs::Falls::argument_weight))]
 #[cycle(evaluation)]
 pub(crate) fn evaluate_case<'x, W: Surroundings>(
     alloc: Global,
@@ -61,7 +61,7 @@ pub(crate) fn evaluate_case<'x, W: Surroundings>(
     }
 }
 
-#[tactic(auto, using(expr_syntax::specs::Falls::argument_weight))]
+#[tactic(auto, using(expr_syntax::proofs::Falls::argument_weight))]
 #[cycle(evaluation)]
 pub(crate) fn evaluate_match<'x, W: Surroundings>(
     alloc: Global,
@@ -90,7 +90,7 @@ pub(crate) fn evaluate_match<'x, W: Surroundings>(
     )
 }
 
-#[tactic(auto, using(expr_syntax::specs::Falls::argument_weight))]
+#[tactic(auto, using(expr_syntax::proofs::Falls::argument_weight))]
 #[cycle(evaluation)]
 pub(crate) fn evaluate_step<'x, W: Surroundings>(
     alloc: Global,
@@ -136,7 +136,7 @@ pub(crate) fn evaluate_step<'x, W: Surroundings>(
     )
 }
 
-#[tactic(auto, using(expr_syntax::specs::Falls::argument_weight))]
+#[tactic(auto, using(expr_syntax::proofs::Falls::argument_weight))]
 #[cycle(evaluation)]
 pub(crate) fn evaluate_ramp<'x, W: Surroundings>(
     alloc: Global,
@@ -281,7 +281,7 @@ fn between(
 }
 
 // The output of a number from 0.
-#[tactic(auto, using(expr_syntax::specs::Falls::argument_weight, crate::proofs::BranchLaws::output_here, crate::proofs::BranchLaws::output_none))]
+#[tactic(auto, using(expr_syntax::proofs::Falls::argument_weight, crate::proofs::BranchLaws::output_here, crate::proofs::BranchLaws::output_none))]
 #[cycle(evaluation)]
 fn evaluate_output<'x, W: Surroundings>(
     alloc: Global,

@@ -152,7 +152,7 @@ fn evaluate_node<'x, W: Surroundings>(
 }
 
 // The values of one and of two arguments take no memory.
-#[tactic(auto, using(expr_syntax::specs::Falls::argument_weight))]
+#[tactic(auto, using(expr_syntax::proofs::Falls::argument_weight))]
 #[cycle(evaluation)]
 fn evaluate_each<'x, W: Surroundings>(
     alloc: Global,
@@ -221,7 +221,7 @@ fn evaluate_many<'x, W: Surroundings>(
     value
 }
 
-#[tactic(auto, using(expr_syntax::specs::Falls::argument_weight))]
+#[tactic(auto, using(expr_syntax::proofs::Falls::argument_weight))]
 #[cycle(evaluation)]
 fn evaluate_values<'x, W: Surroundings>(
     alloc: Global,
@@ -291,7 +291,7 @@ fn evaluate_argument<'x, W: Surroundings>(
     Ok(as_sequence(value)?)
 }
 
-#[tactic(auto, using(expr_syntax::specs::Falls::argument_weight))]
+#[tactic(auto, using(expr_syntax::proofs::Falls::argument_weight))]
 #[cycle(evaluation)]
 fn evaluate_first<'x, W: Surroundings>(
     alloc: Global,

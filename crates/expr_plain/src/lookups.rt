@@ -4,9 +4,10 @@ ghost use Rattle.std.specs.Prelude.{◌≡◌, IfOk, is_some};
 ghost use Rattle.prop_values.specs.Data.{map, pairs_of};
 ghost use Rattle.prop_values.specs.Equality.{at_key};
 ghost use Rattle.prop_values.specs.View.{data_of, values_view, evaluated_of};
+ghost use Rattle.tile_reader.specs.ShapeName.{shape_name};
 ghost use Rattle.operator_values.specs.Evaluated.{Gives};
 ghost use Rattle.eval_face.specs.World.{state_of};
-ghost use Rattle.eval_face.specs.Lookups.{entry_at, get_of, has_of, state_at, id_value, shape_name, image_of, script_of};
+ghost use Rattle.eval_face.specs.Lookups.{entry_at, get_of, has_of, state_at, id_value, image_of, script_of};
 
 use crate::surroundings::Surroundings;
 use decimal_json::Text;

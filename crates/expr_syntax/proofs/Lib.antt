@@ -1,3 +1,7 @@
+-- For callers: the measures of a recursion over terms, and the last place of a name.
+pub mod Falls
+pub mod LastPlaces
+-- Laws.
 pub mod NameLaws
 pub mod ElementLaws
 pub mod InputLaws

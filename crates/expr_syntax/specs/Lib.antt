@@ -24,5 +24,3 @@ pub mod LabelIndex
 pub mod NameIndex
 pub mod TermCode
 pub mod Falls
--- What only proofs use.
-pub mod LastPlaces

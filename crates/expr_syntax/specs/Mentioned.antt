@@ -1,4 +1,4 @@
--- What a term reads of the world.
+-- What a term reads of the world. The code is in the crate `dependency_sets`.
 use Rattle.std.specs.Prelude.{ℕ, ◌+◌, true, false, ◌||◌, nat_le, if◌then◌else◌}
 use Rattle.expr_syntax.specs.declared.expression.Operator.{Operator}
 use Rattle.expr_syntax.specs.declared.rows.Reads.{Reads}

@@ -18,3 +18,7 @@ terms_size ts = terms_nodes (terms_of ts)
 -- a slice of expressions as the arguments of a term
 abbrev pub terms : List Expr → Terms
 terms es = terms_of (terms_view es)
+
+-- how many nodes some arguments have
+abbrev pub weight : List Expr → ℕ
+weight es = terms_nodes (terms_of (terms_view es))

@@ -21,7 +21,7 @@ use crate::names::{Name, operator_named};
 use crate::parts::Role;
 use crate::rows::{Layout, Place};
 use crate::scope::{Scope, global_at};
-use crate::sections::{Sections, finish_format};
+use crate::sections::{SectionElement, Sections, finish_format};
 use crate::standing::{Sought, has_arity, is_format, stands};
 use crate::values::{option_named, read_operator};
 use decimal_json::{Here, Json, Member, Text, path_to};
@@ -211,7 +211,8 @@ fn read_sections(
     for (i, item) in items.iter().enumerate() {
         if i > 0 {
             let there = Here::Index(i, &*here);
-            match read_section(alloc, item, i, follows, found, scope, &there)? {
+            let element = SectionElement { at: i, follows };
+            match read_section(alloc, item, element, found, scope, &there)? {
                 Ok(more) => found = more,
                 Err(fault) => return Ok(Err(fault)),
             }
@@ -226,21 +227,20 @@ fn read_sections(
 fn read_section(
     alloc: Global,
     item: &Json,
-    at: usize,
-    follows: bool,
+    element: SectionElement,
     found: Sections,
     scope: &Scope<'_>,
     here: &Here<'_>,
 ) -> Result<Result<Sections, SynFault>, AllocError>
-    ensures { IfOk result (λ r. r ≡ read_at (section_of at follows (tree_of item.now)) scope.now here.now found) }
+    ensures { IfOk result (λ r. r ≡ read_at (section_of element.at element.follows (tree_of item.now)) scope.now here.now found) }
 {
     match item {
-        Json::Object(options) if follows => {
-            read_options(alloc, options.as_slice(), at, found, scope, here)
+        Json::Object(options) if element.follows => {
+            read_options(alloc, options.as_slice(), element.at, found, scope, here)
         }
         Json::Object(_) => no_section(alloc, here, SynCode::BareObject),
         _ => match read_json(alloc, item, scope, here)? {
-            Ok(content) => Ok(Ok(found.with(at, Role::Content, content)?)),
+            Ok(content) => Ok(Ok(found.with(element.at, Role::Content, content)?)),
             Err(fault) => Ok(Err(fault)),
         },
     }

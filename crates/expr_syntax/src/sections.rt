@@ -17,6 +17,13 @@ pub(crate) struct Sections {
     arguments: Arguments,
 }
 
+/// An element of a `format`: its place, and whether the element before it is a content.
+#[derive(Clone, Copy)]
+pub(crate) struct SectionElement {
+    pub(crate) at: usize,
+    pub(crate) follows: bool,
+}
+
 impl Sections {
     pub(crate) fn new(alloc: Global) -> Sections
         ensures { result ≡ no_sections }

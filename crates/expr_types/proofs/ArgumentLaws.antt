@@ -7,8 +7,7 @@ use Rattle.prop_values.specs.declared.fault.FaultSet.{FaultSet}
 use Rattle.prop_values.specs.declared.kinds.Kind.{Kind}
 use Rattle.prop_values.specs.declared.kinds.Want.{Want}
 use Rattle.expr_syntax.specs.Term.{nodes}
-use Rattle.expr_syntax.specs.Falls.{weight}
-use Rattle.expr_syntax.specs.TermView.{term_of}
+use Rattle.expr_syntax.specs.TermView.{term_of, weight}
 use Rattle.expr_syntax.specs.declared.expression.Expr.{Expr}
 use Rattle.expr_syntax.specs.declared.expression.Operator.{Operator}
 use Rattle.expr_types.specs.ArgumentPaths.{element_at, key_at, with_key, argument_path}

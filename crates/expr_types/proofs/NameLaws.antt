@@ -4,7 +4,7 @@ use Rattle.std.proofs.Common.{◌≡◌, ℕ, ◌+◌, length, refl, zero, suc, 
 use Rattle.prop_values.specs.declared.kinds.Kind.{Kind}
 use Rattle.prop_values.specs.Equality.{same_text}
 use Rattle.expr_syntax.specs.BoundNames.{last_place}
-use Rattle.expr_syntax.specs.LastPlaces.{none_first, some_cases, last_above}
+use Rattle.expr_syntax.proofs.LastPlaces.{none_first, some_cases, last_above}
 use Rattle.expr_types.specs.Typing.{frame, last_kind}
 
 none_from : (i : ℕ) (names : List (List ℕ)) (kinds : List Kind) (asked : List ℕ) → last_place i names asked ≡ None → last_kind (frame names kinds) asked ≡ None

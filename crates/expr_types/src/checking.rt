@@ -49,7 +49,7 @@ pub(crate) struct Checking {
 
 impl Checking {
     /// What is known of an expression under a want, in the names around it. The places of its nodes are added.
-    #[tactic(auto, using(expr_syntax::specs::Falls::argument_weight))]
+    #[tactic(auto, using(expr_syntax::proofs::Falls::argument_weight))]
     #[cycle(checking)]
     pub(crate) fn check_expression<'x>(
         &mut self,
@@ -81,7 +81,7 @@ impl Checking {
         }
     }
 
-    #[tactic(auto, using(expr_syntax::specs::Falls::argument_weight))]
+    #[tactic(auto, using(expr_syntax::proofs::Falls::argument_weight))]
     #[cycle(checking)]
     fn check_node<'x>(
         &mut self,
@@ -106,7 +106,7 @@ impl Checking {
     }
 
     // The node, without its own place.
-    #[tactic(auto, using(expr_syntax::specs::Falls::argument_weight))]
+    #[tactic(auto, using(expr_syntax::proofs::Falls::argument_weight))]
     #[cycle(checking)]
     fn check_inside<'x>(
         &mut self,
@@ -129,7 +129,7 @@ impl Checking {
         }
     }
 
-    #[tactic(auto, using(expr_syntax::specs::Falls::argument_weight))]
+    #[tactic(auto, using(expr_syntax::proofs::Falls::argument_weight))]
     #[cycle(checking)]
     fn check_plain<'x>(
         &mut self,
@@ -154,7 +154,7 @@ impl Checking {
         }
     }
 
-    #[tactic(auto, using(expr_syntax::specs::Falls::argument_weight))]
+    #[tactic(auto, using(expr_syntax::proofs::Falls::argument_weight))]
     #[cycle(checking)]
     fn check_let<'x>(
         &mut self,
@@ -182,7 +182,7 @@ impl Checking {
     }
 
     // The body of a `let`, in the names that it binds.
-    #[tactic(auto, using(expr_syntax::specs::Falls::argument_weight))]
+    #[tactic(auto, using(expr_syntax::proofs::Falls::argument_weight))]
     #[cycle(checking)]
     fn check_body<'x>(
         &mut self,
@@ -207,7 +207,7 @@ impl Checking {
     }
 
     // The arguments from left to right, of which the first has the place 0 among so many.
-    #[tactic(auto, using(expr_syntax::specs::Falls::argument_weight))]
+    #[tactic(auto, using(expr_syntax::proofs::Falls::argument_weight))]
     #[cycle(checking)]
     fn check_arguments<'x>(
         &mut self,
@@ -232,7 +232,7 @@ impl Checking {
         Ok(Ok(ArgumentKinds { kinds, may }))
     }
 
-    #[tactic(auto, using(expr_syntax::specs::Falls::argument_weight))]
+    #[tactic(auto, using(expr_syntax::proofs::Falls::argument_weight))]
     #[cycle(checking)]
     fn check_argument<'x>(
         &mut self,
@@ -256,7 +256,7 @@ impl Checking {
     }
 
     // The argument of a place, where it is.
-    #[tactic(auto, using(expr_syntax::specs::Falls::argument_weight))]
+    #[tactic(auto, using(expr_syntax::proofs::Falls::argument_weight))]
     #[cycle(checking)]
     fn check_at<'x>(
         &mut self,

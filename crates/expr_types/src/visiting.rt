@@ -35,7 +35,7 @@ pub(crate) struct VisitedNode<'x> {
 
 impl<'r> Walk<'r> {
     /// What was found before, and what the nodes of an expression add.
-    #[tactic(auto, using(expr_syntax::specs::Falls::argument_weight))]
+    #[tactic(auto, using(expr_syntax::proofs::Falls::argument_weight))]
     #[cycle(visiting)]
     pub(crate) fn visit<'x>(
         &self,
@@ -59,7 +59,7 @@ impl<'r> Walk<'r> {
         }
     }
 
-    #[tactic(auto, using(expr_syntax::specs::Falls::argument_weight, expr_syntax::specs::Falls::count_terms))]
+    #[tactic(auto, using(expr_syntax::proofs::Falls::argument_weight, expr_syntax::proofs::Falls::count_terms))]
     #[cycle(visiting)]
     fn visit_node<'x>(
         &self,
@@ -86,7 +86,7 @@ impl<'r> Walk<'r> {
     }
 
     // The argument of a place, of so many.
-    #[tactic(auto, using(expr_syntax::specs::Falls::argument_weight))]
+    #[tactic(auto, using(expr_syntax::proofs::Falls::argument_weight))]
     #[cycle(visiting)]
     fn visit_argument<'x>(
         &self,

@@ -1,14 +1,13 @@
 -- Which features pass a legacy filter, by cases on the filter itself. Source: own.
-use Rattle.std.specs.Prelude.{ℕ, ◌*◌, pos, List, [], ◌∷◌, Bool, true, false, not, codes, Option, Some, None, is_some, option_map}
+use Rattle.std.specs.Prelude.{ℕ, ◌*◌, pos, List, [], ◌∷◌, Bool, true, false, not, Option, Some, None, is_some, option_map}
 use Rattle.std.specs.List.{list_all, list_any}
 use Rattle.std.specs.declared.cmp.Ordering.{Ordering}
 use Rattle.std.specs.declared.cmp.Ordering.TheVariants.{Less, Equal as Same, Greater}
 use Rattle.prop_values.specs.Data.{Data, number, text, pairs_of}
 use Rattle.prop_values.specs.Equality.{at_key}
 use Rattle.prop_values.specs.Forms.{order_of}
+use Rattle.tile_reader.specs.ShapeName.{shape_name}
 use Rattle.tile_reader.specs.declared.tile.Feature.{Feature}
-use Rattle.tile_reader.specs.declared.tile.Shape.{Shape}
-use Rattle.tile_reader.specs.declared.tile.Shape.TheVariants.{Unknown, Point, LineString, Polygon}
 use Rattle.legacy_filters.specs.declared.filter.Group.{Group}
 use Rattle.legacy_filters.specs.declared.filter.Group.TheVariants as groups
 use Rattle.legacy_filters.specs.declared.filter.Key.{Key}
@@ -20,13 +19,6 @@ use Rattle.legacy_filters.specs.declared.filter.Test.{Test}
 use Rattle.legacy_filters.specs.declared.filter.Test.TheVariants.{Has, HasNot, Equal, NotEqual, Ordered, Among, NotAmong}
 use Rattle.legacy_filters.specs.Filter.{Filter, flag, test, group, Filters, no_filters, filter}
 use Rattle.legacy_filters.specs.Scalars.{scalar_data, is_equal, is_one_of}
-
--- the text of a shape (Vector Tile 2.1, section 4.3.4.1): those of several parts have the same as those of one
-abbrev pub shape_name : Shape → List ℕ
-shape_name Unknown = codes "Unknown"
-shape_name Point = codes "Point"
-shape_name LineString = codes "LineString"
-shape_name Polygon = codes "Polygon"
 
 -- an id as a number, in millionths
 abbrev pub id_number : ℕ → Data

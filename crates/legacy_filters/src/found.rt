@@ -3,12 +3,12 @@
 ghost use Rattle.std.specs.Prelude.{◌≡◌, option_map};
 ghost use Rattle.prop_values.specs.Data.{number};
 ghost use Rattle.legacy_filters.specs.Found.{found_data};
-ghost use Rattle.legacy_filters.specs.Meaning.{shape_name, id_number, value_at};
+ghost use Rattle.legacy_filters.specs.Meaning.{id_number, value_at};
 
 use crate::filter::Key;
 use fixed_num::Fixed;
 use prop_values::Value;
-use tile_reader::{Feature, Shape};
+use tile_reader::Feature;
 
 // The name of a shape, an id as a number, or a property.
 #[derive(Drop)]
@@ -22,7 +22,7 @@ pub(crate) fn found_at<'a>(key: &Key, feature: &'a Feature) -> Option<Found<'a>>
     ensures { option_map found_data result ≡ value_at key.now feature.now }
 {
     match key {
-        Key::Shape => Some(Found::Shape(shape_name(feature.shape))),
+        Key::Shape => Some(Found::Shape(feature.shape.name())),
         Key::Id => match feature.id {
             Some(id) => Some(Found::Id(id_number(id))),
             None => None,
@@ -31,17 +31,6 @@ pub(crate) fn found_at<'a>(key: &Key, feature: &'a Feature) -> Option<Found<'a>>
             Some(value) => Some(Found::Property(value)),
             None => None,
         },
-    }
-}
-
-fn shape_name(shape: Shape) -> &'static str
-    ensures { result.now ≡ shape_name shape }
-{
-    match shape {
-        Shape::Unknown => "Unknown",
-        Shape::Point => "Point",
-        Shape::LineString => "LineString",
-        Shape::Polygon => "Polygon",
     }
 }
 

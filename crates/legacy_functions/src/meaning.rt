@@ -20,9 +20,10 @@ use crate::categories::Categories;
 use crate::function::{Body, Function, Output, Rule, Way};
 use crate::stops::{Base, NumberStops, ZoomRules};
 use crate::tokens::token_text;
-use fixed_num::{Arith, Fixed};
+use fixed_num::Fixed;
+use halts::Halt;
 use interpolate_fixed::{StopPlace, step_place, stop_place, warp};
-use operator_values::{Halt, value_between};
+use operator_values::value_between;
 use prop_values::{Curve, EvalFault, Value, Want, copy};
 use property_tables::{default_value, fit};
 use std::alloc::{AllocError, Global};
@@ -52,14 +53,14 @@ fn fitted_value(
     function: &Function,
     zoom: Fixed,
     feature: &Feature,
-) -> Result<Value, Halt>
+) -> Result<Value, Halt<EvalFault>>
     ensures { Gives result (value_of (row_of function.now) (function_of function.now) zoom feature.now) }
 {
     let value = body_value(alloc, function, zoom, feature)?;
     fit_value(alloc, value, &function.row.want)
 }
 
-fn fit_value(alloc: Global, value: Value, want: &Want) -> Result<Value, Halt>
+fn fit_value(alloc: Global, value: Value, want: &Want) -> Result<Value, Halt<EvalFault>>
     ensures { Gives result (fit want.now (data_of value)) }
 {
     Ok(fit(alloc, value, want)??)
@@ -70,7 +71,7 @@ fn body_value(
     function: &Function,
     zoom: Fixed,
     feature: &Feature,
-) -> Result<Value, Halt>
+) -> Result<Value, Halt<EvalFault>>
     ensures { Gives result (body_result (row_of function.now) (default_on function.now feature.now)
         (function_of function.now) zoom feature.now (function_of function.now).body) }
 {
@@ -131,7 +132,7 @@ fn rule_value(
     rule: &Rule,
     feature: &Feature,
     found: Option<&Value>,
-) -> Result<Value, Halt>
+) -> Result<Value, Halt<EvalFault>>
     ensures { Gives result (rule_result (row_of function.now) (default_on function.now feature.now) feature.now
         (option_map (λ v. data_of v.now) found.entry) (rule_in function.now rule.now)) }
 {
@@ -154,7 +155,7 @@ fn zoom_rule_value(
     rule: &Rule,
     zoom: Fixed,
     feature: &Feature,
-) -> Result<Value, Halt>
+) -> Result<Value, Halt<EvalFault>>
     ensures { Gives result (zoom_rule (row_of function.now) (default_on function.now feature.now) zoom feature.now
         (rule_in function.now rule.now)) }
 {
@@ -171,7 +172,7 @@ fn value_by_number(
     stops: &NumberStops,
     feature: &Feature,
     found: Option<&Value>,
-) -> Result<Value, Halt>
+) -> Result<Value, Halt<EvalFault>>
     ensures { Gives result (numeric_at (row_of function.now) (way_seen function.now.way) (map stop_seen stops.now)
         (default_on function.now feature.now) feature.now (option_map (λ v. data_of v.now) found.entry)) }
 {
@@ -218,7 +219,7 @@ fn numeric_value(
     stops: &NumberStops,
     input: Fixed,
     feature: &Feature,
-) -> Result<Value, Halt>
+) -> Result<Value, Halt<EvalFault>>
     ensures { Gives result (numeric_result (row_of function.now) (way_seen function.now.way) (map stop_seen stops.now)
         feature.now input) }
 {
@@ -236,11 +237,7 @@ fn numeric_value(
 fn moved_input(base: &Base, stops: &NumberStops, input: Fixed) -> Result<Fixed, EvalFault>
     ensures { result ≡ or_fault (warp_of (Exponential base.now.value) (inputs_in stops.now) input) }
 {
-    match warp(&Curve::Exponential(base.value()), stops.inputs(), input) {
-        Ok(moved) => Ok(moved),
-        Err(Arith::Overflow) => Err(EvalFault::Overflow),
-        Err(Arith::DivideByZero) => Err(EvalFault::DivideByZero),
-    }
+    Ok(warp(&Curve::Exponential(base.value()), stops.inputs(), input)?)
 }
 
 #[tactic(auto, using(crate::proofs::MeaningLaws::inputs_length))]
@@ -250,7 +247,7 @@ fn step_value(
     stops: &NumberStops,
     input: Fixed,
     feature: &Feature,
-) -> Result<Value, Halt>
+) -> Result<Value, Halt<EvalFault>>
     ensures { Gives result (step_result (inputs_in stops.now) (results_in function.now feature.now stops.now) input) }
 {
     let place = place_in_force(stops.inputs(), input);
@@ -275,7 +272,7 @@ fn ramp_value(
     stops: &NumberStops,
     x: Fixed,
     feature: &Feature,
-) -> Result<Value, Halt>
+) -> Result<Value, Halt<EvalFault>>
     ensures { Gives result (ramp_result (inputs_in stops.now) (results_in function.now feature.now stops.now) x
         (place_of (inputs_in stops.now) x)) }
 {
@@ -295,7 +292,7 @@ fn value_between_stops(
     i: usize,
     x: Fixed,
     feature: &Feature,
-) -> Result<Value, Halt>
+) -> Result<Value, Halt<EvalFault>>
     requires { IsBetween (inputs_in stops.now) x i }
     ensures { Gives result (ramp_result (inputs_in stops.now) (results_in function.now feature.now stops.now) x (Between i)) }
 {
@@ -313,7 +310,7 @@ fn stop_value(
     stops: &NumberStops,
     place: usize,
     feature: &Feature,
-) -> Result<Value, Halt>
+) -> Result<Value, Halt<EvalFault>>
     requires { place < length stops.now }
     ensures { Gives result (result_at (results_in function.now feature.now stops.now) place) }
 {
@@ -332,7 +329,7 @@ fn zoomed_value(
     rules: &ZoomRules,
     zoom: Fixed,
     feature: &Feature,
-) -> Result<Value, Halt>
+) -> Result<Value, Halt<EvalFault>>
     ensures { Gives result (way_result (zoom_way (row_of function.now)) (rule_zooms (rules_in function.now rules.now))
         (zoom_results_in function.now feature.now rules.now) zoom) }
 {
@@ -351,7 +348,7 @@ fn zoom_ramp_value(
     rules: &ZoomRules,
     zoom: Fixed,
     feature: &Feature,
-) -> Result<Value, Halt>
+) -> Result<Value, Halt<EvalFault>>
     ensures { Gives result (ramp_result (zooms_seen rules.now) (zoom_results_in function.now feature.now rules.now) zoom
         (place_of (zooms_seen rules.now) zoom)) }
 {
@@ -371,7 +368,7 @@ fn value_between_zooms(
     i: usize,
     zoom: Fixed,
     feature: &Feature,
-) -> Result<Value, Halt>
+) -> Result<Value, Halt<EvalFault>>
     requires { IsBetween (zooms_seen rules.now) zoom i }
     ensures { Gives result (ramp_result (zooms_seen rules.now) (zoom_results_in function.now feature.now rules.now) zoom
         (Between i)) }
@@ -390,7 +387,7 @@ fn zoom_value(
     rules: &ZoomRules,
     place: usize,
     feature: &Feature,
-) -> Result<Value, Halt>
+) -> Result<Value, Halt<EvalFault>>
     requires { place < length rules.now }
     ensures { Gives result (result_at (zoom_results_in function.now feature.now rules.now) place) }
 {
@@ -407,7 +404,11 @@ fn zoom_value(
 // ---- identity
 
 // The property, where it has the row's form, else the default.
-fn identity_value(alloc: Global, function: &Function, feature: &Feature) -> Result<Value, Halt>
+fn identity_value(
+    alloc: Global,
+    function: &Function,
+    feature: &Feature,
+) -> Result<Value, Halt<EvalFault>>
     ensures { Gives result (Ok (identity_data (row_of function.now).want (default_on function.now feature.now)
         (property_at function.now.property feature.now))) }
 {

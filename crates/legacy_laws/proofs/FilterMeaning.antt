@@ -15,8 +15,6 @@ use Rattle.prop_values.specs.declared.kinds.Want.{Want}
 use Rattle.prop_values.specs.declared.kinds.Want.TheVariants as wants
 use Rattle.property_tables.specs.Fitting.{fit}
 use Rattle.tile_reader.specs.declared.tile.Feature.{Feature}
-use Rattle.tile_reader.specs.declared.tile.Shape.{Shape}
-use Rattle.tile_reader.specs.declared.tile.Shape.TheVariants.{Unknown, Point, LineString, Polygon}
 use Rattle.expr_syntax.specs.declared.expression.Operator.TheVariants as operators
 use Rattle.expr_syntax.specs.Term.{Term, literal, node, terms_of}
 use Rattle.operator_values.specs.Comparisons.{equal_of, different_of, ordered_of, is_less, is_less_or_equal}
@@ -25,7 +23,6 @@ use Rattle.operator_values.specs.Conversions.{kind_of, negation_of}
 use Rattle.operator_values.specs.Evaluated.{Evaluated, then_value}
 use Rattle.operator_values.specs.Sequences.{in_of, first_equal}
 use Rattle.eval_face.specs.Decisions.{if_false, if_true, or_later, first_of}
-use Rattle.eval_face.specs.Lookups as lookups
 use Rattle.eval_face.specs.Lookups.{id_value}
 use Rattle.eval_face.specs.Meaning.{mean, means}
 use Rattle.eval_face.specs.Meanings.{Meaning, and_values, then_values}
@@ -40,7 +37,7 @@ use Rattle.legacy_filters.specs.declared.scalars.Scalar.TheVariants.{Flag, Numbe
 use Rattle.legacy_filters.specs.declared.filter.Test.{Test}
 use Rattle.legacy_filters.specs.declared.filter.Test.TheVariants.{Has, HasNot, Equal, NotEqual, Ordered, Among, NotAmong}
 use Rattle.legacy_filters.specs.Filter.{Filter, flag, test, group, Filters, no_filters, filter}
-use Rattle.legacy_filters.specs.Meaning.{shape_name, id_number, value_at, is_there_and, takes, takes_order}
+use Rattle.legacy_filters.specs.Meaning.{id_number, value_at, is_there_and, takes, takes_order}
 use Rattle.legacy_filters.specs.Meaning.{is_ordered, holds, passes, each_passes}
 use Rattle.legacy_filters.specs.Scalars.{scalar_data, is_equal, is_one_of}
 use Rattle.legacy_laws.proofs.FilterTerms.{one_term, two_terms, value_term, has_term, order_operator, kind_term}
@@ -189,12 +186,6 @@ in_scalars d vs =
 
 -- ---- what a feature has, and parts of groups
 
-shape_names : (shape : Shape) → lookups.shape_name shape ≡ shape_name shape
-shape_names Unknown = refl
-shape_names Point = refl
-shape_names LineString = refl
-shape_names Polygon = refl
-
 id_or_null : (id : Option ℕ) → id_value id ≡ or_null (option_map id_number id)
 id_or_null (Some n) = refl
 id_or_null None = refl
@@ -234,7 +225,7 @@ module _ (zoom : ℤ) (feature : Feature) (state : List (List ℕ × Data)) (ima
   value_here key = or_null (found_at key)
 
   value_given : (key : Key) → mean (value_term key) wants.Any [] here ≡ Ok (value_here key)
-  value_given ShapeKey = ap (λ s. Ok (text s)) (shape_names feature.shape)
+  value_given ShapeKey = refl
   value_given Id = ap Ok (id_or_null feature.id)
   value_given (Property name) = refl
 

@@ -23,7 +23,7 @@ use Rattle.operator_values.specs.Conversions.{kind_of}
 use Rattle.operator_values.specs.Evaluated.{Evaluated, then_value}
 use Rattle.eval_face.specs.Branches.{branch, case_of, output_at, with_number, ramp_at}
 use Rattle.eval_face.specs.Decisions.{if_there, or_later}
-use Rattle.eval_face.specs.Fitted.{each_value_is_fitted}
+use Rattle.eval_face.proofs.FittedLaws.{each_value_is_fitted}
 use Rattle.eval_face.specs.Meaning.{mean, means}
 use Rattle.eval_face.specs.Meanings.{Meaning, then_values, and_values}
 use Rattle.eval_face.specs.World.{World, feature_world}

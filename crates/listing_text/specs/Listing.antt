@@ -10,8 +10,8 @@ use Rattle.prop_values.specs.declared.outcome.Outcome.{Outcome}
 use Rattle.prop_values.specs.declared.outcome.Outcome.TheVariants.{Given, Faulted, Outside}
 use Rattle.property_tables.specs.LayerTypes.{type_name}
 use Rattle.property_tables.specs.declared.layer_type.LayerType.{LayerType}
+use Rattle.tile_reader.specs.ShapeName.{shape_name}
 use Rattle.tile_reader.specs.declared.tile.Shape.{Shape}
-use Rattle.tile_reader.specs.declared.tile.Shape.TheVariants.{Unknown, Point, LineString, Polygon}
 use Rattle.listing_text.specs.Layout.{ListedValue, FeatureOut, LayerOut, Layout}
 use Rattle.listing_text.specs.declared.show.Show.{Show}
 use Rattle.listing_text.specs.declared.show.Show.TheVariants.{Plain, Hidden, Unread, OutsideFilter}
@@ -66,13 +66,6 @@ layer_margin = codes "  "
 
 abbrev pub feature_margin : List ℕ
 feature_margin = codes "    "
-
--- The names of the shapes (Vector Tile 2.1, section 4.3.4.1).
-abbrev pub shape_name : Shape → List ℕ
-shape_name Unknown = codes "Unknown"
-shape_name Point = codes "Point"
-shape_name LineString = codes "LineString"
-shape_name Polygon = codes "Polygon"
 
 -- The id of a feature, where it has one.
 abbrev pub id_text : Option ℕ → List ℕ

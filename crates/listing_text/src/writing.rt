@@ -4,7 +4,7 @@ ghost use Rattle.fixed_num.specs.NumberText.{number_text};
 ghost use Rattle.prop_values.specs.ColorText.{color_text};
 ghost use Rattle.prop_values.specs.ValueText.{listed_text};
 ghost use Rattle.prop_values.specs.View.{data_of};
-ghost use Rattle.listing_text.specs.Listing.{zoom_line, end_line, show_mark, layer_line, outcome_text, value_line, shape_name, feature_line};
+ghost use Rattle.listing_text.specs.Listing.{zoom_line, end_line, show_mark, layer_line, outcome_text, value_line, feature_line};
 ghost use Rattle.listing_text.specs.Parts.{parts_text, number_line};
 
 use crate::show::Show;
@@ -73,7 +73,7 @@ pub fn write_feature_line(
 {
     let mut numbers = Buffer::new();
     let number = numbers.format(number).as_bytes();
-    let shape = shape_name(shape);
+    let shape = shape.name().as_bytes();
     match id {
         None => write_parts(&[b"  feature ", number, b" ", shape, b"\n"], out),
         Some(id) => {
@@ -84,17 +84,6 @@ pub fn write_feature_line(
                 out,
             )
         }
-    }
-}
-
-fn shape_name(shape: Shape) -> &'static [u8]
-    ensures { result.now ≡ shape_name shape }
-{
-    match shape {
-        Shape::Unknown => b"Unknown",
-        Shape::Point => b"Point",
-        Shape::LineString => b"LineString",
-        Shape::Polygon => b"Polygon",
     }
 }
 

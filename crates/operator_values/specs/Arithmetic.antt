@@ -4,8 +4,9 @@ use Rattle.std.specs.Int.{int_min, int_max}
 use Rattle.fixed_num.specs.Number.{sum, difference, product, quotient, remainder}
 use Rattle.fixed_num.specs.declared.fixed.Arith.{Arith}
 use Rattle.prop_values.specs.Data.{Data, number}
+use Rattle.prop_values.specs.Faults.{fault_of}
 use Rattle.prop_values.specs.declared.fault.EvalFault.TheVariants.{WrongType}
-use Rattle.operator_values.specs.Evaluated.{Evaluated, fault_of}
+use Rattle.operator_values.specs.Evaluated.{Evaluated}
 
 -- goes on with a number, unless there is none
 abbrev pub then_number : Result ℤ Arith → (ℤ → Evaluated) → Evaluated

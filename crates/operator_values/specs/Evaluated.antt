@@ -1,20 +1,19 @@
 -- What an evaluation gives: a value, or the fault that is in its place.
 use Rattle.std.specs.Prelude.{◌≡◌, List, Result, Ok, Err}
 use Rattle.fixed_num.specs.declared.fixed.Arith.{Arith}
-use Rattle.fixed_num.specs.declared.fixed.Arith.TheVariants as arith
-use Rattle.prop_values.specs.Data.{Data, number}
+use Rattle.prop_values.specs.Data.{Data}
+use Rattle.prop_values.specs.Faults.{fault_of}
 use Rattle.prop_values.specs.View.{data_of}
 use Rattle.prop_values.specs.declared.fault.EvalFault.{EvalFault}
-use Rattle.prop_values.specs.declared.fault.EvalFault.TheVariants as faults
 use Rattle.prop_values.specs.declared.value.Value.{Value}
-use Rattle.operator_values.specs.declared.halt.Halt.{Halt}
-use Rattle.operator_values.specs.declared.halt.Halt.TheVariants.{Fault, NoMemory}
+use Rattle.halts.specs.declared.halt.Halt.{Halt}
+use Rattle.halts.specs.declared.halt.Halt.TheVariants.{Fault, NoMemory}
 
 abbrev pub Evaluated : Type 0
 Evaluated = Result Data EvalFault
 
 -- What the program gives is what is meant, unless it lacks memory.
-abbrev pub Gives : Result Value Halt → Evaluated → Type 0
+abbrev pub Gives : Result Value (Halt EvalFault) → Evaluated → Type 0
 Gives (Ok v) meant = meant ≡ Ok (data_of v)
 Gives (Err (Fault fault)) meant = meant ≡ Err fault
 Gives (Err NoMemory) meant = Unit {0}
@@ -23,11 +22,6 @@ Gives (Err NoMemory) meant = Unit {0}
 abbrev pub then_value : Evaluated → (Data → Evaluated) → Evaluated
 then_value (Ok d) go = go d
 then_value (Err fault) go = Err fault
-
--- the fault of an operation on numbers
-abbrev pub fault_of : Arith → EvalFault
-fault_of arith.Overflow = faults.Overflow
-fault_of arith.DivideByZero = faults.DivideByZero
 
 -- what an operation gives, with its fault as one of an evaluation
 abbrev pub or_fault : {A : Type 0} → Result A Arith → Result A EvalFault

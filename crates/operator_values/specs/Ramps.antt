@@ -1,11 +1,12 @@
 -- The value between two outputs of an interpolation (MapLibre style specification, version 8, expressions).
 use Rattle.std.specs.Prelude.{ℤ, List, [], ◌∷◌, Result, Ok, Err}
 use Rattle.prop_values.specs.Data.{Data, number, color, list, Items, no_items, item}
+use Rattle.prop_values.specs.Faults.{fault_of}
 use Rattle.prop_values.specs.declared.fault.EvalFault.{EvalFault}
 use Rattle.prop_values.specs.declared.fault.EvalFault.TheVariants.{WrongType}
 use Rattle.fixed_num.specs.declared.fixed.Arith.{Arith}
 use Rattle.interpolate_fixed.specs.Linear.{linear_of, color_of, list_of}
-use Rattle.operator_values.specs.Evaluated.{Evaluated, fault_of}
+use Rattle.operator_values.specs.Evaluated.{Evaluated}
 use Rattle.operator_values.specs.Arithmetic.{the_number}
 
 -- the numbers of two lists of one length, side by side; nothing else is interpolated

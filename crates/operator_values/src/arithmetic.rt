@@ -4,7 +4,6 @@ ghost use Rattle.std.specs.Prelude.{◌≡◌};
 ghost use Rattle.std.specs.Int.{int_min, int_max};
 ghost use Rattle.fixed_num.specs.Number.{absolute, floor_of, ceil_of, round_of};
 ghost use Rattle.prop_values.specs.View.{values_view, evaluated_of};
-ghost use Rattle.operator_values.specs.Evaluated.{fault_of, or_fault};
 ghost use Rattle.operator_values.specs.Arithmetic.{sum_of, product_of, difference_of, quotient_of, remainder_of, of_number, least_of, greatest_of, chosen, the_number};
 
 use crate::whole::whole;
@@ -20,7 +19,7 @@ pub fn sum(values: &[Value]) -> Result<Value, EvalFault>
         let Value::Num(term) = value else {
             return Err(EvalFault::WrongType);
         };
-        sum = unless_faulted(sum.add(*term))?;
+        sum = sum.add(*term)?;
     }
     Ok(Value::Num(sum))
 }
@@ -34,7 +33,7 @@ pub fn product(values: &[Value]) -> Result<Value, EvalFault>
         let Value::Num(factor) = value else {
             return Err(EvalFault::WrongType);
         };
-        product = unless_faulted(product.mul(*factor))?;
+        product = product.mul(*factor)?;
     }
     Ok(Value::Num(product))
 }
@@ -172,28 +171,5 @@ fn greater(a: Fixed, b: Fixed) -> Fixed
 pub(crate) fn number_value(answer: Result<Fixed, Arith>) -> Result<Value, EvalFault>
     ensures { evaluated_of result ≡ the_number answer }
 {
-    match answer {
-        Ok(number) => Ok(Value::Num(number)),
-        Err(fault) => Err(fault_of(fault)),
-    }
-}
-
-// The number of an operation, or its fault as one of an evaluation.
-fn unless_faulted(answer: Result<Fixed, Arith>) -> Result<Fixed, EvalFault>
-    ensures { result ≡ or_fault answer }
-{
-    match answer {
-        Ok(number) => Ok(number),
-        Err(fault) => Err(fault_of(fault)),
-    }
-}
-
-/// The fault of an evaluation that a fault of numbers is.
-pub(crate) fn fault_of(fault: Arith) -> EvalFault
-    ensures { result ≡ fault_of fault }
-{
-    match fault {
-        Arith::Overflow => EvalFault::Overflow,
-        Arith::DivideByZero => EvalFault::DivideByZero,
-    }
+    Ok(Value::Num(answer?))
 }

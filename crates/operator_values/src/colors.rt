@@ -7,9 +7,9 @@ ghost use Rattle.operator_values.specs.Evaluated.{Gives};
 ghost use Rattle.operator_values.specs.Colors.{rgba_of, parts_of, color_or_range};
 
 use crate::conversions::color_of_parts;
-use crate::halt::Halt;
 use crate::whole::whole;
 use fixed_num::Color;
+use halts::Halt;
 use prop_values::{EvalFault, PackedColor, Value, Values};
 use std::alloc::Global;
 
@@ -42,7 +42,7 @@ fn color_or_range(color: Option<Color>) -> Result<Value, EvalFault>
 }
 
 /// `to-rgba`: red, green and blue from 0 to 255, and the opacity from 0 to 1.
-pub fn color_parts(alloc: Global, values: &[Value]) -> Result<Value, Halt>
+pub fn color_parts(alloc: Global, values: &[Value]) -> Result<Value, Halt<EvalFault>>
     ensures { Gives result (parts_of (values_view values.now)) }
 {
     let [Value::Color(color)] = values else {

@@ -7,11 +7,11 @@ ghost use Rattle.prop_values.specs.View.{data_of, values_view, evaluated_of};
 ghost use Rattle.operator_values.specs.Evaluated.{Gives};
 ghost use Rattle.operator_values.specs.Conversions.{number_in, number_in_text, number_in_trimmed, signed_number, value_of, without_blanks, without_blanks_before, without_blanks_behind, is_blank, color_in, color_of_list, color_of_parts, are_parts, is_within, truth_of, text_of, kind_of, negation_of};
 
-use crate::halt::Halt;
 use crate::whole::whole;
 use color_values::read_color;
 use decimal_json::Text;
 use fixed_num::{Color, Fixed, NumFault, begins_with, read_decimal};
+use halts::Halt;
 use prop_values::{EvalFault, Value, kind_text, to_text, truth};
 use std::alloc::Global;
 
@@ -26,7 +26,7 @@ pub fn truth_of(values: &[Value]) -> Result<Value, EvalFault>
 }
 
 /// `to-string`.
-pub fn text_of(alloc: Global, values: &[Value]) -> Result<Value, Halt>
+pub fn text_of(alloc: Global, values: &[Value]) -> Result<Value, Halt<EvalFault>>
     ensures { Gives result (text_of (values_view values.now)) }
 {
     match values {
@@ -36,7 +36,7 @@ pub fn text_of(alloc: Global, values: &[Value]) -> Result<Value, Halt>
 }
 
 /// `typeof`: `null`, `boolean`, `number`, `string`, `color`, `array` or `object`.
-pub fn kind_of(alloc: Global, values: &[Value]) -> Result<Value, Halt>
+pub fn kind_of(alloc: Global, values: &[Value]) -> Result<Value, Halt<EvalFault>>
     ensures { Gives result (kind_of (values_view values.now)) }
 {
     match values {

@@ -14,7 +14,7 @@
 //! operator wants.
 //!
 //! What is promised, for all values: each function gives exactly the value or the fault of the definition of its name in
-//! `specs/`; one that may lack memory gives that or [`Halt::NoMemory`]. Numbers, their rounding and their faults are those of
+//! `specs/`; one that may lack memory gives that or `Halt::NoMemory`. Numbers, their rounding and their faults are those of
 //! `fixed_num` and `interpolate_fixed`, positions in texts those of `text_units`, equality and order those of `prop_values`.
 //!
 //! Each call takes time linear in its values. Texts and lists that stay whole are shared and not copied.
@@ -27,7 +27,6 @@ mod arithmetic;
 mod colors;
 mod comparisons;
 mod conversions;
-mod halt;
 mod ramps;
 mod sequences;
 mod texts;
@@ -40,7 +39,9 @@ pub use arithmetic::{
 pub use colors::{color_parts, rgba};
 pub use comparisons::{different, equal, greater, greater_or_equal, less, less_or_equal};
 pub use conversions::{color_in, kind_of, negation, number_in, text_of, truth_of};
-pub use halt::Halt;
 pub use ramps::value_between;
 pub use sequences::{contains, index_of, item, length, slice};
 pub use texts::concat;
+
+/// Why an evaluation ends without a value.
+pub type Halt = halts::Halt<prop_values::EvalFault>;

@@ -6,9 +6,9 @@ ghost use Rattle.prop_values.specs.View.{data_of, items, evaluated_of};
 ghost use Rattle.operator_values.specs.Evaluated.{Gives};
 ghost use Rattle.operator_values.specs.Ramps.{between_of, list_between, number_between, pairs_in};
 
-use crate::arithmetic::{fault_of, number_value};
-use crate::halt::Halt;
+use crate::arithmetic::number_value;
 use fixed_num::Fixed;
+use halts::Halt;
 use interpolate_fixed::{linear, linear_color};
 use prop_values::{EvalFault, PackedColor, Value, Values};
 use std::alloc::Global;
@@ -22,7 +22,7 @@ pub fn value_between(
     a: &Value,
     x1: Fixed,
     b: &Value,
-) -> Result<Value, Halt>
+) -> Result<Value, Halt<EvalFault>>
     requires from { x0 ≤ℤ x }
     requires to { x ≤ℤ x1 }
     requires apart { x0 <ℤ x1 }
@@ -49,7 +49,7 @@ fn list_between(
     a: &[Value],
     x1: Fixed,
     b: &[Value],
-) -> Result<Value, Halt>
+) -> Result<Value, Halt<EvalFault>>
     requires from { x0 ≤ℤ x }
     requires to { x ≤ℤ x1 }
     requires apart { x0 <ℤ x1 }

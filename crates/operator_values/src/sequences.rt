@@ -11,15 +11,15 @@ ghost use Rattle.operator_values.specs.Evaluated.{Gives};
 ghost use Rattle.operator_values.specs.Whole.{index_in};
 ghost use Rattle.operator_values.specs.Sequences.{at_of, item_of, item_at, item_or_outside, in_of, index_of_of, found_from, part_from, equal_from, first_equal, place_value, length_of, size_of, slice_of, stretch_of, stretch};
 
-use crate::halt::Halt;
 use crate::whole::{count, index_in, place_in, whole};
 use decimal_json::Text;
 use fixed_num::Fixed;
+use halts::Halt;
 use prop_values::{EvalFault, Value, Values, copy, equals};
 use std::alloc::{AllocError, Global};
 
 /// `at`, of an index and a list: the item. `IndexNotWhole` where the index has a fraction, else `IndexOutside` where no item has it.
-pub fn item(values: &[Value]) -> Result<Value, Halt>
+pub fn item(values: &[Value]) -> Result<Value, Halt<EvalFault>>
     ensures { Gives result (at_of (values_view values.now)) }
 {
     match values {
@@ -29,7 +29,7 @@ pub fn item(values: &[Value]) -> Result<Value, Halt>
 }
 
 #[tactic(auto, using(crate::proofs::Lists::list_again))]
-fn item_of(index: Fixed, sequence: &Value) -> Result<Value, Halt>
+fn item_of(index: Fixed, sequence: &Value) -> Result<Value, Halt<EvalFault>>
     ensures { Gives result (item_of index (data_of sequence.now)) }
 {
     match sequence {
@@ -38,14 +38,14 @@ fn item_of(index: Fixed, sequence: &Value) -> Result<Value, Halt>
     }
 }
 
-fn item_in(items: &Values, index: Fixed) -> Result<Value, Halt>
+fn item_in(items: &Values, index: Fixed) -> Result<Value, Halt<EvalFault>>
     ensures { Gives result (item_at (index_in index) items.now) }
 {
     let place = index_in(index)?;
     copy_at(items.as_slice(), place)
 }
 
-fn copy_at(items: &[Value], place: u128) -> Result<Value, Halt>
+fn copy_at(items: &[Value], place: u128) -> Result<Value, Halt<EvalFault>>
     ensures { Gives result (item_or_outside (slice_get (values_view items.now) place)) }
 {
     match item_at(items, place) {
@@ -173,7 +173,7 @@ fn size_of(sequence: &Value) -> Result<usize, EvalFault>
 
 /// `slice`, of a text or list, an index to begin at, and one to end before or none. A negative index counts from the end, and each is
 /// held to the text or list. An index with a fraction is `IndexNotWhole`.
-pub fn slice(alloc: Global, values: &[Value]) -> Result<Value, Halt>
+pub fn slice(alloc: Global, values: &[Value]) -> Result<Value, Halt<EvalFault>>
     ensures { Gives result (slice_of (values_view values.now)) }
 {
     match values {
@@ -194,7 +194,12 @@ pub fn slice(alloc: Global, values: &[Value]) -> Result<Value, Halt>
 
 // From one place up to another, which is not among it.
 #[tactic(auto, using(crate::proofs::Lists::list_again, crate::proofs::Lists::items_length))]
-fn stretch_of(alloc: Global, sequence: &Value, from: usize, to: usize) -> Result<Value, Halt>
+fn stretch_of(
+    alloc: Global,
+    sequence: &Value,
+    from: usize,
+    to: usize,
+) -> Result<Value, Halt<EvalFault>>
     requires { IfOk (size_of (data_of sequence.now)) (λ size. (from ≤ size) × (to ≤ size)) }
     ensures { Gives result (stretch_of (data_of sequence.now) from to) }
 {
@@ -206,7 +211,7 @@ fn stretch_of(alloc: Global, sequence: &Value, from: usize, to: usize) -> Result
 }
 
 #[tactic(auto, using(crate::proofs::Lists::text_again))]
-fn text_stretch(alloc: Global, text: &str, from: usize, to: usize) -> Result<Value, Halt>
+fn text_stretch(alloc: Global, text: &str, from: usize, to: usize) -> Result<Value, Halt<EvalFault>>
     requires from { from ≤ length (chars text.now) }
     requires to { to ≤ length (chars text.now) }
     ensures { Gives result (Ok (text_data (encode_utf8_all (stretch from to (chars text.now))))) }
@@ -216,7 +221,12 @@ fn text_stretch(alloc: Global, text: &str, from: usize, to: usize) -> Result<Val
 }
 
 #[tactic(auto, using(crate::proofs::Lists::stretch_viewed))]
-fn list_stretch(alloc: Global, items: &[Value], from: usize, to: usize) -> Result<Value, Halt>
+fn list_stretch(
+    alloc: Global,
+    items: &[Value],
+    from: usize,
+    to: usize,
+) -> Result<Value, Halt<EvalFault>>
     requires from { from ≤ length items.now }
     requires to { to ≤ length items.now }
     ensures { Gives result (Ok (list (items_of (stretch from to (values_view items.now))))) }

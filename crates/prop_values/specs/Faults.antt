@@ -1,5 +1,7 @@
 -- The faults of evaluation, their names, and sets of them.
 use Rattle.std.specs.Prelude.{ℕ, List, Bool, true, false, ◌||◌, codes}
+use Rattle.fixed_num.specs.declared.fixed.Arith.{Arith}
+use Rattle.fixed_num.specs.declared.fixed.Arith.TheVariants as arith
 use Rattle.prop_values.specs.declared.fault.EvalFault.{EvalFault}
 use Rattle.prop_values.specs.declared.fault.EvalFault.TheVariants.{WrongType, NotColor, NotNumberText, IndexOutside, IndexNotWhole, DivideByZero, Overflow, ColorRange, NotOrdered, NotInEnum}
 use Rattle.prop_values.specs.declared.fault.FaultSet.{FaultSet}
@@ -16,6 +18,11 @@ fault_name Overflow = codes "Overflow"
 fault_name ColorRange = codes "ColorRange"
 fault_name NotOrdered = codes "NotOrdered"
 fault_name NotInEnum = codes "NotInEnum"
+
+-- The fault that an operation on numbers leaves. Source: own.
+abbrev pub fault_of : Arith → EvalFault
+fault_of arith.Overflow = Overflow
+fault_of arith.DivideByZero = DivideByZero
 
 -- Whether a fault is in the set: each has a field of its name.
 abbrev pub holds : FaultSet → EvalFault → Bool

@@ -1,6 +1,9 @@
 ghost use Rattle.std.specs.Prelude.{◌≡◌, ◌↔◌, IsTrue};
 ghost use Rattle.prop_values.specs.Faults.{fault_name, holds, no_faults, one_fault, union};
 
+use fixed_num::Arith;
+use halts::Halt;
+
 /// Why an expression has no value.
 #[derive(Clone, Copy, Debug, PartialEq, Eq)]
 pub enum EvalFault {
@@ -43,6 +46,31 @@ impl EvalFault {
             EvalFault::NotOrdered => "NotOrdered",
             EvalFault::NotInEnum => "NotInEnum",
         }
+    }
+}
+
+impl From<Arith> for EvalFault {
+    ghost use Rattle.std.specs.Prelude.{◌≡◌};
+    ghost use Rattle.prop_values.specs.Faults.{fault_of};
+
+    ghost from_gives = { λ arith fault. fault ≡ fault_of arith };
+
+    fn from(arith: Arith) -> EvalFault {
+        match arith {
+            Arith::Overflow => EvalFault::Overflow,
+            Arith::DivideByZero => EvalFault::DivideByZero,
+        }
+    }
+}
+
+impl From<EvalFault> for Halt<EvalFault> {
+    ghost use Rattle.std.specs.Prelude.{◌≡◌};
+    ghost use Rattle.halts.specs.declared.halt.Halt.TheVariants.{Fault};
+
+    ghost from_gives = { λ fault halt. halt ≡ Fault fault };
+
+    fn from(fault: EvalFault) -> Halt<EvalFault> {
+        Halt::Fault(fault)
     }
 }
 

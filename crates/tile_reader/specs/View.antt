@@ -8,8 +8,8 @@ use Rattle.proto_wire.specs.declared.field.WireFault.{WireFault}
 use Rattle.prop_values.specs.Data.{Data}
 use Rattle.prop_values.specs.Data as held
 use Rattle.tile_reader.specs.declared.fault.TileFault.{TileFault}
-use Rattle.tile_reader.specs.declared.halt.Halt.{Halt}
-use Rattle.tile_reader.specs.declared.halt.Halt.TheVariants.{Fault, NoMemory}
+use Rattle.halts.specs.declared.halt.Halt.{Halt}
+use Rattle.halts.specs.declared.halt.Halt.TheVariants.{Fault, NoMemory}
 use Rattle.tile_reader.specs.declared.value.Held.{Held}
 use Rattle.tile_reader.specs.declared.value.Held.TheVariants.{Signed, Unsigned, Text, Flag}
 use Rattle.tile_reader.specs.declared.feature.TaggedFeature.{TaggedFeature}
@@ -26,13 +26,13 @@ Gives seen (Ok x) read = read ≡ Ok (seen x)
 Gives seen (Err fault) read = read ≡ Err fault
 
 -- the same of a reader that may lack memory
-abbrev pub GivesOrLacks : {X Y : Type 0} → (X → Y) → Result X Halt → Result Y TileFault → Type 0
+abbrev pub GivesOrLacks : {X Y : Type 0} → (X → Y) → Result X (Halt TileFault) → Result Y TileFault → Type 0
 GivesOrLacks seen (Ok x) read = read ≡ Ok (seen x)
 GivesOrLacks seen (Err (Fault fault)) read = read ≡ Err fault
 GivesOrLacks seen (Err NoMemory) read = Unit {0}
 
 -- what a step left behind, where it did not end early, is what is read there
-abbrev pub Leaves : {Y : Type 0} → Y → Result (Unit {0}) Halt → Result Y TileFault → Type 0
+abbrev pub Leaves : {Y : Type 0} → Y → Result (Unit {0}) (Halt TileFault) → Result Y TileFault → Type 0
 Leaves new (Ok _) read = read ≡ Ok new
 Leaves new (Err (Fault fault)) read = read ≡ Err fault
 Leaves new (Err NoMemory) read = Unit {0}

@@ -1,4 +1,5 @@
-use proto_wire::WireKind;
+use halts::Halt;
+use proto_wire::{WireFault, WireKind};
 use thiserror::Error;
 
 /// What a byte string lacks that a tile has.
@@ -40,4 +41,29 @@ pub enum TileKind {
 pub struct TileFault {
     pub kind: TileKind,
     pub at: usize,
+}
+
+impl From<WireFault> for TileFault {
+    ghost use Rattle.std.specs.Prelude.{◌≡◌};
+    ghost use Rattle.tile_reader.specs.Read.{broken};
+
+    ghost from_gives = { λ wire fault. fault ≡ broken wire };
+
+    fn from(wire: WireFault) -> TileFault {
+        TileFault {
+            kind: TileKind::Wire(wire.kind),
+            at: wire.at,
+        }
+    }
+}
+
+impl From<TileFault> for Halt<TileFault> {
+    ghost use Rattle.std.specs.Prelude.{◌≡◌};
+    ghost use Rattle.halts.specs.declared.halt.Halt.TheVariants.{Fault};
+
+    ghost from_gives = { λ fault halt. halt ≡ Fault fault };
+
+    fn from(fault: TileFault) -> Halt<TileFault> {
+        Halt::Fault(fault)
+    }
 }

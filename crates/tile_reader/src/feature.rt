@@ -5,9 +5,9 @@ ghost use Rattle.tile_reader.specs.Feature.{feature_member, feature_step, featur
 ghost use Rattle.tile_reader.specs.View.{Gives, GivesOrLacks, Leaves, tagged_seen};
 
 use crate::fault::{TileFault, TileKind};
-use crate::halt::Halt;
 use crate::tile::Shape;
 use crate::wire_parts::{next_field, number_in, wrong_type};
+use halts::Halt;
 use proto_wire::{Field, Fields, Wire, varint};
 use std::alloc::AllocError;
 
@@ -39,7 +39,7 @@ pub(crate) fn read_feature(
     start: usize,
     at: usize,
     tags: &mut Vec<u64>,
-) -> Result<TaggedFeature, Halt>
+) -> Result<TaggedFeature, Halt<TileFault>>
     requires { start + length content.now < 2 ^ 64 }
     ensures feature { GivesOrLacks (λ feature. tagged_seen feature (drop (length tags.old.items) tags.new.items)) result (feature_at at start content.now) }
     ensures before { OnOk result (take (length tags.old.items) tags.new.items ≡ tags.old.items) }
@@ -76,7 +76,7 @@ fn add_field(
     tags: &mut Vec<u64>,
     first: usize,
     field: Field<'_>,
-) -> Result<(), Halt>
+) -> Result<(), Halt<TileFault>>
     requires { first ≤ length tags.old.items }
     ensures step { (end : ℕ) → Leaves (tagged_seen feature.new (drop first tags.new.items)) result
         (feature_step (tagged_seen feature.old (drop first tags.old.items)) (field_seen field.entry end)) }
@@ -107,7 +107,7 @@ fn feature_member(number: u32) -> FeatureMember
 }
 
 // Adds the tags of a field, which are packed or single.
-fn add_tags(tags: &mut Vec<u64>, at: usize, wire: Wire<'_>) -> Result<(), Halt>
+fn add_tags(tags: &mut Vec<u64>, at: usize, wire: Wire<'_>) -> Result<(), Halt<TileFault>>
     ensures { Leaves tags.new.items result (tags_in at (payload_seen wire.entry) then λ more. Ok (tags.old.items ++ more)) }
 {
     match wire {
@@ -121,7 +121,7 @@ fn add_tags(tags: &mut Vec<u64>, at: usize, wire: Wire<'_>) -> Result<(), Halt>
 }
 
 // Adds the numbers of a packed field, whose tag stands at `at`.
-fn add_packed(tags: &mut Vec<u64>, at: usize, content: &[u8]) -> Result<(), Halt>
+fn add_packed(tags: &mut Vec<u64>, at: usize, content: &[u8]) -> Result<(), Halt<TileFault>>
     ensures { Leaves tags.new.items result (placed at (packed content.now) then λ more. Ok (tags.old.items ++ more)) }
 {
     let mut rest = content;

@@ -6,10 +6,11 @@ ghost use Rattle.tile_reader.specs.Feature.{feature_at};
 ghost use Rattle.tile_reader.specs.Layer.{layer_member, layer_step, no_parts};
 ghost use Rattle.tile_reader.specs.View.{GivesOrLacks, Leaves, HasAllTags, tagged_all, parts_seen};
 
+use crate::fault::TileFault;
 use crate::feature::{TaggedFeature, read_feature};
-use crate::halt::Halt;
 use crate::value::{Held, read_value};
 use crate::wire_parts::{bytes_in, next_field, number_in, text_in};
+use halts::Halt;
 use proto_wire::{Field, Fields};
 use std::alloc::Global;
 
@@ -42,7 +43,7 @@ pub(crate) fn read_parts(
     alloc: Global,
     content: &[u8],
     start: usize,
-) -> Result<LayerParts<'_>, Halt>
+) -> Result<LayerParts<'_>, Halt<TileFault>>
     requires { start + length content.now < 2 ^ 64 }
     ensures parts { GivesOrLacks parts_seen result (read_fields layer_step no_parts (message start content.now)) }
     ensures tags { IfOk result (λ parts. HasAllTags parts.features.items parts.tags.items) }
@@ -64,7 +65,11 @@ pub(crate) fn read_parts(
 }
 
 // Adds what a field holds to a layer. The byte after the field stands at `end`.
-fn add_field<'a>(parts: &mut LayerParts<'a>, field: Field<'a>, end: usize) -> Result<(), Halt>
+fn add_field<'a>(
+    parts: &mut LayerParts<'a>,
+    field: Field<'a>,
+    end: usize,
+) -> Result<(), Halt<TileFault>>
     requires inside { content_length field.wire ≤ end }
     requires room { end < 2 ^ 64 }
     requires tags { HasAllTags parts.old.features.items parts.old.tags.items }
@@ -106,7 +111,7 @@ fn add_feature(
     content: &[u8],
     start: usize,
     at: usize,
-) -> Result<(), Halt>
+) -> Result<(), Halt<TileFault>>
     requires room { start + length content.now < 2 ^ 64 }
     requires tags { HasAllTags features.old.items tags.old.items }
     ensures feature { Leaves (tagged_all features.new.items tags.new.items) result

@@ -18,12 +18,11 @@
 //! value, UTF-8, and the feature type, also where a later field replaces it. At the end of a layer come its name, its
 //! version and a repeated name, and then for each feature an odd number of tags and a tag without a key or value.
 //!
-//! The text to believe is in `specs/`: `Names`, `Format`, `FirstFault`; `Laws` joins it to what is read.
+//! The text to believe is in `specs/`: `Names`, `ShapeName`, `Format`, `FirstFault`; `Laws` joins it to what is read.
 #![tactic(auto)]
 
 mod fault;
 mod feature;
-mod halt;
 mod laws;
 mod layer;
 mod properties;

@@ -7,14 +7,22 @@ ghost use Rattle.tile_reader.specs.Lookup.{AreFirsts, AreInside, ArePlaces, pair
 
 use crate::fault::{TileFault, TileKind};
 use crate::feature::TaggedFeature;
-use crate::halt::Halt;
 use crate::tile::{Feature, Features};
 use crate::value::Held;
 use decimal_json::Text;
 use fixed_num::Fixed;
+use halts::Halt;
 use prop_values::{Entries, Value, copy};
 use std::alloc::{AllocError, Global};
 use std::collections::BTreeMap;
+
+/// The keys and values of a layer, which its tags name, and for each key the place of the first that equals it.
+#[derive(Clone, Copy)]
+struct TagTable<'a> {
+    keys: &'a [Text],
+    values: &'a [Value],
+    firsts: &'a [usize],
+}
 
 /// The pairs of indices that a feature's properties are, and for each key of the layer the place of its pair. A place
 /// counts only where a pair of that key stands there, so nothing is cleared between features.
@@ -32,21 +40,19 @@ pub(crate) fn features(
     values: &[Held<'_>],
     tagged: &[TaggedFeature],
     tags: &[u64],
-) -> Result<Features, Halt>
+) -> Result<Features, Halt<TileFault>>
     requires { HasAllTags tagged.now tags.now }
     ensures { GivesOrLacks (λ all. all) result (features_of (texts_seen keys.now) (map value_seen values.now) [] (tagged_all tagged.now tags.now)) }
 {
     let firsts = first_places(alloc, keys)?;
     let texts = texts_of(alloc, keys)?;
     let made = values_of(alloc, values)?;
-    features_with(
-        alloc,
-        texts.as_slice(),
-        made.as_slice(),
-        firsts.as_slice(),
-        tagged,
-        tags,
-    )
+    let table = TagTable {
+        keys: texts.as_slice(),
+        values: made.as_slice(),
+        firsts: firsts.as_slice(),
+    };
+    features_with(alloc, &table, tagged, tags)
 }
 
 // The keys as texts of their own.
@@ -71,28 +77,26 @@ fn values_of(alloc: Global, held: &[Held<'_>]) -> Result<Vec<Value>, AllocError>
     Ok(made)
 }
 
-// The features of a layer with these keys, whose first places are `firsts`, these values and these tags.
+// The features of a layer with these tags.
 fn features_with(
     alloc: Global,
-    keys: &[Text],
-    values: &[Value],
-    firsts: &[usize],
+    table: &TagTable<'_>,
     tagged: &[TaggedFeature],
     tags: &[u64],
-) -> Result<Features, Halt>
-    requires firsts { AreFirsts firsts.now keys.now }
+) -> Result<Features, Halt<TileFault>>
+    requires firsts { AreFirsts table.now.firsts.now table.now.keys.now }
     requires tags { HasAllTags tagged.now tags.now }
-    ensures { GivesOrLacks (λ all. all) result (features_of keys.now (map data_of values.now) [] (tagged_all tagged.now tags.now)) }
+    ensures { GivesOrLacks (λ all. all) result (features_of table.now.keys.now (map data_of table.now.values.now) [] (tagged_all tagged.now tags.now)) }
 {
     let mut features = Features::with_capacity(alloc, tagged.len())?;
     let mut choice = Choice {
         pairs: Vec::new(alloc),
-        places: vec![in alloc; 0; keys.len()]?,
+        places: vec![in alloc; 0; table.keys.len()]?,
     };
     let mut rest = tags;
     for feature in tagged {
         let (own, others) = rest.split_at(feature.count as usize);
-        features.push(with_properties(alloc, keys, values, firsts, feature, own, &mut choice)?)?;
+        features.push(with_properties(alloc, table, feature, own, &mut choice)?)?;
         rest = others;
     }
     Ok(features)
@@ -132,17 +136,15 @@ fn first_place<'a>(
 // A feature with the properties that its tags name.
 fn with_properties(
     alloc: Global,
-    keys: &[Text],
-    values: &[Value],
-    firsts: &[usize],
+    table: &TagTable<'_>,
     tagged: &TaggedFeature,
     tags: &[u64],
     choice: &mut Choice,
-) -> Result<Feature, Halt>
-    requires firsts { AreFirsts firsts.now keys.now }
-    requires places { length choice.old.places.items ≡ length keys.now }
-    ensures feature { GivesOrLacks (λ feature. feature) result (feature_of keys.now (map data_of values.now) (tagged_seen tagged.now tags.now)) }
-    ensures places { OnOk result (length choice.new.places.items ≡ length keys.now) }
+) -> Result<Feature, Halt<TileFault>>
+    requires firsts { AreFirsts table.now.firsts.now table.now.keys.now }
+    requires places { length choice.old.places.items ≡ length table.now.keys.now }
+    ensures feature { GivesOrLacks (λ feature. feature) result (feature_of table.now.keys.now (map data_of table.now.values.now) (tagged_seen tagged.now tags.now)) }
+    ensures places { OnOk result (length choice.new.places.items ≡ length table.now.keys.now) }
 {
     if tags.len() % 2 == 1 {
         return Err(Halt::Fault(TileFault {
@@ -150,7 +152,7 @@ fn with_properties(
             at: tagged.at,
         }));
     }
-    if !choose(keys, values, firsts, tags, choice)? {
+    if !choose(table.keys, table.values, table.firsts, tags, choice)? {
         return Err(Halt::Fault(TileFault {
             kind: TileKind::TagIndex,
             at: tagged.at,
@@ -159,7 +161,7 @@ fn with_properties(
     Ok(Feature {
         id: tagged.id,
         shape: tagged.shape,
-        properties: entries(alloc, keys, values, choice.pairs.as_slice())?,
+        properties: entries(alloc, table.keys, table.values, choice.pairs.as_slice())?,
     })
 }
 

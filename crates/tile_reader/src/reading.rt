@@ -8,12 +8,12 @@ ghost use Rattle.tile_reader.specs.Tile.{tile_step, tile_of, is_compressed};
 ghost use Rattle.tile_reader.specs.View.{Gives, GivesOrLacks, Leaves, HasAllTags, parts_seen};
 
 use crate::fault::{TileFault, TileKind};
-use crate::halt::Halt;
 use crate::layer::{LayerParts, read_parts};
 use crate::properties::features;
 use crate::tile::{Tile, TileLayer};
 use crate::wire_parts::{bytes_in, next_field};
 use decimal_json::Text;
+use halts::Halt;
 use proto_wire::{Field, Fields};
 use std::alloc::{AllocError, Global};
 
@@ -38,7 +38,7 @@ fn is_compressed(bytes: &[u8]) -> bool
 }
 
 #[tactic(auto, unfolding(crate::specs::Tile::tile_of))]
-fn read_layers(alloc: Global, bytes: &[u8]) -> Result<Tile, Halt>
+fn read_layers(alloc: Global, bytes: &[u8]) -> Result<Tile, Halt<TileFault>>
     ensures { GivesOrLacks (λ tile. tile) result (tile_of bytes.now) }
 {
     if is_compressed(bytes) {
@@ -51,7 +51,7 @@ fn read_layers(alloc: Global, bytes: &[u8]) -> Result<Tile, Halt>
 }
 
 // The layers of bytes that are not compressed.
-fn read_message(alloc: Global, bytes: &[u8]) -> Result<Tile, Halt>
+fn read_message(alloc: Global, bytes: &[u8]) -> Result<Tile, Halt<TileFault>>
     ensures { GivesOrLacks (λ tile. tile) result (read_fields tile_step [] (message 0 bytes.now)) }
 {
     let mut tile = Tile::new(alloc);
@@ -64,7 +64,12 @@ fn read_message(alloc: Global, bytes: &[u8]) -> Result<Tile, Halt>
 }
 
 // Adds the layer that a field holds, if it does. The byte after the field stands at `end`.
-fn add_field(alloc: Global, tile: &mut Tile, field: Field<'_>, end: usize) -> Result<(), Halt>
+fn add_field(
+    alloc: Global,
+    tile: &mut Tile,
+    field: Field<'_>,
+    end: usize,
+) -> Result<(), Halt<TileFault>>
     requires inside { content_length field.wire ≤ end }
     requires room { end < 2 ^ 64 }
     ensures { Leaves tile.new result (tile_step tile.old (field_seen field.entry end)) }
@@ -79,7 +84,12 @@ fn add_field(alloc: Global, tile: &mut Tile, field: Field<'_>, end: usize) -> Re
 }
 
 // Adds the layer of these parts, whose tag stands at `at`.
-fn add_layer(alloc: Global, tile: &mut Tile, parts: &LayerParts<'_>, at: usize) -> Result<(), Halt>
+fn add_layer(
+    alloc: Global,
+    tile: &mut Tile,
+    parts: &LayerParts<'_>,
+    at: usize,
+) -> Result<(), Halt<TileFault>>
     requires { HasAllTags parts.now.features.items parts.now.tags.items }
     ensures { Leaves tile.new result (layer_end at (names tile.old) (parts_seen parts.now) then λ layer. Ok (tile.old ++ layer ∷ [])) }
 {

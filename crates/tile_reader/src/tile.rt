@@ -1,5 +1,6 @@
 ghost use Rattle.std.specs.Prelude.{◌≡◌, [], ◌∷◌, ◌++◌, IfOk, OnOk, OnErr, option_map};
 ghost use Rattle.key_index.specs.Keys.{LacksKey};
+ghost use Rattle.tile_reader.specs.ShapeName.{shape_name};
 
 use decimal_json::Text;
 use key_index::{KeyIndex, Keyed};
@@ -14,6 +15,20 @@ pub enum Shape {
     Point,
     LineString,
     Polygon,
+}
+
+impl Shape {
+    /// Its name. Geometries of several parts have that of one.
+    pub fn name(self) -> &'static str
+        ensures { result.now ≡ shape_name self }
+    {
+        match self {
+            Shape::Unknown => "Unknown",
+            Shape::Point => "Point",
+            Shape::LineString => "LineString",
+            Shape::Polygon => "Polygon",
+        }
+    }
 }
 
 /// A feature of a layer. Its geometry is not read.

@@ -7,7 +7,7 @@ use Rattle.std.proofs.lemmas.Nat.{mul-le}
 use Rattle.fixed_num.specs.declared.fixed.Arith.{Arith}
 use Rattle.fixed_num.specs.declared.fixed.Arith.TheVariants as arith_faults
 use Rattle.prop_values.specs.Data.{Data, null, boolean, number, text, color, list, map, Items, no_items, item}
-use Rattle.prop_values.specs.Faults.{holds}
+use Rattle.prop_values.specs.Faults.{holds, fault_of}
 use Rattle.prop_values.specs.declared.fault.EvalFault.{EvalFault}
 use Rattle.prop_values.specs.declared.fault.EvalFault.TheVariants as faults
 use Rattle.prop_values.specs.declared.fault.FaultSet.{FaultSet}
@@ -19,7 +19,7 @@ use Rattle.property_tables.specs.Fitting.{are_items, has_count, item_count}
 use Rattle.interpolate_fixed.specs.Linear.{farthest, linear_of}
 use Rattle.expr_types.specs.Ramping.{is_ramp_kind, is_near, are_items_near, are_near}
 use Rattle.operator_values.specs.Arithmetic.{the_number}
-use Rattle.operator_values.specs.Evaluated.{Evaluated, fault_of}
+use Rattle.operator_values.specs.Evaluated.{Evaluated}
 use Rattle.operator_values.specs.Ramps.{and_pair, pairs_in, and_item, items_between, the_list, list_between, between_of}
 use Rattle.eval_face.specs.Branches.{between_values}
 use Rattle.typing_laws.specs.OfKind.{is_of}

@@ -10,7 +10,7 @@ use Rattle.fixed_num.specs.Number.{bounded, sum, difference, product, quotient, 
 use Rattle.fixed_num.specs.declared.fixed.Arith.{Arith}
 use Rattle.fixed_num.specs.declared.fixed.Arith.TheVariants as arith_faults
 use Rattle.prop_values.specs.Data.{Data, null, boolean, number, text, color, list, map}
-use Rattle.prop_values.specs.Faults.{holds, one_fault}
+use Rattle.prop_values.specs.Faults.{holds, one_fault, fault_of}
 use Rattle.prop_values.specs.Forms.{order_of}
 use Rattle.prop_values.specs.declared.fault.EvalFault.TheVariants as faults
 use Rattle.prop_values.specs.declared.fault.FaultSet.{FaultSet}
@@ -25,7 +25,7 @@ use Rattle.expr_types.specs.Comparing.{are_ordered, own_ordered}
 use Rattle.expr_types.specs.Own.{faults_if}
 use Rattle.operator_values.specs.Arithmetic.{then_number, the_number, folded, sum_of, product_of, difference_of, quotient_of, remainder_of, of_number, chosen, chosen_of, least_of, greatest_of}
 use Rattle.operator_values.specs.Comparisons.{equal_of, different_of, is_less, is_less_or_equal, is_greater, is_greater_or_equal, or_not_ordered, accepted, ordered_of}
-use Rattle.operator_values.specs.Evaluated.{Evaluated, fault_of}
+use Rattle.operator_values.specs.Evaluated.{Evaluated}
 use Rattle.typing_laws.specs.OfKind.{is_of}
 use Rattle.typing_laws.proofs.Sets.{Within, within_left, within_right, within_one}
 use Rattle.typing_laws.proofs.Outcomes.{OutcomeOf, OwnIn}

@@ -5,7 +5,7 @@ use Rattle.std.proofs.lemmas.Bool.{leb-true, and_parts}
 use Rattle.std.proofs.lemmas.Int.{ints}
 use Rattle.fixed_num.specs.declared.fixed.Arith.{Arith}
 use Rattle.prop_values.specs.Data.{Data, number, color, list, Items}
-use Rattle.prop_values.specs.Faults.{holds}
+use Rattle.prop_values.specs.Faults.{holds, fault_of}
 use Rattle.prop_values.specs.declared.fault.EvalFault.TheVariants as faults
 use Rattle.prop_values.specs.declared.fault.FaultSet.{FaultSet}
 use Rattle.prop_values.specs.declared.kinds.Item.{Item}
@@ -30,7 +30,7 @@ use Rattle.expr_types.specs.OwnTable.{own}
 use Rattle.expr_types.specs.declared.own.Own.{Own}
 use Rattle.expr_types.specs.Ramping.{is_ramp_kind, is_interpolable, are_near, is_fitting, are_next_near, next_from, steps_are_near, is_linear, may_pass, unless_interpolable}
 use Rattle.operator_values.specs.Arithmetic.{then_number}
-use Rattle.operator_values.specs.Evaluated.{Evaluated, then_value, fault_of}
+use Rattle.operator_values.specs.Evaluated.{Evaluated, then_value}
 use Rattle.eval_face.specs.Branches.{output_at, ramp_at, ramp_of}
 use Rattle.eval_face.specs.Meanings.{Meaning}
 use Rattle.eval_face.specs.Names.{Names}

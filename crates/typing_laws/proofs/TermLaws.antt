@@ -13,13 +13,14 @@ use Rattle.expr_syntax.specs.Term.{Term, literal, node, Terms, no_terms, term}
 use Rattle.expr_syntax.specs.declared.expression.Operator.{Operator}
 use Rattle.expr_syntax.specs.declared.expression.Operator.TheVariants as ops
 use Rattle.expr_types.specs.Typing.{Found, Scope, Typing, literal_node, is_branching, handed, node_typed, plain_typed, literal_of, literals, typed, typings, own_named, fitted}
+use Rattle.tile_reader.specs.ShapeName.{shape_name}
 use Rattle.operator_values.specs.Evaluated.{Evaluated, then_value}
 use Rattle.operator_values.specs.Texts.{concat_of}
 use Rattle.eval_face.specs.Bindings.{var_of}
 use Rattle.eval_face.specs.Branches.{case_of, match_of, step_of, ramp_of}
 use Rattle.eval_face.specs.Decisions.{first_of}
-use Rattle.eval_face.specs.Fitted.{each_value_is_fitted}
-use Rattle.eval_face.specs.Lookups.{id_value, shape_name}
+use Rattle.eval_face.proofs.FittedLaws.{each_value_is_fitted}
+use Rattle.eval_face.specs.Lookups.{id_value}
 use Rattle.eval_face.specs.Meaning.{node_meaning, mean, means}
 use Rattle.eval_face.specs.Meanings.{Meaning}
 use Rattle.eval_face.specs.Names.{Names}

@@ -4,11 +4,11 @@ use Rattle.std.specs.Option.{option_map}
 use Rattle.std.proofs.lemmas.Result.{IfOk-weaker}
 use Rattle.prop_values.specs.View.{data_of, values_view}
 use Rattle.expr_syntax.specs.Term.{nodes}
-use Rattle.expr_syntax.specs.TermView.{term_of}
-use Rattle.expr_syntax.specs.Falls.{weight, argument_weight}
+use Rattle.expr_syntax.specs.TermView.{term_of, weight}
+use Rattle.expr_syntax.proofs.Falls.{argument_weight}
 use Rattle.expr_syntax.specs.BoundNames.{last_place}
 use Rattle.expr_syntax.specs.Chosen.{output_of}
-use Rattle.operator_values.specs.declared.halt.Halt.TheVariants.{Fault}
+use Rattle.halts.specs.declared.halt.Halt.TheVariants.{Fault}
 use Rattle.operator_values.specs.Evaluated.{Gives}
 use Rattle.eval_face.specs.Bindings.{outcomes_of}
 use Rattle.eval_face.specs.Rules.{rule_of}

@@ -1,7 +1,6 @@
 use Rattle.std.proofs.Common.{◌≡◌, ℕ, ◌≤◌, ◌+◌, ◌*◌, drop, length}
 use Rattle.expr_syntax.specs.Term.{nodes}
-use Rattle.expr_syntax.specs.TermView.{term_of}
-use Rattle.expr_syntax.specs.Falls.{weight}
+use Rattle.expr_syntax.specs.TermView.{term_of, weight}
 use Rattle.eval_face.specs.Meanings.{values_of}
 use Rattle.eval_face.specs.Decisions.{first_of}
 use Rattle.eval_face.specs.Branches.{case_of}

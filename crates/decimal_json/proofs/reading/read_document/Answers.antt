@@ -1,5 +1,5 @@
 use Rattle.std.proofs.Common.{◌-◌, ◌∙◌, Ok, Err, length, ap, subst}
-use Rattle.json_tokens.specs.declared.halt.Halt.TheVariants.{Fault}
+use Rattle.halts.specs.declared.halt.Halt.TheVariants.{Fault}
 use Rattle.decimal_json.specs.Reading.{GivesWhole}
 use Rattle.decimal_json.proofs.Wholes.{parsed_fault}
 use Rattle.decimal_json.proofs.reading.read_document.Goals as goal

@@ -1,7 +1,6 @@
 use Rattle.std.proofs.Common.{◌≡◌, ◌+◌, ◌*◌, drop}
 use Rattle.expr_syntax.specs.Term.{nodes}
-use Rattle.expr_syntax.specs.TermView.{term_of, terms}
-use Rattle.expr_syntax.specs.Falls.{weight}
+use Rattle.expr_syntax.specs.TermView.{term_of, terms, weight}
 use Rattle.expr_syntax.specs.Mentioned.{either, all_mentions}
 use Rattle.dependency_sets.proofs.mentioned.+mentions.Given as goal
 

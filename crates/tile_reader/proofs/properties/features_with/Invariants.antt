@@ -7,7 +7,7 @@ use Rattle.tile_reader.proofs.properties.features_with.Given as goal
 
 abbrev pub invariant-loop-feature : goal.invariant-loop-feature
 invariant-loop-feature l = record {
-  places : length l.choice.places.items ≡ length l.keys;
+  places : length l.choice.places.items ≡ length l.table.keys.now;
   tags : HasAllTags (drop l.feature-index l.tagged) l.rest;
-  read : features_of l.keys (map data_of l.values) l.features (tagged_all (drop l.feature-index l.tagged) l.rest) ≡ features_of l.keys (map data_of l.values) [] (tagged_all l.tagged l.fn.tags);
+  read : features_of l.table.keys.now (map data_of l.table.values.now) l.features (tagged_all (drop l.feature-index l.tagged) l.rest) ≡ features_of l.table.keys.now (map data_of l.table.values.now) [] (tagged_all l.tagged l.fn.tags);
 }

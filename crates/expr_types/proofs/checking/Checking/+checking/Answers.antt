@@ -3,8 +3,7 @@ use Rattle.std.proofs.Common.{◌≡◌, ◌<◌, ◌+◌, ◌*◌, ◌++◌, �
 use Rattle.decimal_json.specs.Place.{path_of}
 use Rattle.prop_values.specs.Faults.{no_faults, union}
 use Rattle.expr_syntax.specs.Term.{nodes}
-use Rattle.expr_syntax.specs.Falls.{weight}
-use Rattle.expr_syntax.specs.TermView.{term_of}
+use Rattle.expr_syntax.specs.TermView.{term_of, weight}
 use Rattle.expr_syntax.specs.declared.expression.Operator.TheVariants.{Let}
 use Rattle.expr_types.specs.LiteralView.{literals_of, typings_of}
 use Rattle.expr_types.specs.OwnTable.{own}
