@@ -119,7 +119,7 @@ fn read_items(alloc: Global, cursor: &mut Cursor<'_>, depth: usize) -> Result<It
     read_elements(alloc, cursor, depth)
 }
 
-// How many items an array has room for at first whose first item stands next.
+// How many items an array has room for when its first item is read.
 #[inline(always)]
 fn first_room(cursor: &Cursor<'_>) -> usize {
     match cursor.peek() {
@@ -229,7 +229,7 @@ fn read_pair(
     }
 }
 
-// Reads the colon behind a key, and the value.
+// Reads the colon after a key, and the value.
 #[cycle(read)]
 fn read_named(alloc: Global, cursor: &mut Cursor<'_>, depth: usize) -> Result<Json, Halt>
     requires { depth ≤ MAX_OPEN }
@@ -271,7 +271,7 @@ fn read_key(alloc: Global, cursor: &mut Cursor<'_>, members: &Members) -> Result
     }
 }
 
-// Reads what stands behind an item or a member: true at the end, false where the next one stands.
+// Reads what follows an item or a member: true at the end, false at the next one.
 #[inline(always)]
 fn read_turn(cursor: &mut Cursor<'_>, close: u8) -> Result<bool, JsonKind>
     ensures gives { GivesTurn close cursor.old result cursor.new }

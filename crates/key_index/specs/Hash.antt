@@ -1,4 +1,4 @@
--- The hash by which keys are told apart.
+-- The hash by which keys are distinguished.
 use Rattle.std.specs.Prelude.{ℕ, ◌+◌, ◌-◌, ◌*◌, ◌/◌, ◌%◌, ◌^◌, List, [], ◌∷◌, length, take, drop, nat_le, if◌then◌else◌}
 
 -- A hash of 64 bits with one byte more. Source: own; the factor is 2^64 divided by the golden ratio.
