@@ -26,8 +26,8 @@ impl States {
         }
     }
 
-    /// Sets each of the members for one feature: where a key is there, its value is replaced, and new keys stand
-    /// behind the others in their order. Without members nothing changes, and no memory is taken.
+    /// Sets each of the members for one feature: where a key is there, its value is replaced, and new keys
+    /// follow the others in their order. Without members nothing changes, and no memory is taken.
     pub fn merge(
         &mut self,
         source: &str,

@@ -37,7 +37,6 @@ fn product(left: Result<Fixed, Arith>, right: Result<Fixed, Arith>) -> Result<Fi
     left?.mul(right?)
 }
 
-// The square of an answer.
 fn square(root: Result<Fixed, Arith>) -> Result<Fixed, Arith>
     ensures { result ≡ times root root }
 {

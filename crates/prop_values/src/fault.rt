@@ -6,15 +6,11 @@ ghost use Rattle.prop_values.specs.Faults.{fault_name, holds, no_faults, one_fau
 pub enum EvalFault {
     /// A value is not of the form that is wanted.
     WrongType,
-    /// A text is no color.
     NotColor,
-    /// A text is no number.
     NotNumberText,
-    /// An index stands outside a list or text.
+    /// An index is outside a list or text.
     IndexOutside,
-    /// An index has a fraction.
     IndexNotWhole,
-    /// A divisor is 0.
     DivideByZero,
     /// A number is past the bound.
     Overflow,
@@ -27,7 +23,6 @@ pub enum EvalFault {
 }
 
 impl EvalFault {
-    /// The name that is printed.
     pub fn name(self) -> &'static str
         ensures { result.now ≡ fault_name self }
     {
@@ -62,7 +57,6 @@ pub struct FaultSet {
 }
 
 impl FaultSet {
-    /// The set of no fault.
     pub fn empty() -> FaultSet
         ensures { result ≡ no_faults }
     {
@@ -118,7 +112,6 @@ impl FaultSet {
         }
     }
 
-    /// Whether a fault is in the set.
     pub fn holds(self, fault: EvalFault) -> bool
         ensures { result ≡ holds self fault }
     {

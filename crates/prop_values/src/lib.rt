@@ -21,13 +21,14 @@
 //! `Entries` by themselves are never shared, so that `remove` needs no memory.
 //!
 //! Maps change at their keys: `set` and `merge` replace a value in its place or add an entry at the end, and
-//! after want of memory the map is as before. `merge` takes n log n of the members; `remove` needs no memory,
-//! and takes time linear in the entries. Where there was none for an index of the keys, they are looked for one by
-//! one until the next entry is added. The clauses `at` of the three say what stands at each key then.
+//! when allocation fails the map is as before. `merge` takes n log n of the members; `remove` needs no
+//! memory, and takes time linear in the entries. Where there was none for an index of the keys, they are
+//! looked for one by one until the next entry is added. The clauses `at` of the three say what is at each key
+//! then.
 //!
 //! Contracts see a value through `data_of`, a list as a list of data, and a map as a list of pairs of a key
 //! and data (`specs/Data.antt`, `specs/View.antt`). `proofs/Falls.antt` has the lemmas by which a recursion
-//! over values ends, and `proofs/KeyLaws.antt` those on what stands at a key.
+//! over values ends, and `proofs/KeyLaws.antt` those on what is at a key.
 //!
 //! The text to believe is in `specs/`: `Data`, `View`, `Faults`, `Equality`, `Choices`, `Forms`,
 //! `ColorText`, `ValueText`, `JsonData`, `Changes`. Laws of it: `EqualityLaws`.
