@@ -3,12 +3,12 @@ ghost use Rattle.host_ops.specs.Change.{ChangesAt, IsSameTest};
 
 use std::alloc::Global;
 
-/// Why a test did not take what it was told.
+/// Why a test was not changed.
 #[derive(Clone, Copy, Debug, PartialEq, Eq)]
 pub enum TellFault {
     /// The test cannot change.
     Fixed,
-    /// Memory lacked.
+    /// An allocation failed.
     NoMemory,
 }
 

@@ -10,7 +10,7 @@ use std::io::{self, Read};
 use std::marker::Model;
 use std::{fs, rt};
 
-/// The real files of a runtime, by their paths. They tell no bytes.
+/// The real files of a runtime, by their paths. Their bytes are unknown to contracts.
 ///
 /// An error of the runtime, at the opening or in the middle, is a failed read; an interruption counts as an error. A turn
 /// that gives nothing is the end of the file.
@@ -129,8 +129,8 @@ fn read_rest<F: Read>(
     }
 }
 
-/// One turn of a read, straight into the room after what the vector has. It appends what the reader gave and says how many bytes
-/// that are: none only at the reader's end. Else the read failed or memory lacked.
+/// One turn of a read, straight into the room after what the vector has. It appends what the reader gave and
+/// answers how many bytes these are: none only at the reader's end. Else the read or an allocation failed.
 fn read_turn<F: Read>(file: &mut F, into: &mut Vec<u8>) -> Result<usize, ReadAnswer>
     ensures longer { IfOk result (λ count. vec_len into.new ≡ vec_len into.old + count) }
     ensures appends { OnOk result (StartsWith into.new.items into.old.items) }

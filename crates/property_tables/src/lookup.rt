@@ -37,7 +37,7 @@ pub fn row_numbered(layer_type: LayerType, number: u16) -> Row
     row_at(&entries[usize::from(number)], number)
 }
 
-// The row of a name, in whichever place it stands.
+// The row of a name, of layout or of paint.
 fn row_named(layer_type: LayerType, name: &str) -> Option<Row>
     ensures { option_map numbered_seen result ≡ row_named 0 name.now (rows_of layer_type) }
 {

@@ -3,14 +3,14 @@ ghost use Rattle.std.specs.Prelude.{◌≡◌};
 use fixed_num::Fixed;
 use prop_values::Want;
 
-/// The member of a layer that a property stands in.
+/// The member of a layer that a property is in.
 #[derive(Clone, Copy, Debug, PartialEq, Eq)]
 pub enum Place {
     Layout,
     Paint,
 }
 
-/// What stands for a property without a value of its own. `default_value` gives it as a value.
+/// The default of a property without a value of its own. `default_value` gives it as a value.
 #[derive(Clone, Copy, Debug, PartialEq, Eq)]
 pub enum Fallback {
     Absent,
@@ -47,7 +47,6 @@ pub struct Row {
 }
 
 impl Row {
-    /// The same row, from behind a reference.
     pub fn copy(&self) -> Row
         ensures { result ≡ self.now }
     {

@@ -1,4 +1,5 @@
--- A message: fields one after the other (Protocol Buffers, "Encoding", Message Structure; Vector Tile 2.1 stands on it).
+-- A message: a sequence of fields. Source: Protocol Buffers, "Encoding", Message Structure, which Vector Tile
+-- 2.1 takes over.
 use Rattle.std.specs.Prelude.{◌≡◌, ℕ, ◌+◌, ◌-◌, ◌/◌, ◌%◌, ◌^◌, ◌<◌, ◌⊎◌, List, [], ◌∷◌, length, take, drop, Option, Some, None, Result, Ok, Err, if◌then◌else◌, nat_le, nat_eq}
 use Rattle.std.specs.Int.{w32, w64, from_le_bytes}
 use Rattle.proto_wire.specs.declared.wire.WireKind.{WireKind}
@@ -71,13 +72,13 @@ payload_at wire.Bits64 b = front_of 8 b then λ read. Ok (bits64 (from_le_bytes 
 payload_at wire.Bytes b = varint_at b then λ count. front_of count.0 count.1 then λ read. Ok (bytes read.0, read.1)
 payload_at wire.Bits32 b = front_of 4 b then λ read. Ok (bits32 (from_le_bytes w32 read.0), read.1)
 
--- the field at the front of bytes that stand at this offset, and the bytes after it
+-- the field at the front of bytes that are at this offset, and the bytes after it
 unfoldable pub field_at : ℕ → List ℕ → Result (WireField × List ℕ) WireKind
 field_at at b =
     tag_at b then λ tag. payload_at tag.0.1 tag.1 then λ held.
     Ok (record { number = tag.0.0; at = at; end = at + (length b - length held.1); payload = held.0 }, held.1)
 
--- These are the fields of the bytes, which stand at this offset, one after the other: up to the end, or up to a fault,
+-- These are the fields of the bytes, which are at this offset, in order: up to the end, or up to a fault,
 -- whose place is the tag of the field that it breaks.
 abbrev pub AreFields : ℕ → List ℕ → List WireField → Option WireFault → Type 0
 AreFields at b [] fault =

@@ -5,7 +5,7 @@ use Rattle.proto_wire.specs.declared.field.WireFault.{WireFault}
 use Rattle.proto_wire.specs.Message.{field_at}
 use Rattle.proto_wire.specs.View.{field_seen}
 
--- the bytes that are left, the offset at which they stand, and whether a fault came
+-- the bytes that are left, the offset at which they are, and whether a fault came
 pub record Reading : Type 0 where
   pub at : ℕ
   pub bytes : List ℕ

@@ -27,7 +27,7 @@ impl<'a> Model for Fields<'a> {
 }
 
 impl<'a> Fields<'a> {
-    /// The fields of `bytes`, the first of which stands at the offset `base` of something larger.
+    /// The fields of `bytes`, the first of which is at the offset `base` of something larger.
     pub fn new(bytes: &'a [u8], base: usize) -> Fields<'a>
         requires { base + length bytes.now < 2 ^ 64 }
         ensures { result ≡ record { at = base; bytes = bytes.now; failed = false } }

@@ -1,6 +1,6 @@
--- The first fault of bytes that are no tile, in the words of the format: what stands before it is fine, and it is the fault
--- of what comes next. The reading order is that of the bytes; what a layer lacks stands at its end, then the tags of its
--- features. Source: own.
+-- The first fault of bytes that are no tile, in the words of the format: what is before it is fine, and it is
+-- the fault of what comes next. The reading order is that of the bytes; what a layer lacks is at its end,
+-- then the tags of its features. Source: own.
 use Rattle.std.specs.Prelude.{◌≡◌, ◌≢◌, ℕ, ◌%◌, ◌≤◌, ◌⊎◌, List, [], ◌∷◌, ◌++◌, length, true, false, Option, Some, None, Ok, Err}
 use Rattle.std.specs.Str.{is_utf8}
 use Rattle.proto_wire.specs.declared.wire.WireKind.{WireKind}

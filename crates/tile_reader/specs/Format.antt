@@ -103,7 +103,7 @@ AreTags field tags =
     ((tag : ℕ) × IsNumber field tag × (tags ≡ tag ∷ []))
     ⊎ ((content : List ℕ) × IsBytes field content × ArePacked content tags)
 
--- the number of a type of geometry (Vector Tile 2.1 §4.3.4.1)
+-- the number of a type of geometry. Source: Vector Tile 2.1 §4.3.4.1.
 abbrev pub shape_number : shape.Shape → ℕ
 shape_number shapes.Unknown = 0
 shape_number shapes.Point = 1

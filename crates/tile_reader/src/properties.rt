@@ -16,8 +16,8 @@ use prop_values::{Entries, Value, copy};
 use std::alloc::{AllocError, Global};
 use std::collections::BTreeMap;
 
-/// The pairs of indices that a feature's properties are, and for each key of the layer the place of its pair. A place
-/// counts only where a pair of that key stands there, so nothing is cleared between features.
+/// The pairs of indices that a feature's properties are, and for each key of the layer the place of its pair.
+/// A place counts only where a pair of that key is there, so nothing is cleared between features.
 #[derive(Drop)]
 struct Choice {
     pairs: Vec<(usize, usize)>,
@@ -112,7 +112,7 @@ fn first_places(alloc: Global, keys: &[&str]) -> Result<Vec<usize>, AllocError>
     Ok(firsts)
 }
 
-// The place of the first text that equals this one, which stands at `index`.
+// The place of the first text that equals this one, which is at `index`.
 fn first_place<'a>(
     places: &mut BTreeMap<&'a str, usize>,
     key: &'a str,
@@ -242,7 +242,7 @@ fn put(
     Ok(())
 }
 
-// Where the pair of a key stands.
+// The place of the pair of a key.
 fn place_of(places: &[usize], chosen: &[(usize, usize)], key: usize) -> Option<usize>
     requires key { key < length places.now }
     requires places { ArePlaces places.now chosen.now }

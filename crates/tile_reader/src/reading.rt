@@ -63,7 +63,7 @@ fn read_message(alloc: Global, bytes: &[u8]) -> Result<Tile, Halt>
     Ok(tile)
 }
 
-// Adds the layer that a field holds, if it does. The byte after the field stands at `end`.
+// Adds the layer that a field holds, if it does. The byte after the field is at `end`.
 fn add_field(alloc: Global, tile: &mut Tile, field: Field<'_>, end: usize) -> Result<(), Halt>
     requires inside { content_length field.wire ≤ end }
     requires room { end < 2 ^ 64 }
@@ -78,7 +78,7 @@ fn add_field(alloc: Global, tile: &mut Tile, field: Field<'_>, end: usize) -> Re
     Ok(())
 }
 
-// Adds the layer of these parts, whose tag stands at `at`.
+// Adds the layer of these parts, whose tag is at `at`.
 fn add_layer(alloc: Global, tile: &mut Tile, parts: &LayerParts<'_>, at: usize) -> Result<(), Halt>
     requires { HasAllTags parts.now.features.items parts.now.tags.items }
     ensures { Leaves tile.new result (layer_end at (names tile.old) (parts_seen parts.now) then λ layer. Ok (tile.old ++ layer ∷ [])) }

@@ -7,7 +7,7 @@ use prop_values::Entries;
 use std::alloc::{AllocError, Global};
 use std::marker::Model;
 
-/// The form of a feature's geometry (Vector Tile 2.1, section 4.3.4.1).
+/// The form of a feature's geometry. Source: Vector Tile 2.1 §4.3.4.1.
 #[derive(Clone, Copy, Debug, PartialEq, Eq)]
 pub enum Shape {
     Unknown,
@@ -31,14 +31,13 @@ pub struct Features {
     features: Vec<Feature>,
 }
 
-/// A layer of a tile.
 #[derive(Drop)]
 pub struct TileLayer {
     pub name: Text,
     pub features: Features,
 }
 
-/// The layers of a tile in order, which clauses see as a list. No name stands twice.
+/// The layers of a tile in order, which clauses see as a list. No name occurs twice.
 #[derive(Drop)]
 pub struct Tile {
     layers: Vec<TileLayer>,
