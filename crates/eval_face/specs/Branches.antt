@@ -1,5 +1,5 @@
--- Operators that choose an output (MapLibre style specification, version 8, expressions). What decides is evaluated, and then the
--- output that it chooses alone, under the want of the node.
+-- Operators that choose an output. What decides is evaluated, and then the output that it chooses alone,
+-- under the want of the node. Source: MapLibre style specification, version 8, expressions.
 use Rattle.std.specs.Prelude.{ℕ, ◌+◌, ◌-◌, ℤ, List, [], ◌∷◌, length, true, false, Option, Some, None, Ok, Err}
 use Rattle.std.specs.List.{slice_get}
 use Rattle.prop_values.specs.Data.{boolean, number}

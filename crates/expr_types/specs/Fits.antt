@@ -1,5 +1,5 @@
--- How a kind fits a want, the kind of a node under a want, and the faults of a fit that may fail (MapLibre style specification,
--- version 8, types of expressions, as this project takes them).
+-- How a kind fits a want, the kind of a node under a want, and the faults of a fit that may fail.
+-- Source: MapLibre style specification, version 8, types of expressions, as this project takes them.
 use Rattle.std.specs.Prelude.{ℕ, Bool, true, false, ◌&&◌, ◌||◌, nat_eq, Option, Some, None, if◌then◌else◌}
 use Rattle.prop_values.specs.Faults.{no_faults, one_fault, union}
 use Rattle.prop_values.specs.declared.fault.EvalFault.TheVariants.{WrongType, NotColor, NotInEnum}

@@ -1,4 +1,5 @@
--- The kinds of literals (MapLibre style specification, version 8, types of expressions, as this project takes them).
+-- The kinds of literals. Source: MapLibre style specification, version 8, types of expressions, as this
+-- project takes them.
 use Rattle.std.specs.Prelude.{ℕ, Bool, true, false, nat_lt, Option, Some, None, Result, Ok, Err, if◌then◌else◌}
 use Rattle.prop_values.specs.Data.{Data, null, boolean, number, text, color, list, map, Items, no_items, item}
 use Rattle.prop_values.specs.declared.fault.EvalFault.{EvalFault}

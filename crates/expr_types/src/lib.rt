@@ -1,5 +1,5 @@
-//! The types of expressions (MapLibre style specification, version 8, as this project takes them): the kind of what an expression gives,
-//! and the faults that its evaluation may end with.
+//! The types of expressions: the kind of what an expression gives, and the faults that its evaluation may end
+//! with. Source: MapLibre style specification, version 8, types of expressions, as this project takes them.
 //!
 //! ```text
 //! check(alloc, &expression, &Want::Number, Some(&row))?    // Err of Kind at /1 for ["+","a",1]

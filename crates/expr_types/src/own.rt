@@ -46,7 +46,6 @@ pub(crate) fn ill_typed() -> Own
     }
 }
 
-/// Whether one of some kinds is this one.
 pub(crate) fn some_kind(kind: Kind, kinds: &[Kind]) -> bool
     ensures { result ≡ some_kind kind kinds.now }
 {

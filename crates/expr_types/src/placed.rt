@@ -7,7 +7,8 @@ pub struct Placed {
     pub always: bool,
 }
 
-/// What is known of a node: its kind, the faults that it and the nodes below it may give, and how it stands under its want.
+/// What is known of a node: its kind, the faults that it and the nodes below it may give, and its place under
+/// its want.
 #[derive(Clone, Copy, Debug, PartialEq, Eq)]
 pub(crate) struct Kinded {
     pub(crate) kind: Kind,

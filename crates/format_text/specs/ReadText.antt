@@ -33,6 +33,6 @@ abbrev pub ReadsSections : List ℕ → Option (List Section) → Type 0
 ReadsSections bytes (Some ss) = (bytes ≡ sections_text ss) × HaveFonts ss
 ReadsSections bytes None = (ss : List Section) → AreSections ss → bytes ≡ sections_text ss → ⊥
 
--- No text stands for two lists of sections.
+-- No text represents two lists of sections.
 abbrev pub EachTextIsOfOneList : Type 0
 EachTextIsOfOneList = (ss ts : List Section) → AreSections ss → AreSections ts → sections_text ss ≡ sections_text ts → ss ≡ ts

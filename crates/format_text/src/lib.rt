@@ -1,4 +1,5 @@
-//! Sections of formatted texts (MapLibre style specification, version 8, `format`) as values and as texts.
+//! Sections of formatted texts as values and as texts. Source: MapLibre style specification, version 8,
+//! `format`.
 //!
 //! ```text
 //! // ["format", "a", {"font-scale": 0.8}, "b"]

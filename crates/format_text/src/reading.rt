@@ -55,7 +55,6 @@ fn sections_in_tree(alloc: Global, json: &Json) -> Result<Option<Sections>, Allo
     }
 }
 
-// Whether this is the text of the sections.
 fn is_text_of(alloc: Global, text: &str, sections: &[Section]) -> Result<bool, AllocError>
     ensures { IfOk result (λ same. same ≡ true ↔ text.now ≡ sections_text sections.now) }
 {

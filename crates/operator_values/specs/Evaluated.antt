@@ -13,7 +13,7 @@ use Rattle.operator_values.specs.declared.halt.Halt.TheVariants.{Fault, NoMemory
 abbrev pub Evaluated : Type 0
 Evaluated = Result Data EvalFault
 
--- What the program gives is what is meant, unless it lacks memory.
+-- What the program gives is what is meant, unless allocation fails.
 abbrev pub Gives : Result Value Halt → Evaluated → Type 0
 Gives (Ok v) meant = meant ≡ Ok (data_of v)
 Gives (Err (Fault fault)) meant = meant ≡ Err fault

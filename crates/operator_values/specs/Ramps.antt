@@ -1,4 +1,5 @@
--- The value between two outputs of an interpolation (MapLibre style specification, version 8, expressions).
+-- The value between two outputs of an interpolation. Source: MapLibre style specification, version 8,
+-- expressions.
 use Rattle.std.specs.Prelude.{ℤ, List, [], ◌∷◌, Result, Ok, Err}
 use Rattle.prop_values.specs.Data.{Data, number, color, list, Items, no_items, item}
 use Rattle.prop_values.specs.declared.fault.EvalFault.{EvalFault}

@@ -98,7 +98,7 @@ fn place_value(place: Option<usize>) -> Value
     }
 }
 
-// Where a value stands in a text or list at or after a place.
+// The place of a value in a text or list at or after a place.
 #[tactic(auto, using(crate::proofs::Lists::list_again))]
 fn place_from(needle: &Value, sequence: &Value, from: u128) -> Result<Option<usize>, EvalFault>
     ensures { result ≡ found_from (data_of needle.now) (data_of sequence.now) from }
@@ -171,8 +171,8 @@ fn size_of(sequence: &Value) -> Result<usize, EvalFault>
     }
 }
 
-/// `slice`, of a text or list, an index to begin at, and one to end before or none. A negative index counts from the end, and each is
-/// held to the text or list. An index with a fraction is `IndexNotWhole`.
+/// `slice`, of a text or list, an index to begin at, and one to end before or none. A negative index counts
+/// from the end, and each is clamped to the text or list. An index with a fraction is `IndexNotWhole`.
 pub fn slice(alloc: Global, values: &[Value]) -> Result<Value, Halt>
     ensures { Gives result (slice_of (values_view values.now)) }
 {
