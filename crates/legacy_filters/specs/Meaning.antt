@@ -21,7 +21,8 @@ use Rattle.legacy_filters.specs.declared.filter.Test.TheVariants.{Has, HasNot, E
 use Rattle.legacy_filters.specs.Filter.{Filter, flag, test, group, Filters, no_filters, filter}
 use Rattle.legacy_filters.specs.Scalars.{scalar_data, is_equal, is_one_of}
 
--- the text of a shape (Vector Tile 2.1, section 4.3.4.1): those of several parts have the same as those of one
+-- the text of a shape: those of several parts have the same as those of one. Source: Vector Tile 2.1
+-- §4.3.4.1.
 abbrev pub shape_name : Shape → List ℕ
 shape_name Unknown = codes "Unknown"
 shape_name Point = codes "Point"

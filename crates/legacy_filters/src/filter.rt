@@ -11,7 +11,6 @@ pub enum Key {
     Property(Text),
 }
 
-/// The four orders.
 #[derive(Clone, Copy, Debug, PartialEq, Eq)]
 pub enum Order {
     Below,

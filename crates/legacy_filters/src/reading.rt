@@ -62,7 +62,7 @@ fn read_array(
     }
 }
 
-// An array that begins with a name, by the elements behind it.
+// An array that begins with a name, by the elements after it.
 #[tactic(auto, using(decimal_json::specs::Falls::item_weight))]
 #[cycle(reading)]
 fn read_named(

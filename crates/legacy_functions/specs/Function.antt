@@ -14,7 +14,7 @@ pub data Input : Type 0 where
   number : Spelled → Input
   word : List ℕ → Input
 
--- the output of a stop, or a default: a literal as it stands, with its value; or a token text
+-- the output of a stop, or a default: a literal as it is, with its value; or a token text
 pub data Output : Type 0 where
   literal : Tree → Data → Output
   tokens : List ℕ → Output

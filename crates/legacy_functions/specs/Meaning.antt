@@ -24,7 +24,7 @@ use Rattle.operator_values.specs.Ramps.{between_of}
 use Rattle.legacy_functions.specs.Function.{Spelled, Input, flag, number, word, Output, literal, tokens, Way, even, curved, stepped, Rule, numeric, categorical, Body, plain, zoomed, identity, Function}
 use Rattle.legacy_functions.specs.Tokens.{token_text}
 
--- ---- outputs, and what stands where no stop does
+-- ---- outputs, and the output where there is no stop
 
 abbrev pub output_data : Feature → Output → Data
 output_data feature (literal t d) = d

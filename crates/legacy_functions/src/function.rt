@@ -35,7 +35,7 @@ pub(crate) enum Input {
     Word(Text),
 }
 
-// The output of a stop, or a default: a literal as it stands, with its value; or a token text.
+// The output of a stop, or a default: a literal as it is, with its value; or a token text.
 #[derive(Drop)]
 pub(crate) enum Output {
     Literal(Json, Value),

@@ -26,7 +26,7 @@ use Rattle.legacy_laws.proofs.FilterReading.{nowhere, IsReadAs, node_with, walk_
 use Rattle.legacy_laws.proofs.FilterReading.{read_value, same_scope, AreReadAs, walks, readers, unless_few}
 use Rattle.legacy_laws.proofs.FunctionTerms.{property_term, zoom_term}
 
--- ---- walkers: nothing stands among elements where it stands in none
+-- ---- walkers: nothing is among elements where it is in none
 
 abbrev pub AllNowhere : List (Element Walker) → Type 0
 AllNowhere [] = Unit {0}

@@ -43,7 +43,7 @@ abbrev pub AreScalarsOf : Key → List Scalar → Type 0
 AreScalarsOf key [] = Unit {0}
 AreScalarsOf key (v ∷ vs) = IsScalarOf key v × AreScalarsOf key vs
 
--- no order stands with `$type`
+-- `$type` has no order
 abbrev pub IsOrderedOf : Key → Scalar → Type 0
 IsOrderedOf Shape v = ⊥
 IsOrderedOf Id v = IsReadScalar v

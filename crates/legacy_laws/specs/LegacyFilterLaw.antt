@@ -52,7 +52,7 @@ abbrev pub is_order : Test → Bool
 is_order (Ordered order v) = is_order_of v
 is_order t = false
 
--- whether such an order stands in a filter
+-- whether a filter contains such an order
 abbrev mutual
   pub has_order : Filter → Bool
   has_order (flag b) = false
@@ -63,9 +63,10 @@ abbrev mutual
   some_order no_filters = false
   some_order (filter f fs) = has_order f || some_order fs
 
--- The expression of a filter that was read is well typed as a filter: there is no type fault, and no node reads what a
--- filter may not read. Its kind is Boolean. The only fault that may be listed is NotOrdered, and it is listed exactly
--- where the filter has an order: `typeof` stands before the order, so that the fault never comes, but kinds do not tell.
+-- The expression of a filter that was read is well typed as a filter: there is no type fault, and no node
+-- reads what a filter may not read. Its kind is Boolean. The only fault that may be listed is NotOrdered, and
+-- it is listed exactly where the filter has an order: `typeof` is before the order, so that the fault never
+-- comes, but kinds do not show it.
 abbrev pub MigratedFiltersAreTyped : Type 0
 MigratedFiltersAreTyped =
     (t : Tree) (f : Filter) → legacy.reading t ≡ Ok f →

@@ -67,8 +67,8 @@ pub record IsAllowedOn (row : RowData) (f : Function) : Type 0 where
   pub zoom : has_zooms f ≡ true → row.reads.zoom ≡ true
   pub feature : is_some f.property ≡ true → row.reads.feature ≡ true
 
--- The expression of a function that was read, and is allowed on its row, is well typed as a value of the row: there
--- is no type fault, each node reads what it may, and the zoom stands where it may.
+-- The expression of a function that was read, and is allowed on its row, is well typed as a value of the row:
+-- there is no type fault, each node reads what it may, and the zoom is where it may be.
 abbrev pub MigratedFunctionsAreTyped : Type 0
 MigratedFunctionsAreTyped =
     (row : RowData) (t : Tree) (f : Function) → IsTableRow row →

@@ -17,11 +17,11 @@
 //! migrated changes nothing (`migrated_filters_stay`).
 //!
 //! What is promised of functions, for each row of the table of properties and each tree that
-//! `legacy_functions::read` takes as a function that is not outside: its expression is inside, reads without a fault,
-//! and gives under the row's want the function's value, or its fault, again in every world
-//! (`expressions_mean_their_functions`). Where the row allows what the function goes by, it is well typed as a value
-//! of the row, and the zoom stands where it may (`migrated_functions_are_typed`). It mentions of the world what the
-//! function mentions (`migrated_functions_mention_the_same`).
+//! `legacy_functions::read` takes as a function that is not outside: its expression is inside, reads without
+//! a fault, and gives under the row's want the function's value, or its fault, again in every world
+//! (`expressions_mean_their_functions`). Where the row allows what the function goes by, it is well typed as
+//! a value of the row, and the zoom is where it may be (`migrated_functions_are_typed`). It mentions of the
+//! world what the function mentions (`migrated_functions_mention_the_same`).
 //!
 //! What is promised of each text, with tokens or without: its expression is inside, reads without a fault, and gives
 //! under every want the text of its tokens, fitted to the want (`token_expressions_mean_their_texts`). It is well

@@ -1,4 +1,4 @@
--- What the rules on a layer stand on: a rule applies only where what it needs is there and well formed.
+-- What the rules on a layer depend on: a rule applies only where what it needs is there and well formed.
 use Rattle.std.specs.Prelude.{ℕ, List, [], ◌∷◌, codes, Bool, ◌&&◌, Option, Some, None, if◌then◌else◌}
 use Rattle.std.specs.Option.{option_and_then}
 use Rattle.decimal_json.specs.Tree.{Tree, Fields, field_at}
@@ -29,7 +29,7 @@ abbrev pub named_type : Option Fields → Option (List ℕ) → Option (List ℕ
 named_type (Some sources) (Some name) = option_and_then source_type (field_at name sources)
 named_type _ _ = None
 
--- What the members of one layer stand on.
+-- What the members of one layer depend on.
 pub record Ground : Type 0 where
   -- of the layer
   pub type : Option LayerType

@@ -1,4 +1,5 @@
--- What is told of the value of a property or a filter: that it breaks a rule, that it is outside, or which faults its evaluation may have.
+-- What is reported of the value of a property or a filter: that it breaks a rule, that it is outside, or
+-- which faults its evaluation may have.
 use Rattle.std.specs.Prelude.{ℕ, [], Bool, ◌&&◌, ◌||◌, not, Option, Some, None, is_some, is_none, Ok, Err, if◌then◌else◌}
 use Rattle.decimal_json.specs.Tree.{Tree}
 use Rattle.prop_values.specs.Faults.{no_faults}
@@ -28,7 +29,8 @@ use Rattle.style_rules.specs.declared.told.Mark.TheVariants.{Broken, Outside, So
 abbrev pub literal_mark : RowData → Tree → Mark
 literal_mark row t = if is_some (literal_of t row) then Sound no_faults else Broken [] 15
 
--- ---- V16: an expression that is not outside is read and typed without fault. V17: it reads what it may. V18: `zoom` stands at its place.
+-- ---- V16: an expression that is not outside is read and typed without fault. V17: it reads what it may.
+-- V18: `zoom` is at its place.
 
 abbrev pub rule_of : TypeCode → ℕ
 rule_of types.Kind = 16
