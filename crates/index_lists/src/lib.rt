@@ -14,7 +14,7 @@
 //! What is promised:
 //! - Contracts see the lists, as lists of slots by the numbers of the lists. Each call says exactly which lists it leaves;
 //!   a list that it does not name stays.
-//! - The lists are disjoint: no slot stands twice in them (`are_disjoint`).
+//! - The lists are disjoint: no slot occurs twice in them (`are_disjoint`).
 //! - `first` and `next` answer `None` exactly where the list is empty, and where the slot is the last of its list or in none.
 //! - Only `new` and `grow` take memory. Each other call takes constant time: it reads and writes at most four links.
 //!

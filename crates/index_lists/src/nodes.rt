@@ -34,14 +34,12 @@ impl Nodes {
         }
     }
 
-    /// Whether a node is that of a slot.
     pub fn is_slot(&self, node: u32) -> bool
         ensures { IsTrue result ↔ (node < slot_count self.now) }
     {
         (node as usize) < self.next.len()
     }
 
-    /// The node after a node.
     pub fn after(&self, node: u32) -> u32
         requires { IsNode (slot_count self.now) (list_count self.now) node }
         ensures { result ≡ after_of self.now node }
@@ -53,7 +51,6 @@ impl Nodes {
         }
     }
 
-    /// The node before a node.
     pub fn before(&self, node: u32) -> u32
         requires { IsNode (slot_count self.now) (list_count self.now) node }
         ensures { result ≡ before_of self.now node }

@@ -10,13 +10,13 @@ use Rattle.legacy_laws.specs.LegacyFunctionLaw.{IsTableRow}
 use Rattle.property_tables.specs.Rows.{RowData}
 use Rattle.style_migrate.specs.Migrated.{migrated, migrated_value}
 
--- Each value of a row of the table stays sound where it stands: inside of the root, its layers, a layer and an
+-- Each value of a row of the table stays sound at its place: inside of the root, its layers, a layer and an
 -- object of properties.
 abbrev pub MigratedValuesAreSound : Type 0
 MigratedValuesAreSound =
     (row : RowData) (t : Tree) (k : ℕ) → IsTableRow row → k ≤ 4 → IsSound k t → IsSound k (migrated_value row t)
 
--- Each filter stays sound where it stands: inside of the root, its layers and a layer.
+-- Each filter stays sound at its place: inside of the root, its layers and a layer.
 abbrev pub MigratedFiltersAreSound : Type 0
 MigratedFiltersAreSound = (t : Tree) (k : ℕ) → k ≤ 3 → IsSound k t → IsSound k (migrated_filter t)
 
