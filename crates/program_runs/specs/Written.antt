@@ -42,12 +42,13 @@ module _ (files : List ℕ → Option (List ℕ)) (run : Run) where
     pub out : Gains out_old out_new outcome.out
     pub err : Gains err_old err_new outcome.err
 
-  -- what out holds more is a prefix of the out text, where files are told
+  -- what out holds more is a prefix of the out text, where the contents of files are known
   pub record OutFront (old new : Option (List ℕ)) : Type 0 where
     pub front : (o : Outcome) → AreTold files run → HasOutcome files run o → GainsPrefix old new o.out
 
-  -- What err holds more is a prefix of the err text, where files are told; or, where a read failed, of the line that tells so. The first
-  -- three arguments are the count of failed reads before and after, and the name of the last of them.
+  -- What err holds more is a prefix of the err text, where the contents of files are known; or, where a read
+  -- failed, of the line that says so. The first three arguments are the count of failed reads before and
+  -- after, and the name of the last of them.
   pub record ErrFront (reads_old reads_new : ℕ) (failed : Option (List ℕ)) (old new : Option (List ℕ)) : Type 0 where
     pub front :
         ((o : Outcome) → AreTold files run → HasOutcome files run o → GainsPrefix old new o.err)
