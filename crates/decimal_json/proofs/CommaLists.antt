@@ -1,4 +1,5 @@
--- Items with commas between them and a byte that closes them: what the reader of an array and that of an object prove.
+-- Items with commas between them and a byte that closes them: what the reader of an array and that of an
+-- object prove.
 use Rattle.std.specs.Prelude.{◌≡◌, ◌≢◌, ℕ, List, [], ◌∷◌, ◌++◌, true, false, Result, Ok, Err, ◌||◌, ◌==◌, ◌⊎◌}
 use Rattle.std.proofs.Common.{inl, inr, refl, ap, sym, ◌∙◌, subst, arith}
 use Rattle.std.specs.List.{list_all}

@@ -21,8 +21,8 @@
 //! been appended. The text of a tree that is sound, as `specs/Sound.antt` says it, spells that tree. The
 //! items of an array and the members of an object are edited in place, as `specs/Editing.antt` says; when
 //! allocation fails, nothing changes.
-//! The text to believe is in `specs/`: `Tree`, `View`, `Accessors`, `Editing`, `Grammar`, `Parses`, `JsonText`, `Place`. Laws of
-//! it: `OneTree`, `OneFault`, `Sound`, `RoundTrip`.
+//! The text to believe is in `specs/`: `Tree`, `View`, `Accessors`, `Editing`, `Grammar`, `Parses`,
+//! `JsonText`, `Place`. Laws of it: `OneTree`, `OneFault`, `Sound`, `RoundTrip`.
 #![tactic(auto)]
 
 mod accessors;

@@ -18,8 +18,8 @@ use std::alloc::{AllocError, Global};
 /// How many arrays and objects may be open at one place.
 const MAX_OPEN: usize = 64;
 
-/// The tree that the bytes spell; or, where they spell none, the fault's place and kind. The bytes are copied once:
-/// texts without escapes, keys and numbers are ranges of that copy.
+/// The tree that the bytes spell; or, where they spell none, the fault's place and kind. The bytes are copied
+/// once: texts without escapes, keys and numbers are ranges of that copy.
 pub fn parse(alloc: Global, bytes: &[u8]) -> Result<Result<Json, JsonFault>, AllocError>
     ensures { IfOk result (Parses bytes.now) }
 {

@@ -4,8 +4,9 @@
 //! mentions(&expression).feature    // true of ["<",["number",["get","r"]],10]
 //! ```
 //!
-//! Promised: `mentions` gives exactly what `specs/Mentioned.antt` of `expr_syntax` defines: what one of the expression's nodes
-//! reads, whether it is ever evaluated or not. It takes no memory, and its recursion is as deep as the expression.
+//! Promised: `mentions` gives exactly what `specs/Mentioned.antt` of `expr_syntax` defines: what one of the
+//! expression's nodes reads, whether it is ever evaluated or not. It takes no memory, and its recursion is as
+//! deep as the expression.
 #![tactic(auto)]
 
 mod mentioned;

@@ -64,7 +64,8 @@ step_of inputs [] want names world = Err WrongType
 step_of inputs (value ∷ outputs) want names world =
     with_number (value wants.Number names world) (λ x. output_at outputs (count_not_above x inputs) want names world)
 
--- ---- `interpolate`: its curve moves the value between its neighbours. At or below the first input and at or above the last it is one
+-- ---- `interpolate`: its curve moves the value between its neighbours. At or below the first input and at or
+-- above the last it is one
 -- output, and else what is between two; under Shown the outputs are taken as they are.
 
 abbrev pub between_values : ℤ → ℤ → ℤ → Evaluated → Evaluated → Evaluated

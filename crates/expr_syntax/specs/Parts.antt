@@ -122,7 +122,8 @@ abbrev pub match_operator : Option Collected → Result Operator SynCode
 match_operator (Some found) = labels_operator found
 match_operator None = Err code.Part
 
--- ---- `step` and `interpolate`: inputs are numbers and ascend; one past the bound has no value and is not compared
+-- ---- `step` and `interpolate`: inputs are numbers and ascend; one past the bound has no value and is not
+-- compared
 
 abbrev pub steps_up : Option ℤ → Option ℤ → Bool
 steps_up (Some y) (Some z) = int_lt y z

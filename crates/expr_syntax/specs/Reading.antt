@@ -57,7 +57,8 @@ abbrev pub literal_read : Option Tree → List PathPart → Read
 literal_read (Some t) path = data_read (json_data t) path
 literal_read None path = fault path code.Part
 
--- ---- `global-state`: `get` of its name in an object that has the name's value, or is empty where there is none
+-- ---- `global-state`: `get` of its name in an object that has the name's value, or is empty where there is
+-- none
 
 abbrev pub global_object : List ℕ → Option Data → Pairs
 global_object name (Some d) = pair name d no_pairs
@@ -70,7 +71,8 @@ abbrev pub global_read : Option (List ℕ) → Scope → List PathPart → Read
 global_read (Some s) scope path = Ok (global_term s (global_at scope s))
 global_read None scope path = fault path code.Part
 
--- ---- the arguments of a node that is laid out by places; the last element is read inside the names that the node binds
+-- ---- the arguments of a node that is laid out by places; the last element is read inside the names that the
+-- node binds
 
 abbrev pub is_part : Place → Bool
 is_part Part = true

@@ -13,8 +13,8 @@ use std::marker::Model;
 // How many names are compared one by one, and are in no index.
 const FIRST: usize = 8;
 
-/// The names that a `let` binds, in order. Up to eight are looked through one by one; of more an index has the last
-/// place of each.
+/// The names that a `let` binds, in order. Up to eight are looked through one by one; of more an index has
+/// the last place of each.
 #[derive(Drop)]
 pub struct Names {
     names: Vec<Text>,

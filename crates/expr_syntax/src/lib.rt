@@ -22,10 +22,10 @@
 //! evaluated, and what it reads of the world. An operator without parts has besides a line in each of the two
 //! tables of `expression.rt`; one with parts has a layout of its own.
 //!
-//! Each text of the tree is shared and not copied, but for labels, and the names of a `let` of more than eight, of
-//! which an index has a copy. Time is linear in the tree, but for the labels of a `match` and the names of a `let`,
-//! which take n log n, and for each `var`, which asks each `let` around it in logarithmic time. The recursion is as
-//! deep as the tree.
+//! Each text of the tree is shared and not copied, but for labels, and the names of a `let` of more than
+//! eight, of which an index has a copy. Time is linear in the tree, but for the labels of a `match` and the
+//! names of a `let`, which take n log n, and for each `var`, which asks each `let` around it in logarithmic
+//! time. The recursion is as deep as the tree.
 #![tactic(auto)]
 
 mod bound_names;

@@ -46,7 +46,8 @@ literal_kind (color c) = kinds.Color
 literal_kind (list ds) = kinds.List (item_of ds) (count_of (item_count ds))
 literal_kind (map ps) = kinds.Object
 
--- A literal whose kind says no more than that it may fit, and which fits: the text of a color, a text of a set, a list of such texts.
+-- A literal whose kind says no more than that it may fit, and which fits: the text of a color, a text of a
+-- set, a list of such texts.
 abbrev pub surely_fits : Want → Data → Bool
 surely_fits wants.Color (text s) = is_value (fit wants.Color (text s))
 surely_fits (wants.Enum c) (text s) = is_value (fit (wants.Enum c) (text s))

@@ -1,6 +1,7 @@
 use prop_values::{FaultSet, Kind, Want};
 
-/// What is known of a node: the want under which it was checked, and whether what it gives always fits that want.
+/// What is known of a node: the want under which it was checked, and whether what it gives always fits that
+/// want.
 #[derive(Clone, Copy, Debug, PartialEq, Eq)]
 pub struct Placed {
     pub want: Want,

@@ -17,7 +17,8 @@ abbrev pub IsFont : Data → Type 0
 IsFont (list ds) = AreTexts ds
 IsFont _ = ⊥
 
--- Sections as programs have them, each font a list of texts: texts are UTF-8, numbers within the bound and colors in range.
+-- Sections as programs have them, each font a list of texts: texts are UTF-8, numbers within the bound and
+-- colors in range.
 pub record IsSection (s : Section) : Type 0 where
   pub content : IsUtf8 s.content
   pub scale : IfSome s.scale (λ z. unsigned_abs z ≤ bound)

@@ -1,5 +1,5 @@
--- What a value that was read from a text says as sections. The text of the sections is compared with that text, so that more than the
--- texts of sections may say something here.
+-- What a value that was read from a text says as sections. The text of the sections is compared with that
+-- text, so that more than the texts of sections may say something here.
 use Rattle.std.specs.Prelude.{◌≡◌, ℕ, ◌+◌, ℤ, pos, List, [], ◌∷◌, ◌++◌, take, drop, Bool, ◌&&◌, nat_eq, int_le, codes, Option, Some, None, Result, Ok, Err, if◌then◌else◌}
 use Rattle.fixed_num.specs.Decimal.{read_text}
 use Rattle.fixed_num.specs.declared.color.Color.{Color}

@@ -9,9 +9,11 @@
 //! ```
 //!
 //! What is promised, for all values:
-//! - A section is the list of its content and of the map of its options, in the order `font-scale`, `text-font`, `text-color`.
-//! - `read_sections` gives sections exactly where the text is the text of their list and each font is a list of texts, and `None` where
-//!   it is the text of no such list. No text is that of two lists (`texts_are_of_one_list`).
+//! - A section is the list of its content and of the map of its options, in the order `font-scale`,
+//!   `text-font`, `text-color`.
+//! - `read_sections` gives sections exactly where the text is the text of their list and each font is a list
+//!   of texts, and `None` where it is the text of no such list. No text is that of two lists
+//!   (`texts_are_of_one_list`).
 //! - `plain` joins the contents.
 //!
 //! The text to believe is in `specs/`: `Sections`, `ReadText`.

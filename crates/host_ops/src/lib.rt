@@ -1,4 +1,5 @@
-//! Tests on texts that are handed in by whoever runs a style: which images there are, and which scripts can be shown.
+//! Tests on texts that are handed in by whoever runs a style: which images there are, and which scripts can
+//! be shown.
 //!
 //! ```
 //! fn shown(scripts: &dyn HostOp, text: &str) -> bool {

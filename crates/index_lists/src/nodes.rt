@@ -4,8 +4,8 @@ use std::alloc::{AllocError, Global};
 
 /// Rounds of nodes: for each node the next and the previous one.
 ///
-/// A slot is the node of its own number, and list `l` has the node `u32::MAX - l`. So slots and lists can both become more
-/// and no node changes its number. There are at most 2^32 of both together.
+/// A slot is the node of its own number, and list `l` has the node `u32::MAX - l`. So slots and lists can
+/// both become more and no node changes its number. There are at most 2^32 of both together.
 #[derive(Drop)]
 pub struct Nodes {
     next: Vec<u32>,
@@ -103,8 +103,8 @@ impl Nodes {
         self.set_before(node, node);
     }
 
-    /// More slots and more lists, each a round of its own. There can be at most 2^32 of both together; for more, memory
-    /// lacks.
+    /// More slots and more lists, each a round of its own. There can be at most 2^32 of both together; for
+    /// more, memory lacks.
     pub fn grow(&mut self, slots: u32, lists: u32) -> Result<(), AllocError>
         requires slots { slot_count self.old ≤ slots }
         requires lists { list_count self.old ≤ lists }

@@ -43,7 +43,8 @@ fn greatest_not_above(inputs: &[Fixed], value: Fixed) -> usize
     step_place(inputs, value) - 1
 }
 
-/// How many inputs are not above the value, where each is below the next. Takes time by the logarithm of their number.
+/// How many inputs are not above the value, where each is below the next. Takes time by the logarithm of
+/// their number.
 pub fn step_place(inputs: &[Fixed], value: Fixed) -> usize
     requires ascending { IsAscending inputs.now }
     ensures { result ≡ count_not_above value inputs.now }

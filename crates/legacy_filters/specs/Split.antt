@@ -43,8 +43,8 @@ named_is_legacy name ts any_legacy =
     if is_named name (codes "all" ∷ codes "any" ∷ []) then any_legacy else
     false
 
--- A truth value is an expression; what is no array, and an empty array, is legacy; an array whose first element is no text is an
--- expression.
+-- A truth value is an expression; what is no array, and an empty array, is legacy; an array whose first
+-- element is no text is an expression.
 abbrev mutual
   pub is_legacy : Tree → Bool
   is_legacy (boolean b) = false

@@ -1,4 +1,5 @@
-//! Legacy filters of MapLibre styles: which filters are legacy, what they say of a feature, and the expressions that say the same.
+//! Legacy filters of MapLibre styles: which filters are legacy, what they say of a feature, and the
+//! expressions that say the same.
 //!
 //! ```text
 //! let filter = parse(alloc, b"[\"<=\",\"rank\",4]")?;
@@ -19,12 +20,13 @@
 //! and numbers are in it as they were in the filter. It is never a legacy filter
 //! (`expressions_are_not_legacy`).
 //!
-//! `is_legacy` and `passes` take no memory. Each looks at each node once at most, and recurses as deep as the filter, which has at most
-//! 24 groups around each part where it was read. The values of an `in` are indexed when they are read, in n log n of them, so that a
-//! feature is looked up in time logarithmic in their number.
+//! `is_legacy` and `passes` take no memory. Each looks at each node once at most, and recurses as deep as the
+//! filter, which has at most 24 groups around each part where it was read. The values of an `in` are indexed
+//! when they are read, in n log n of them, so that a feature is looked up in time logarithmic in their
+//! number.
 //!
-//! The text to believe is in `specs/`: `Split`, `Filter`, `Form`, `Scalars`, `Meaning`, `ToExpression`, `View`. Laws of it:
-//! `Laws`.
+//! The text to believe is in `specs/`: `Split`, `Filter`, `Form`, `Scalars`, `Meaning`, `ToExpression`,
+//! `View`. Laws of it: `Laws`.
 #![tactic(auto)]
 
 mod expression;

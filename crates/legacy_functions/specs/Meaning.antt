@@ -48,7 +48,8 @@ between_results x x0 x1 (Ok d) (Ok e) = between_of x x0 d x1 e
 between_results x x0 x1 (Ok d) (Err fault) = Err fault
 between_results x x0 x1 (Err fault) later = Err fault
 
--- at or below the first input and at or above the last one result; else the lower result, then the upper, then what is between
+-- at or below the first input and at or above the last one result; else the lower result, then the upper,
+-- then what is between
 abbrev pub ramp_result : List ℤ → List Evaluated → ℤ → StopPlace → Evaluated
 ramp_result inputs results x First = result_at results 0
 ramp_result inputs results x Last = result_at results (length inputs - 1)

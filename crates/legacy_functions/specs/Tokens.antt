@@ -67,7 +67,8 @@ is_token (Token name) = true
 abbrev pub has_tokens : List ℕ → Bool
 has_tokens s = list_any is_token (pieces s)
 
--- ---- what a token text is on a feature: each token is replaced by the text of that property, which is empty where it is missing
+-- ---- what a token text is on a feature: each token is replaced by the text of that property, which is empty
+-- where it is missing
 
 abbrev pub property_text : List ℕ → Feature → List ℕ
 property_text name feature = unwrap_or (option_map shown_text (at_key name (pairs_of feature.properties))) []

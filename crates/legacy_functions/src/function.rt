@@ -54,7 +54,8 @@ pub(crate) struct Category {
     pub(crate) output: Output,
 }
 
-// How a function goes over numbers from stop to stop. It does not matter where there are no stops over numbers.
+// How a function goes over numbers from stop to stop. It does not matter where there are no stops over
+// numbers.
 #[derive(Drop)]
 pub(crate) enum Way {
     Even,

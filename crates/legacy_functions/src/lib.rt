@@ -1,4 +1,5 @@
-//! Legacy functions and token texts of MapLibre styles: what they give on a feature, and the expressions that give the same.
+//! Legacy functions and token texts of MapLibre styles: what they give on a feature, and the expressions that
+//! give the same.
 //!
 //! ```text
 //! let json = parse(alloc, b"{\"property\":\"rank\",\"stops\":[[0,1],[10,11]]}")?;
@@ -20,10 +21,11 @@
 //! gives the expression of `specs/ToExpression.antt`; texts and numbers are in it as they were in the
 //! function. `has_tokens`, `token_text` and `token_expr` go by the pieces of `specs/Tokens.antt`.
 //!
-//! A function is read in n log n of its stops. Its stops are found by halving, and its categories by an ordered index, so that a feature
-//! takes time logarithmic in their number. No list of stops is copied.
+//! A function is read in n log n of its stops. Its stops are found by halving, and its categories by an
+//! ordered index, so that a feature takes time logarithmic in their number. No list of stops is copied.
 //!
-//! The text to believe is in `specs/`: `Tokens`, `Function`, `Form`, `Meaning`, `ToExpression`, `Parts`, `View`.
+//! The text to believe is in `specs/`: `Tokens`, `Function`, `Form`, `Meaning`, `ToExpression`, `Parts`,
+//! `View`.
 #![tactic(auto)]
 
 mod categories;

@@ -38,7 +38,8 @@ fn any_token(bytes: &[u8]) -> bool
     false
 }
 
-/// The text on a feature: each token is replaced by the text of that property, which is empty where it is missing.
+/// The text on a feature: each token is replaced by the text of that property, which is empty where it is
+/// missing.
 pub fn token_text(alloc: Global, text: &str, feature: &Feature) -> Result<Text, AllocError>
     ensures { IfOk result (λ made. made ≡ token_text text.now feature.now) }
 {

@@ -1,4 +1,5 @@
--- How the expressions of legacy functions and token texts read: a lemma for each form of node, then by the form of the function.
+-- How the expressions of legacy functions and token texts read: a lemma for each form of node, then by the
+-- form of the function.
 use Rattle.std.proofs.Common.{◌≡◌, ◌∙◌, ℕ, suc, ◌+◌, ◌-◌, ◌<◌, List, [], ◌∷◌, length, refl, ap, arith, true, false}
 use Rattle.std.proofs.Math.Dec.{leb-zero}
 use Rattle.std.proofs.lemmas.Bool.{ne_eqb}

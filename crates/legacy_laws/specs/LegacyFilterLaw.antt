@@ -24,16 +24,16 @@ use Rattle.legacy_filters.specs.Split.{is_legacy}
 use Rattle.legacy_filters.specs.Migrated.{migrated_filter}
 use Rattle.legacy_filters.specs.ToExpression.{expression}
 
--- Whatever the zoom, the state and the two tests are, an expression gives of every feature under Boolean whether it passes
--- a filter.
+-- Whatever the zoom, the state and the two tests are, an expression gives of every feature under Boolean
+-- whether it passes a filter.
 abbrev pub SaysTheSame : Term → Filter → Type 0
 SaysTheSame e f =
     (zoom : ℤ) (feature : Feature) (state : List (List ℕ × Data)) (images scripts : List ℕ → Bool) →
     mean e wants.Boolean [] (feature_world zoom feature state images scripts)
     ≡ Ok (boolean (passes f feature))
 
--- The expression of a filter that was read is inside and reads without a fault, whatever the values of the global state
--- are, and says the same as the filter. So it never ends with a fault.
+-- The expression of a filter that was read is inside and reads without a fault, whatever the values of the
+-- global state are, and says the same as the filter. So it never ends with a fault.
 abbrev pub ExpressionsMeanTheirFilters : Type 0
 ExpressionsMeanTheirFilters =
     (t : Tree) (f : Filter) → legacy.reading t ≡ Ok f →

@@ -33,8 +33,8 @@ IsTableRow row =
     (t : LayerType) × (place : Place) × (name : List ℕ) × (number : ℕ)
     × (row_of t place name ≡ Some (number, row))
 
--- Whatever the zoom, the state and the two tests are, an expression gives of every feature under a want what is
--- said of the zoom and the feature: a value, or a fault.
+-- Whatever the zoom, the state and the two tests are, an expression gives of every feature under a want what
+-- is said of the zoom and the feature: a value, or a fault.
 abbrev pub GivesAlways : Term → Want → (ℤ → Feature → Evaluated) → Type 0
 GivesAlways e want said =
     (zoom : ℤ) (feature : Feature) (state : List (List ℕ × Data)) (images scripts : List ℕ → Bool) →
@@ -112,7 +112,8 @@ abbrev pub output_asks_feature : Output → Bool
 output_asks_feature (literal t d) = false
 output_asks_feature (tokens s) = has_tokens s
 
--- a function without a property has one rule over numbers, which gives what its outputs say, never the default
+-- a function without a property has one rule over numbers, which gives what its outputs say, never the
+-- default
 abbrev pub outputs_ask_feature : Body → Bool
 outputs_ask_feature (plain (numeric way stops)) =
     list_any (λ (s : Spelled × Output). output_asks_feature s.1) stops

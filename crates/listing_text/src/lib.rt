@@ -14,7 +14,8 @@
 //! or `null`, then `!` and the name of the fault; and `?` where it is outside of what is evaluated. Whoever
 //! writes a whole layout goes by `listing`.
 //!
-//! Time is linear in the line. No memory is taken except that of `out`, and for each list or map a copy of its text.
+//! Time is linear in the line. No memory is taken except that of `out`, and for each list or map a copy of
+//! its text.
 //!
 //! The text to believe is in `specs/`: `Layout`, `Listing`.
 #![tactic(auto)]

@@ -20,12 +20,14 @@ MigratedValuesAreSound =
 abbrev pub MigratedFiltersAreSound : Type 0
 MigratedFiltersAreSound = (t : Tree) (k : ℕ) → k ≤ 3 → IsSound k t → IsSound k (migrated_filter t)
 
--- Each document whose text is JSON under every rule stays so when it is migrated: at most 64 arrays and objects
--- are open at one place, each number is one of at most 64 bytes, texts are UTF-8, and no object has a key twice.
+-- Each document whose text is JSON under every rule stays so when it is migrated: at most 64 arrays and
+-- objects are open at one place, each number is one of at most 64 bytes, texts are UTF-8, and no object has a
+-- key twice.
 abbrev pub MigratedDocumentsAreSound : Type 0
 MigratedDocumentsAreSound = (document : Tree) → IsSound 0 document → IsSound 0 (migrated document)
 
--- What is written of the migrated document is a text of JSON under every rule, and spells the migrated document.
+-- What is written of the migrated document is a text of JSON under every rule, and spells the migrated
+-- document.
 abbrev pub MigratedTextsAreSpelled : Type 0
 MigratedTextsAreSpelled =
     (r : Rules) (document : Tree) → IsSound 0 document →

@@ -18,7 +18,8 @@ use fixed_num::Fixed;
 use prop_values::{EvalFault, Value, Values, copy, equals};
 use std::alloc::{AllocError, Global};
 
-/// `at`, of an index and a list: the item. `IndexNotWhole` where the index has a fraction, else `IndexOutside` where no item has it.
+/// `at`, of an index and a list: the item. `IndexNotWhole` where the index has a fraction, else
+/// `IndexOutside` where no item has it.
 pub fn item(values: &[Value]) -> Result<Value, Halt>
     ensures { Gives result (at_of (values_view values.now)) }
 {
@@ -74,8 +75,8 @@ pub fn contains(values: &[Value]) -> Result<Value, EvalFault>
     Ok(Value::Bool(place.is_some()))
 }
 
-/// `index-of`, of a value, a text or list, and an index to begin at or none: the first place, or -1 where there is none. An index
-/// with a fraction is `IndexNotWhole`, and one below 0 `IndexOutside`.
+/// `index-of`, of a value, a text or list, and an index to begin at or none: the first place, or -1 where
+/// there is none. An index with a fraction is `IndexNotWhole`, and one below 0 `IndexOutside`.
 pub fn index_of(values: &[Value]) -> Result<Value, EvalFault>
     ensures { evaluated_of result ≡ index_of_of (values_view values.now) }
 {

@@ -48,7 +48,8 @@ end_at (Some bytes) at_most = if nat_le (length bytes) at_most then Done else To
 abbrev pub read_end : FilesState → List ℕ → ℕ → ReadAnswer
 read_end s name at_most = if list_any (λ number. nat_eq number s.reads) s.fails then Failed else end_at (bytes_of s.files name) at_most
 
--- the files after a read of this name that ended so. A file that is done was taken whole, and one that is too long not at all
+-- the files after a read of this name that ended so. A file that is done was taken whole, and one that is too
+-- long not at all
 abbrev pub after_read : FilesState → List ℕ → ReadAnswer → FilesState
 after_read s name Done = record s { reads = raised s.reads; taken = raised_by (length (unwrap_or (bytes_of s.files name) [])) s.taken }
 after_read s name TooLong = record s { reads = raised s.reads }

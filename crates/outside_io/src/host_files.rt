@@ -12,8 +12,8 @@ use std::{fs, rt};
 
 /// The real files of a runtime, by their paths. Their bytes are unknown to contracts.
 ///
-/// An error of the runtime, at the opening or in the middle, is a failed read; an interruption counts as an error. A turn
-/// that gives nothing is the end of the file.
+/// An error of the runtime, at the opening or in the middle, is a failed read; an interruption counts as an
+/// error. A turn that gives nothing is the end of the file.
 #[derive(Drop)]
 pub struct HostFiles<'a, R: rt::Files> {
     rt: &'a R,
@@ -95,7 +95,8 @@ impl<R: rt::Files> HostFiles<'_, R> {
 /// How many bytes a turn of a read asks for.
 const TURN: usize = 65_536;
 
-/// Reads what a reader has left into an empty vector, if it is at most `at_most` bytes, and counts the bytes that it gave.
+/// Reads what a reader has left into an empty vector, if it is at most `at_most` bytes, and counts the bytes
+/// that it gave.
 #[tactic(auto, using(crate::proofs::KnownBytes::consumes_none, crate::proofs::KnownBytes::consumes_turn, crate::proofs::KnownBytes::content_at_end, crate::proofs::KnownBytes::longer_than))]
 fn read_rest<F: Read>(
     file: &mut F,

@@ -31,8 +31,8 @@ pub trait Files {
     /// The name of the last read that failed.
     ghost failed: { Self → Option (List ℕ) };
 
-    /// Reads the whole file of this name into an empty vector, if it has at most `at_most` bytes. The vector stays empty
-    /// after every answer but `Done`.
+    /// Reads the whole file of this name into an empty vector, if it has at most `at_most` bytes. The vector
+    /// stays empty after every answer but `Done`.
     fn read(&mut self, alloc: Global, name: &str, at_most: usize, into: &mut Vec<u8>) -> ReadAnswer
         requires { into.old.items ≡ [] }
 

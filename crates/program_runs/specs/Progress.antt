@@ -12,7 +12,8 @@ use Rattle.program_runs.specs.Runs.{Run, HasOutcome, IsReached}
 abbrev pub outcome_of : Answer → Outcome
 outcome_of a = record { out = a.out.items; err = a.err.items; ending = a.ending }
 
--- the run comes to the rest of it: the outcomes of the rest are outcomes of the run, and what the rest reads the run reads
+-- the run comes to the rest of it: the outcomes of the rest are outcomes of the run, and what the rest reads
+-- the run reads
 pub record LeadsTo (files : List ℕ → Option (List ℕ)) (run rest : Run) : Type 0 where
   pub outcomes : (o : Outcome) → HasOutcome files rest o → HasOutcome files run o
   pub reads : (name : List ℕ) → IsReached files rest name → IsReached files run name

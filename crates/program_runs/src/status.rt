@@ -6,8 +6,8 @@ ghost use Rattle.program_runs.specs.Ending.{status_of, code_of};
 pub enum Status {
     /// Everything was written, and nothing was found to report.
     Fine,
-    /// Everything was written, and something was found to report: `value` ended in an evaluation error, a document has findings, or a
-    /// line of a script was refused. A fault in a listing is none of these.
+    /// Everything was written, and something was found to report: `value` ended in an evaluation error, a
+    /// document has findings, or a line of a script was refused. A fault in a listing is none of these.
     Found,
     /// An unknown command or wrong arguments.
     Usage,

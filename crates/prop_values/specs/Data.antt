@@ -43,7 +43,8 @@ abbrev pub entries_of : Pairs → List (List ℕ × Data)
 entries_of no_pairs = []
 entries_of (pair k d ps) = (k, d) ∷ entries_of ps
 
--- The number of nodes: a list counts one more than its parts, and a map two, its entries and what shares them.
+-- The number of nodes: a list counts one more than its parts, and a map two, its entries and what shares
+-- them.
 abbrev mutual
   pub nodes : Data → ℕ
   nodes null = 1

@@ -10,15 +10,16 @@
 //! to_text(alloc, &copy(&map)?)?.as_str();          // {"kind":true}
 //! ```
 //!
-//! What is promised, for all values: equality (maps in any order), order, kind text, truth, text and listed text
-//! are those of the definitions in `specs/`; a JSON tree gives the value that it says, or the fault of its first
-//! number past the bound. A map's keys differ, and its `get` takes at most time by the logarithm of its entries, so
-//! `equals` takes n log n and no memory. Two maps are equal exactly where at each key both have nothing or equal
-//! values, and equality is reflexive and symmetric: laws on `maps_are_equal_by_keys` and the two beside it.
+//! What is promised, for all values: equality (maps in any order), order, kind text, truth, text and listed
+//! text are those of the definitions in `specs/`; a JSON tree gives the value that it says, or the fault of
+//! its first number past the bound. A map's keys differ, and its `get` takes at most time by the logarithm of
+//! its entries, so `equals` takes n log n and no memory. Two maps are equal exactly where at each key both
+//! have nothing or equal values, and equality is reflexive and symmetric: laws on `maps_are_equal_by_keys`
+//! and the two beside it.
 //!
-//! A copy is the same value, and takes constant time: texts, lists and maps are counted and not copied. A list
-//! that is shared is taken apart when an item is pushed, and a map when its entries are taken out to be changed.
-//! `Entries` by themselves are never shared, so that `remove` needs no memory.
+//! A copy is the same value, and takes constant time: texts, lists and maps are counted and not copied. A
+//! list that is shared is taken apart when an item is pushed, and a map when its entries are taken out to be
+//! changed. `Entries` by themselves are never shared, so that `remove` needs no memory.
 //!
 //! Maps change at their keys: `set` and `merge` replace a value in its place or add an entry at the end, and
 //! when allocation fails the map is as before. `merge` takes n log n of the members; `remove` needs no

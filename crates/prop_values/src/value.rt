@@ -38,7 +38,8 @@ pub struct Entry {
     pub value: Value,
 }
 
-/// The items of a list in order, which clauses see as a list of data. Copies of a list have its items in common.
+/// The items of a list in order, which clauses see as a list of data. Copies of a list have its items in
+/// common.
 #[derive(Drop)]
 #[cycle(value)]
 pub struct Values {
@@ -332,7 +333,8 @@ impl Entries {
     }
 
     /// Removes the entry of a key, in time linear in the entries. Where no entry has the key, nothing
-    /// changes. It needs no memory: when allocation fails, keys are looked for one by one until the next entry is added.
+    /// changes. It needs no memory: when allocation fails, keys are looked for one by one until the next
+    /// entry is added.
     pub fn remove(&mut self, key: &str)
         ensures left { self.new ≡ without_key key.now self.old }
         ensures at { (q : List ℕ) → at_key q (pairs_of self.new) ≡ (if same_text key.now q then None else at_key q (pairs_of self.old)) }

@@ -10,7 +10,8 @@ use crate::rows::*;
 use crate::search::place_named;
 use fixed_num::Fixed;
 
-/// The row of a name in a place of a layer type, or `None` exactly where the table has none. Found by halving.
+/// The row of a name in a place of a layer type, or `None` exactly where the table has none. Found by
+/// halving.
 pub fn row(layer_type: LayerType, place: Place, name: &str) -> Option<Row>
     ensures { option_map numbered_seen result ≡ row_of layer_type place name.now }
 {

@@ -40,7 +40,8 @@ pub struct Row {
     pub zoom: bool,
     pub feature: bool,
     pub state: bool,
-    /// Whether a function goes linearly between its stops where its type is not given, and may be exponential.
+    /// Whether a function goes linearly between its stops where its type is not given, and may be
+    /// exponential.
     pub ramps: bool,
     /// Whether a text with tokens is a token text.
     pub takes_tokens: bool,

@@ -53,8 +53,8 @@ wire_type_of code =
     else if nat_eq code 5 then Ok wire.Bits32
     else Err kind.WireType
 
--- The field number and the wire type of a tag, which are all its bits but the lowest three, and those. A tag has 32
--- bits, and no field has the number 0.
+-- The field number and the wire type of a tag, which are all its bits but the lowest three, and those. A tag
+-- has 32 bits, and no field has the number 0.
 abbrev pub tag_of : ℕ → Result (ℕ × WireType) WireKind
 tag_of tag =
     if nat_le (2 ^ 32) tag then Err kind.Varint
@@ -86,8 +86,8 @@ AreFields at b [] fault =
     ⊎ ((kind : WireKind) × (0 < length b) × (field_at at b ≡ Err kind) × (fault ≡ Some (record { kind = kind; at = at })))
 AreFields at b (field ∷ fields) fault = (rest : List ℕ) × (field_at at b ≡ Ok (field, rest)) × AreFields field.end rest fields fault
 
--- Reading these fields in order leads from bytes at an offset to the bytes that are left, and their offset: what a
--- reader has read so far.
+-- Reading these fields in order leads from bytes at an offset to the bytes that are left, and their offset:
+-- what a reader has read so far.
 abbrev pub LeadsTo : ℕ → List ℕ → List WireField → ℕ → List ℕ → Type 0
 LeadsTo at b [] left_at left = (left_at ≡ at) × (left ≡ b)
 LeadsTo at b (field ∷ fields) left_at left = (rest : List ℕ) × (field_at at b ≡ Ok (field, rest)) × LeadsTo field.end rest fields left_at left

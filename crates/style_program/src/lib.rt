@@ -11,7 +11,9 @@
 //! memory suffices, the run has its outcome; in every run what is written is a prefix of it, or of the line
 //! that says which file could not be read; and each status has its cause.
 //!
-//! The text to believe is in `specs/`: `Words`, `Refusals`, `ValueRun`, `StyleFile`, `ValidateRun`, `MigrateRun`, `ShownRun`, `EvalRun`, `ReplayRun`, `Commands`, `Promises`, `ListedFaults`. Law of it: `OneOutcome`.
+//! The text to believe is in `specs/`: `Words`, `Refusals`, `ValueRun`, `StyleFile`, `ValidateRun`,
+//! `MigrateRun`, `ShownRun`, `EvalRun`, `ReplayRun`, `Commands`, `Promises`, `ListedFaults`. Law of it:
+//! `OneOutcome`.
 #![tactic(auto)]
 
 mod eval_command;

@@ -16,8 +16,8 @@ use std::alloc::Global;
 use std::sync::ledger::Ledger;
 use typing_laws::faults_are_listed;
 
-/// Does what the words after the program's name ask for: reads from `files`, writes to `out` and `err`, and answers how
-/// the run ended.
+/// Does what the words after the program's name ask for: reads from `files`, writes to `out` and `err`, and
+/// answers how the run ended.
 ///
 /// `images` and `scripts` are the tests that expressions ask. Nothing is written before all reading is done.
 /// A failed allocation is the only free answer.

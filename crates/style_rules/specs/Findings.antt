@@ -46,7 +46,8 @@ abbrev mutual
 abbrev pub told : Tree → List Told
 told document = walk document (mark_at document) []
 
--- ---- The findings: each place that breaks a rule, with the least rule that it breaks, in the order of the text, and none below another.
+-- ---- The findings: each place that breaks a rule, with the least rule that it breaks, in the order of the
+-- text, and none below another.
 
 abbrev pub findings_in : List Told → List (List PathPart × ℕ)
 findings_in [] = []

@@ -15,7 +15,8 @@ source_types = codes "vector" ∷ codes "raster" ∷ codes "raster-dem" ∷ code
 abbrev pub is_source : Tree → Bool
 is_source t = is_object t && is_among source_types (text_at (codes "type") t)
 
--- the sources among which a layer has to name one: it is none of background, its type is well formed, and `sources` is an object
+-- the sources among which a layer has to name one: it is none of background, its type is well formed, and
+-- `sources` is an object
 abbrev pub sources_for : Option Fields → Option LayerType → Option Fields
 sources_for sources (Some type) = if is_background type then None else sources
 sources_for sources None = None

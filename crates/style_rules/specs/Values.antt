@@ -52,7 +52,8 @@ read_mark want row (Err fault) = Broken fault.path 16
 abbrev pub expression_mark : Want → Option RowData → Tree → Mark
 expression_mark want row t = read_mark want row (reading t)
 
--- ---- V19: a legacy function has its form. V17: a zoom stop needs a row that reads the zoom, and `property` one that reads feature data.
+-- ---- V19: a legacy function has its form. V17: a zoom stop needs a row that reads the zoom, and `property`
+-- one that reads feature data.
 
 abbrev pub function_reads : RowData → Function → Bool
 function_reads row f = (row.reads.zoom || not (has_zooms f)) && (row.reads.feature || is_none f.property)
@@ -81,7 +82,8 @@ form_mark forms.Literal row t = literal_mark row t
 abbrev pub value_mark : RowData → Tree → Mark
 value_mark row t = form_mark (form_of row t) row t
 
--- ---- filters. V20: one that is legacy has its form. V16, V17: one that is an expression is read and typed as a truth value, and reads no
+-- ---- filters. V20: one that is legacy has its form. V16, V17: one that is an expression is read and typed
+-- as a truth value, and reads no
 -- feature state.
 
 abbrev pub legacy_mark : filters.Read → Mark

@@ -65,8 +65,8 @@ fn is_empty(faults: FaultSet) -> bool
         || faults.holds(EvalFault::NotInEnum))
 }
 
-/// The findings of a document: each place that breaks a rule, with the least rule that it breaks, in the order of the text and none
-/// below another.
+/// The findings of a document: each place that breaks a rule, with the least rule that it breaks, in the
+/// order of the text and none below another.
 pub fn findings(alloc: Global, document: &Json) -> Result<Findings, AllocError>
     ensures { IfOk result (λ found. map finding_seen found ≡ findings (tree_of document.now)) }
 {

@@ -1,4 +1,5 @@
--- Positions in a text are counted in Unicode scalar values. Texts are lists of those values here: `chars` of the bytes.
+-- Positions in a text are counted in Unicode scalar values. Texts are lists of those values here: `chars` of
+-- the bytes.
 use Rattle.std.specs.Prelude.{◌≡◌, ℕ, suc, ◌+◌, ◌<◌, ◌≤◌, List, [], ◌∷◌, ◌++◌, length, drop, Option, Some, None, if◌then◌else◌, nat_eq, nat_le}
 use Rattle.std.specs.Option.{option_map}
 use Rattle.std.specs.List.{starts_with}

@@ -6,8 +6,8 @@
 //! index_of("aXbX", "X", 2)         // Some(3)
 //! ```
 //!
-//! What is promised: the answers are those of the list of scalar values. No call takes memory; each takes time linear in its
-//! texts, since a position is found by one walk from the front.
+//! What is promised: the answers are those of the list of scalar values. No call takes memory; each takes
+//! time linear in its texts, since a position is found by one walk from the front.
 //!
 //! The text to believe is in `specs/`: `Position`.
 #![tactic(auto)]

@@ -45,8 +45,8 @@ numbers_within most [] = Ok []
 numbers_within zero (c ∷ b) = Ok []
 numbers_within (suc most) (c ∷ b) = number_before (varint_at (c ∷ b)) (numbers_within most)
 
--- The varints of these bytes one after the other, as in a packed field (Protocol Buffers, "Encoding", Repeated Fields).
--- A varint has a byte at least.
+-- The varints of these bytes one after the other, as in a packed field (Protocol Buffers, "Encoding",
+-- Repeated Fields). A varint has a byte at least.
 unfoldable pub packed : List ℕ → Result (List ℕ) WireKind
 packed b = numbers_within (length b) b
 

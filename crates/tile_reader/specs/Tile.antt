@@ -21,7 +21,7 @@ is_compressed [] = false
 is_compressed (c ∷ []) = false
 is_compressed (c ∷ d ∷ b) = nat_eq c 0x1F && nat_eq d 0x8B
 
--- The layers of the tile that these bytes are, or their first fault. Compressed bytes are looked at no further. The
--- empty bytes are a tile without layers.
+-- The layers of the tile that these bytes are, or their first fault. Compressed bytes are looked at no
+-- further. The empty bytes are a tile without layers.
 unfoldable pub tile_of : List ℕ → Result (List TileLayer) TileFault
 tile_of b = if is_compressed b then refused Compressed 0 else read_fields tile_step [] (message 0 b)

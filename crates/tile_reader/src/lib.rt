@@ -1,5 +1,5 @@
-//! Reads Mapbox vector tiles: layers, features, ids, types and properties. Source: Vector Tile 2.1, for layers
-//! of versions 1 and 2.
+//! Reads Mapbox vector tiles: layers, features, ids, types and properties. Source: Vector Tile 2.1, for
+//! layers of versions 1 and 2.
 //!
 //! ```text
 //! match read_tile(alloc, bytes)? {

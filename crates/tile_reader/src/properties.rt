@@ -24,8 +24,8 @@ struct Choice {
     places: Vec<usize>,
 }
 
-/// The features of a layer with these keys and values, whose tags are these. Each text is copied once, and all features
-/// share it.
+/// The features of a layer with these keys and values, whose tags are these. Each text is copied once, and
+/// all features share it.
 pub(crate) fn features(
     alloc: Global,
     keys: &[&str],
@@ -98,8 +98,8 @@ fn features_with(
     Ok(features)
 }
 
-// For each key the index of the first key with its text, so that later steps compare numbers. All texts are compared
-// here once for each layer.
+// For each key the index of the first key with its text, so that later steps compare numbers. All texts are
+// compared here once for each layer.
 fn first_places(alloc: Global, keys: &[&str]) -> Result<Vec<usize>, AllocError>
     ensures { IfOk result (λ firsts. AreFirsts firsts.items (texts_seen keys.now)) }
 {
@@ -163,8 +163,9 @@ fn with_properties(
     })
 }
 
-// Chooses the indices of the key and the value of each property, in order. The answer is whether each tag has its key or
-// value. A repeated key keeps its first place and takes its last value, so that only what stays is taken later.
+// Chooses the indices of the key and the value of each property, in order. The answer is whether each tag has
+// its key or value. A repeated key keeps its first place and takes its last value, so that only what stays is
+// taken later.
 fn choose(
     keys: &[Text],
     values: &[Value],

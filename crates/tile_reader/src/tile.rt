@@ -153,8 +153,8 @@ impl Tile {
         self.layers.as_slice()
     }
 
-    /// The layer of a name, or `None` exactly where no layer has it. Takes constant time, or time logarithmic in the
-    /// layers where their names were chosen for it.
+    /// The layer of a name, or `None` exactly where no layer has it. Takes constant time, or time logarithmic
+    /// in the layers where their names were chosen for it.
     pub fn named(&self, name: &str) -> Option<&TileLayer>
         ensures { option_map (λ layer. layer.now) result ≡ layer_named name.now self.now }
     {
