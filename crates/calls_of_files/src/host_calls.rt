@@ -39,7 +39,7 @@ fn scripts_cannot_change(rt: HostRuntime) -> Result<(), Fail> {
     Ok(())
 }
 
-// What was told last of a name holds, and of no other name.
+// The last `tell` of a name holds, and says nothing of other names.
 const TOLD: [(&'static str, bool); 6] = [
     ("pin", true),
     ("", true),

@@ -1,7 +1,8 @@
 //! Tests of public calls that no command of the program reaches: files, streams, steps, and tests on texts.
 //!
-//! A row that a command reaches stands in `worked_rows`, where it costs no proof. Here each call that can lack memory is made
-//! once with ample memory, and its answer is compared. Rows are constants, since each one in a function's body costs proof.
+//! A row that a command reaches is in `worked_rows`, where it costs no proof. Here each call that can fail to
+//! allocate is made once with ample memory, and its answer is compared. Rows are constants, since each one in
+//! a function's body costs proof.
 #![tactic(auto)]
 
 #[cfg(test)]

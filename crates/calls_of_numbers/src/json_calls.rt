@@ -52,7 +52,7 @@ fn a_fault_has_its_place(rt: HostRuntime) -> Result<(), Fail> {
     Ok(())
 }
 
-// RFC 8259 section 7.
+// Source: RFC 8259 §7.
 const TEXTS: [(&'static str, &'static str); 5] = [
     ("", "\"\""),
     ("a\"b\\/", "\"a\\\"b\\\\/\""),

@@ -1,7 +1,8 @@
-//! Tests of public calls that no command of the program reaches: texts, JSON, numbers and lists of slots. One module for each crate that has some.
+//! Tests of public calls that no command of the program reaches: texts, JSON, numbers and lists of slots. One
+//! module for each crate that has some.
 //!
-//! A row that a command reaches stands in `worked_rows`, where it costs no proof. Here each call that can lack memory is made
-//! once with ample memory, and its answer is compared.
+//! A row that a command reaches is in `worked_rows`, where it costs no proof. Here each call that can fail to
+//! allocate is made once with ample memory, and its answer is compared.
 #![tactic(auto)]
 
 #[cfg(test)]

@@ -65,7 +65,7 @@ fn trees_are_built(rt: HostRuntime) -> Result<(), Fail> {
     Ok(())
 }
 
-// RFC 6901 sections 3 and 5.
+// Source: RFC 6901 §3 and §5.
 #[test]
 fn paths_are_written(rt: HostRuntime) -> Result<(), Fail> {
     let mut path = Path::new(rt.alloc());

@@ -49,7 +49,7 @@ const INDEXES: [(&'static str, &'static str, usize, Option<usize>); 16] = [
     // Overlapping places.
     ("aaaa", "aa", 1, Some(1)),
     ("aabaabaaa", "aabaaa", 0, Some(3)),
-    // The empty part stands everywhere up to the length.
+    // The empty part is everywhere up to the length.
     ("öt", "", 0, Some(0)),
     ("öt", "", 2, Some(2)),
     ("öt", "", 3, None),

@@ -1,4 +1,5 @@
-//! Tests of public calls of sections of formatted texts. Rows are constants, since each one in a function's body costs proof.
+//! Tests of public calls of sections of formatted texts. Rows are constants, since each one in a function's
+//! body costs proof.
 #![tactic(auto)]
 
 #[cfg(test)]

@@ -148,7 +148,6 @@ fn has_fault(alloc: Global, command: &Command, wanted: EditFault) -> Result<bool
     Ok(fault == Some(wanted) && is_style(alloc, &style, LAYERS)?)
 }
 
-// Whether the line is refused for this fault.
 fn is_refused(alloc: Global, line: &str, wanted: EditFault) -> Result<bool, AllocError> {
     match read_line(alloc, line.as_bytes())? {
         Ok(command) => has_fault(alloc, &command, wanted),

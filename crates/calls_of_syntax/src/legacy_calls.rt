@@ -116,7 +116,7 @@ const OF_FILTERS: [(&'static str, bool); 16] = [
     (r#"["all","a"]"#, true),
     (r#"["all",["any",["all",["!has","a"]]]]"#, true),
     (r#"["all",["any",["all",["has","a"]]]]"#, false),
-    // What stands in another operator is not looked at.
+    // What is in another operator is not looked at.
     (r#"["all",["!",["!has","a"]]]"#, false),
     (r#"["none"]"#, true),
     (r#"["none",["has","a"]]"#, true),

@@ -155,7 +155,7 @@ const NUMBERS: &'static str = r#"["match",0,1,"a",[3,-2],"b","c"]"#;
 
 const TEXTS: &'static str = r#"["match","",["x",""],"a","é","b","c"]"#;
 
-// What stands for the output where no label is equal.
+// The place of the output where no label is equal.
 const LAST: usize = 7;
 
 // A `match`, a value, and the number of the output whose label is equal to it.

@@ -24,7 +24,7 @@ const LEFT: [(&'static str, bool); 6] = [
     ("k19", true),
 ];
 
-// Entries move into the first sixteen, and those behind them are found where they stand then.
+// Entries move into the first sixteen, and those after them are found at their new places.
 #[test]
 fn entries_removed_from_many(rt: HostRuntime) -> Result<(), Fail> {
     let mut entries = twenty(rt.alloc())?;

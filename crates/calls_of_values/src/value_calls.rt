@@ -45,7 +45,7 @@ fn values_compared(rt: HostRuntime) -> Result<(), Fail> {
     Ok(())
 }
 
-// Texts stand in the order of their scalar values: U+FFFD before U+1F600.
+// Texts are in the order of their scalar values: U+FFFD before U+1F600.
 const ORDERED: [(&'static str, &'static str, Option<Ordering>); 6] = [
     ("-1", "0.5", Some(Ordering::Less)),
     ("2", "2.0", Some(Ordering::Equal)),

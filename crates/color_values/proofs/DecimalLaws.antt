@@ -20,7 +20,7 @@ saturated_zero n = elim (cases_eq n 0) [
   | inr some ↦ ne_eqb (saturated n) 0 (λ e. some (omega arith)) ∙ sym (ne_eqb n 0 some)
 ]
 
--- a number against the bound, by its units W and what is behind the point, F / t
+-- a number against the bound, by its units W and what is after the point, F / t
 pub below_bound : (W F t : ℕ) → F < t → W < most_units → nat_le (W * t + F) (most_units * t) ≡ true
 below_bound W F t h k = let more : t * (W + 1) ≤ t * most_units = mul-le-mul_left t (omega arith) in grind arith
 

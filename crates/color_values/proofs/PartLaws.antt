@@ -13,7 +13,7 @@ eq_more a b = elim (cases_eq a b) [
   | inr other ↦ ne_eqb (1 + a) (suc b) (λ h. other (omega arith)) ∙ sym (ne_eqb a b other)
 ]
 
--- all where no comma stands, else what stands before the first one and the pieces behind it
+-- all where there is no comma, else what is before the first one and the pieces after it
 pub cut_is : (bs : List ℕ) → cut bs ≡ (if nat_eq (before_comma bs) (length bs) then bs ∷ [] else take (before_comma bs) bs ∷ cut (drop 1 (drop (before_comma bs) bs)))
 unfolding cut
 cut_is [] = refl

@@ -1,4 +1,4 @@
--- The names of colors. Source: CSS Color Module Level 4, section 6.1, "Named Colors".
+-- The names of colors. Source: CSS Color Module Level 4 §6.1, "Named Colors".
 use Rattle.std.specs.Prelude.{ℕ, List, [], ◌∷◌, Option, Some, None, if◌then◌else◌, codes}
 use Rattle.std.specs.Str.{str_eq_ignore_ascii_case}
 

@@ -9,11 +9,11 @@ pub record Number : Type 0 where
   pub digits : ℕ
   pub places : ℕ
 
--- the greatest magnitude of a number: 10^20, held against the exact number
+-- the greatest magnitude of a number: 10^20, checked against the exact number
 abbrev pub most_units : ℕ
 most_units = 100000000000000000000
 
--- the number of these digits before and behind the point, where it is within the bound
+-- the number of these digits before and after the point, where it is within the bound
 unfoldable pub number_with : Bool → List ℕ → List ℕ → Option Number
 number_with negative whole fraction =
     if nat_le (number_of (whole ++ fraction)) (most_units * 10 ^ length fraction) then
@@ -39,19 +39,19 @@ number_at bs =
 abbrev pub is_percent : List ℕ → Bool
 is_percent bs = nat_eq (slice_index bs (length bs - 1)) 37
 
--- a percentage: a number and '%' at once behind it
+-- a percentage: a number, directly followed by '%'
 unfoldable pub percent_at : List ℕ → Option Number
 percent_at bs = if is_percent bs then number_at (take (length bs - 1) bs) else None
 
--- the digits of the number held to 0 to `most`: the held number is these / 10^places
+-- the digits of the number clamped to 0 to `most`: the clamped number is these / 10^places
 abbrev pub held : ℕ → Number → ℕ
 held most n = if n.negative then 0 else min n.digits (most * 10 ^ n.places)
 
--- the number held to 0 to `most`, in counts of 1 / unit, rounded to the nearest, a half up
+-- the number clamped to 0 to `most`, in counts of 1 / unit, rounded to the nearest, a half up
 unfoldable pub amount : ℕ → ℕ → Number → ℕ
 amount most unit n = nearest (unit * held most n) (10 ^ n.places)
 
--- The opacity in millionths: a number held to 0 to 1, or a percentage held to 0 to 100.
+-- The opacity in millionths: a number clamped to 0 to 1, or a percentage clamped to 0 to 100.
 unfoldable pub opacity_at : List ℕ → Option ℕ
 opacity_at bs =
     if is_percent bs then option_map (amount 100 10000) (percent_at bs) else

@@ -31,7 +31,7 @@ abbrev pub color_by_parts : List ℕ → Option Parts → Option Color
 color_by_parts name None = None
 color_by_parts name (Some parts) = color_by name parts
 
--- how many bytes stand before the first '(', which is 40
+-- how many bytes are before the first '(', which is 40
 abbrev pub before_bracket : List ℕ → ℕ
 before_bracket bs = prefix_len (λ c. not (nat_eq c 40)) bs
 

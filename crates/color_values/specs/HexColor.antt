@@ -1,4 +1,4 @@
--- Colors in hexadecimal. Source: CSS Color Module Level 4, section 5.2, "The RGB Hexadecimal Notations".
+-- Colors in hexadecimal. Source: CSS Color Module Level 4 §5.2, "The RGB Hexadecimal Notations".
 use Rattle.std.specs.Prelude.{ℕ, ◌+◌, ◌-◌, ◌*◌, List, length, slice_index, nat_eq, nat_lt, pos, if◌then◌else◌, Option, Some, None}
 use Rattle.std.specs.Char.{is_ascii_hexdigit, to_ascii_lowercase}
 use Rattle.std.specs.List.{list_all}
@@ -31,6 +31,6 @@ color_of_digits bs =
     (if nat_eq (length bs) 8 then Some (color_of_bytes (two_digits bs 0) (two_digits bs 2) (two_digits bs 4) (two_digits bs 6)) else
     None)))
 
--- what stands behind the '#'
+-- what follows the '#'
 unfoldable pub hexadecimal_color : List ℕ → Option Color
 hexadecimal_color bs = if list_all is_ascii_hexdigit bs then color_of_digits bs else None

@@ -6,7 +6,7 @@ use Rattle.std.specs.List.{prefix_len, suffix_len}
 abbrev pub is_space : ℕ → Bool
 is_space c = nat_eq c 32
 
--- the bytes without the spaces before and behind them
+-- the bytes without the spaces before and after them
 abbrev pub without_spaces_before : List ℕ → List ℕ
 without_spaces_before bs = drop (prefix_len is_space bs) bs
 

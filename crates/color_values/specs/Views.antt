@@ -22,11 +22,12 @@ number_view n = record { negative = n.negative; digits = number_of (n.whole.now 
 abbrev pub IsWithin : Number → Type 0
 IsWithin n = n.digits ≤ most_units * 10 ^ n.places
 
--- the bytes behind the point are digits
+-- the bytes after the point are digits
 abbrev pub HasDigits : NumberText → Type 0
 HasDigits n = IsTrue (list_all is_ascii_digit n.fraction.now)
 
--- The limbs of a number have zeros behind its last digit: one at that digit is so many at the last place of the limbs.
+-- The limbs of a number have zeros after its last digit: one at that digit is this many at the last place of
+-- the limbs.
 abbrev pub limb_scale : ℕ → ℕ
 limb_scale places = 10 ^ (9 * limbs_for places - places)
 
@@ -56,7 +57,7 @@ parts_view p = record { first = p.first.now; second = p.second.now; third = p.th
 abbrev pub pair_of : Bor (List ℕ) × Bor (List ℕ) → List ℕ × List ℕ
 pair_of p = (p.0.now, p.1.now)
 
--- what stands before the first comma and what behind it; ',' is 44
+-- what is before the first comma and what is after it; ',' is 44
 abbrev pub before_comma : List ℕ → ℕ
 before_comma bs = prefix_len (λ c. not (nat_eq c 44)) bs
 
@@ -64,7 +65,7 @@ unfoldable pub first_piece : List ℕ → Option (List ℕ × List ℕ)
 first_piece bs =
     if nat_eq (before_comma bs) (length bs) then None else Some (take (before_comma bs) bs, drop 1 (drop (before_comma bs) bs))
 
--- the arguments whose last is an opacity, where no comma stands in it
+-- the arguments whose last is an opacity, which contains no comma
 unfoldable pub parts_with_last : List ℕ → List ℕ → List ℕ → List ℕ → Option Parts
 parts_with_last x y z a =
     if is_some (first_piece a) then None else

@@ -7,7 +7,7 @@ ghost use Rattle.color_values.specs.Views.{number_view, bytes_of};
 use crate::number::{Number, is_percent, number_at, percent_at};
 use fixed_num::saturated_number;
 
-/// The magnitude of a number, held to at most `most`, times the factor, with the fraction of the exact
+/// The magnitude of a number, clamped to at most `most`, times the factor, with the fraction of the exact
 /// product dropped. Numbers may have any length.
 pub(crate) fn times(number: &Number, most: u128, factor: u128) -> u128
     requires most_is_small { most ≤ past }
@@ -36,7 +36,7 @@ fn fraction_times(digits: &[u8], factor: u128) -> u128
     carry
 }
 
-/// A number held to 0 to `most`, in counts of one `unit`-th, rounded to the nearest, a half up.
+/// A number clamped to 0 to `most`, in counts of one `unit`-th, rounded to the nearest, a half up.
 pub(crate) fn amount(number: &Number, most: u128, unit: u128) -> u128
     requires most_is_small { most ≤ past }
     requires unit_is_small { unit < 10 ^ 30 }
@@ -50,7 +50,8 @@ pub(crate) fn amount(number: &Number, most: u128, unit: u128) -> u128
     (times(number, most, 2 * unit) + 1) / 2
 }
 
-/// The opacity that a part is, in millionths: a number held to 0 to 1, or a percentage held to 0 to 100.
+/// The opacity that a part is, in millionths: a number clamped to 0 to 1, or a percentage clamped to 0 to
+/// 100.
 #[tactic(auto, unfolding(crate::specs::ColorNumber::opacity_at))]
 fn opacity_at(bytes: &[u8]) -> Option<u128>
     ensures value { result ≡ opacity_at bytes.now }

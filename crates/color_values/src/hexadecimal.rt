@@ -7,7 +7,7 @@ ghost use Rattle.fixed_num.specs.ColorRange.{IsInRange};
 use crate::color::color_of_bytes;
 use fixed_num::Color;
 
-/// The color of the hexadecimal digits behind a `#`: 3, 4, 6 or 8 of them, else `None`.
+/// The color of the hexadecimal digits after a `#`: 3, 4, 6 or 8 of them, else `None`.
 #[tactic(auto, unfolding(crate::specs::HexColor::hexadecimal_color))]
 pub(crate) fn hexadecimal_color(digits: &[u8]) -> Option<Color>
     ensures value { result ≡ hexadecimal_color digits.now }

@@ -53,7 +53,7 @@ fn parts_with_last<'a>(
     })
 }
 
-// What stands before the first comma and what behind it: `None` where there is no comma.
+// What is before the first comma and what is after it: `None` where there is no comma.
 #[tactic(auto, unfolding(crate::specs::Views::first_piece))]
 fn first_piece(bytes: &[u8]) -> Option<(&[u8], &[u8])>
     ensures { option_map pair_of result ≡ first_piece bytes.now }
@@ -66,7 +66,7 @@ fn first_piece(bytes: &[u8]) -> Option<(&[u8], &[u8])>
     Some((piece, &rest[1..]))
 }
 
-// How many bytes stand before the first comma.
+// How many bytes are before the first comma.
 fn before_comma(bytes: &[u8]) -> usize
     ensures value { result ≡ before_comma bytes.now }
     ensures within { result ≤ length bytes.now }
@@ -74,7 +74,7 @@ fn before_comma(bytes: &[u8]) -> usize
     bytes.iter().take_while(|byte| **byte != b',').count()
 }
 
-/// The bytes without the spaces (U+0020) before and behind them.
+/// The bytes without the spaces (U+0020) before and after them.
 #[tactic(auto, unfolding(crate::specs::Parts::trimmed))]
 pub(crate) fn trimmed(bytes: &[u8]) -> &[u8]
     ensures { result.now ≡ trimmed bytes.now }

@@ -47,7 +47,6 @@ fn ends_with_bracket(bytes: &[u8]) -> bool
     bytes.last() == Some(&b')')
 }
 
-// The color of a name.
 #[tactic(auto, unfolding(crate::specs::ColorOf::named_color))]
 fn named_color(name: &[u8]) -> Option<Color>
     ensures value { result ≡ named_color name.now }
@@ -72,7 +71,7 @@ fn opaque_color(value: u32) -> Color
     )
 }
 
-// The color of a function, a name and arguments in brackets, at whose end a bracket stands.
+// The color of a function: a name, and arguments in brackets that end the text.
 #[tactic(auto, unfolding(crate::specs::ColorOf::function_color))]
 fn function_color(bytes: &[u8]) -> Option<Color>
     requires { 0 < length bytes.now }
@@ -84,7 +83,7 @@ fn function_color(bytes: &[u8]) -> Option<Color>
     color_by(&bytes[..before], &parts)
 }
 
-// What stands behind so many bytes and a bracket, without the bracket at the end.
+// What follows `before` bytes and a bracket, without the bracket at the end.
 fn inside(bytes: &[u8], before: usize) -> &[u8]
     requires some { 0 < length bytes.now }
     requires within { before ≤ length bytes.now }
@@ -97,7 +96,7 @@ fn inside(bytes: &[u8], before: usize) -> &[u8]
     &[]
 }
 
-// How many bytes stand before the first bracket.
+// How many bytes are before the first bracket.
 fn before_bracket(bytes: &[u8]) -> usize
     ensures value { result ≡ before_bracket bytes.now }
     ensures within { result ≤ length bytes.now }

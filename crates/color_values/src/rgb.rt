@@ -10,8 +10,8 @@ use crate::number::{is_percent, number_at, percent_at};
 use crate::parts::Parts;
 use fixed_num::Color;
 
-/// The color of three numbers, held to 0 to 255, or of three percentages, held to 0 to 100 and multiplied
-/// by 2.55. Each is rounded once to the nearest millionth.
+/// The color of three numbers, clamped to 0 to 255, or of three percentages, clamped to 0 to 100 and
+/// multiplied by 2.55. Each is rounded once to the nearest millionth.
 #[tactic(auto, unfolding(crate::specs::RgbColor::rgb_color))]
 pub(crate) fn rgb_color(parts: &Parts) -> Option<Color>
     ensures value { result ≡ rgb_color (parts_view parts.now) }

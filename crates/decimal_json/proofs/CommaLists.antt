@@ -1,4 +1,5 @@
--- Items with commas between them and a byte that closes them: what the reader of an array and that of an object prove.
+-- Items with commas between them and a byte that closes them: what the reader of an array and that of an
+-- object prove.
 use Rattle.std.specs.Prelude.{◌≡◌, ◌≢◌, ℕ, List, [], ◌∷◌, ◌++◌, true, false, Result, Ok, Err, ◌||◌, ◌==◌, ◌⊎◌}
 use Rattle.std.proofs.Common.{inl, inr, refl, ap, sym, ◌∙◌, subst, arith}
 use Rattle.std.specs.List.{list_all}
@@ -17,8 +18,9 @@ use Rattle.json_tokens.proofs.Sequences.{reaches_skipped, reaches_next, fails_fi
 use Rattle.decimal_json.specs.Reading.{GivesTurn}
 use Rattle.decimal_json.proofs.Values.{not_first}
 
--- What arrays and objects have in common. After the items so far, `Item` is the next one, `Items` one item or more up
--- to the byte that closes, and `Rest` what stands behind an item. `Whole` is what stands behind the byte that opens.
+-- What arrays and objects have in common. After the items so far, `Item` is the next one, `Items` one item or
+-- more up to the byte that closes, and `Rest` what follows an item. `Whole` is what follows the byte that
+-- opens.
 pub record CommaList (V L : Type 0) : Type 1 where
   pub close : ℕ
   pub none : L
@@ -28,7 +30,7 @@ pub record CommaList (V L : Type 0) : Type 1 where
   pub Items : List V → Production L
   pub Rest : List V → Production L
   pub Whole : Production L
-  -- the value is that of the items, one behind the other
+  -- the value is that of the items in order
   pub of_none : list_of [] ≡ none
   pub of_more : (v : V) (vs : List V) → list_of (v ∷ vs) ≡ more v (list_of vs)
   -- the byte that closes is no comma, no white space and in no number
@@ -38,14 +40,14 @@ pub record CommaList (V L : Type 0) : Type 1 where
   -- an item begins with no white space and not with the byte that closes
   pub tight : (vs : List V) (r : Rules) (v : V) (b q : List ℕ) → Item vs r v b q → Stops is_space b
   pub apart : (vs : List V) (r : Rules) (v : V) (b q : List ℕ) → Item vs r v (close ∷ b) q → ⊥
-  -- some items are an item and what stands behind it
+  -- some items are an item and what follows it
   pub joins : (vs : List V) (r : Rules) (v : V) (l : L) (b q : List ℕ) → InTurn (Item vs r v) (Padded (Rest (vs ++ v ∷ []) r l)) b q → Items vs r (more v l) b q
   pub parts : (vs : List V) (r : Rules) (l : L) (b q : List ℕ) → Items vs r l b q → (p : V × L) × (l ≡ more p.0 p.1) × InTurn (Item vs r p.0) (Padded (Rest (vs ++ p.0 ∷ []) r p.1)) b q
-  -- behind an item stands the byte that closes, or a comma and some items
+  -- after an item there is the byte that closes, or a comma and some items
   pub ends : (vs : List V) (r : Rules) (q : List ℕ) → Rest vs r none (close ∷ q) q
   pub goes_on : (vs : List V) (r : Rules) (l : L) (b q : List ℕ) → Padded (Items vs r l) b q → Rest vs r l (44 ∷ b) q
   pub turns : (vs : List V) (r : Rules) (l : L) (b q : List ℕ) → Rest vs r l b q → ((l ≡ none) × (b ≡ close ∷ q)) ⊎ Behind 44 (Padded (Items vs r l)) b q
-  -- behind the byte that opens stands the byte that closes, or some items
+  -- after the byte that opens there is the byte that closes, or some items
   pub empty : (r : Rules) (q : List ℕ) → Whole r none (close ∷ q) q
   pub filled : (r : Rules) (l : L) (b q : List ℕ) → Items [] r l b q → Whole r l b q
   pub forms : (r : Rules) (l : L) (b q : List ℕ) → Whole r l b q → ((l ≡ none) × (b ≡ close ∷ q)) ⊎ Items [] r l b q
@@ -59,7 +61,7 @@ other_bytes c d x y e = cc
 pub space_apart : (c : ℕ) → is_space c ≡ true → is_number_byte c ≡ false
 space_apart c h = grind arith
 
--- ---- what stands behind an item
+-- ---- what follows an item
 at_close : {V L : Type 0} (s : CommaList V L) (vs : List V) (r : Rules) (l : L) (b q : List ℕ) → s.Rest vs r l (s.close ∷ b) q → (l ≡ s.none) × (q ≡ b)
 at_close s vs r l b q h = elim (s.turns vs r l (s.close ∷ b) q h) [
   | inl end ↦ (end.0, sym (other_bytes s.close s.close b q end.1))
@@ -112,7 +114,7 @@ rest_closed {V} {L} s vs b left skipped =
 items_tight : {V L : Type 0} (s : CommaList V L) (vs : List V) (r : Rules) (l : L) (b q : List ℕ) → s.Items vs r l b q → Stops is_space b
 items_tight s vs r l b q h = let (p, e, (c, item, rest)) = s.parts vs r l b q h in s.tight vs r p.0 b c item
 
--- Behind a comma some items stand.
+-- After a comma there are some items.
 rest_next : {V L : Type 0} (s : CommaList V L) (vs : List V) (b c left : List ℕ) → IsSkipped b (44 ∷ c) → IsSkipped c left → Reaches (PaddedBy (s.Rest vs)) (s.Items vs) (λ l. l) b left
 rest_next {V} {L} s vs b c left first second =
     reaches_more (PaddedBy (s.Rest vs)) (s.Rest vs) (s.Items vs) (λ (l : L). l) (λ (l : L). l) b (44 ∷ c) left (reaches_skipped (s.Rest vs) b (44 ∷ c) (rest_tight s vs) first)
@@ -121,7 +123,7 @@ rest_next {V} {L} s vs b c left first second =
     comma : Reaches (s.Rest vs) (PaddedBy (s.Items vs)) (λ l. l) (44 ∷ c) c
     comma = (44 ∷ [], refl, record { there = λ r l x q h. s.goes_on vs r l x q h; back = λ r l x q first h. (l, refl, at_comma s vs r l x q h) })
 
--- Where neither stands, the fault is here.
+-- Where there is neither, the fault is here.
 rest_fails : {V L : Type 0} (s : CommaList V L) (vs : List V) (b left : List ℕ) → IsSkipped b left → ((c : ℕ) (x : List ℕ) → left ≡ c ∷ x → (c == 44 || c == s.close) ≡ false) → Fails (PaddedBy (s.Rest vs)) Syntax b left
 rest_fails {V} {L} s vs b left skipped other =
     reaches_fails (PaddedBy (s.Rest vs)) (s.Rest vs) (λ (l : L). l) Syntax b left left (reaches_skipped (s.Rest vs) b left (rest_tight s vs) skipped)
@@ -182,7 +184,7 @@ item_halts {V} {L} s (Fault kind) start now left vs way fails =
     (reaches_fails (s.Items vs) (ItemFirst s vs) (λ (p : V × L). s.more p.0 p.1) kind now now left (first_reaches s vs now)
     (fails_first (s.Item vs) (λ w. PaddedBy (s.Rest (vs ++ w ∷ []))) kind now left (λ w. rest_closer s (vs ++ w ∷ [])) fails))
 
--- Behind an item neither a comma nor the byte that closes stands.
+-- After an item there is neither a comma nor the byte that closes.
 pub item_unmarked : {V L : Type 0} (s : CommaList V L) (kind : JsonKind) (start now mid left : List ℕ) (vs : List V) (v : V) → IsRead s start vs now → Takes (s.Item vs) v now mid → GivesTurn s.close mid (Err kind) left → Fails (s.Items []) kind start left
 item_unmarked s kind start now mid left vs v way taken (syntax, skipped, other) =
     let on = vs ++ v ∷ [] in
@@ -190,7 +192,7 @@ item_unmarked s kind start now mid left vs v way taken (syntax, skipped, other) 
     (reaches_fails (s.Items []) (s.Items vs) (joined s vs) Syntax start now left way
     (reaches_fails (s.Items vs) (PaddedBy (s.Rest on)) (s.more v) Syntax now mid left (item_reaches s vs v now mid taken) (rest_fails s on mid left skipped other)))
 
--- Behind an item the byte that closes stands.
+-- After an item there is the byte that closes.
 pub item_last : {V L : Type 0} (s : CommaList V L) (start now mid left : List ℕ) (vs all : List V) (v : V) → IsRead s start vs now → Takes (s.Item vs) v now mid → GivesTurn s.close mid (Ok true) left → all ≡ vs ++ v ∷ [] → Takes (s.Items []) (s.list_of all) start left
 item_last s start now mid left vs all v way taken skipped e =
     let on = vs ++ v ∷ [] in
@@ -199,7 +201,7 @@ item_last s start now mid left vs all v way taken skipped e =
     (reaches_taken (s.Items []) (s.Items vs) (joined s vs) (s.more v s.none) start now left way
     (reaches_taken (s.Items vs) (PaddedBy (s.Rest on)) (s.more v) s.none now mid left (item_reaches s vs v now mid taken) (rest_closed s on mid left skipped)))
 
--- Behind an item a comma stands.
+-- After an item there is a comma.
 pub item_next : {V L : Type 0} (s : CommaList V L) (start now mid left : List ℕ) (vs all : List V) (v : V) → IsRead s start vs now → Takes (s.Item vs) v now mid → GivesTurn s.close mid (Ok false) left → all ≡ vs ++ v ∷ [] → IsRead s start all left
 item_next {V} {L} s start now mid left vs all v way taken (c, first, second) e =
     let on = vs ++ v ∷ [] in
@@ -218,7 +220,7 @@ whole_tight s r l b q h = elim (s.forms r l b q h) [
 no_items : {V L : Type 0} (s : CommaList V L) (r : Rules) (l : L) (b q : List ℕ) → s.Items [] r l (s.close ∷ b) q → ⊥
 no_items s r l b q h = let (p, e, (c, item, rest)) = s.parts [] r l (s.close ∷ b) q h in s.apart [] r p.0 b c item
 
--- The byte that closes stands behind the one that opens.
+-- The byte that closes follows the one that opens.
 pub whole_empty : {V L : Type 0} (s : CommaList V L) (vs : List V) (b left : List ℕ) → vs ≡ [] → b ≡ s.close ∷ left → Takes s.Whole (s.list_of vs) b left
 whole_empty {V} {L} s vs b left none mark =
     subst (λ l. Takes s.Whole l b left) (sym (ap s.list_of none ∙ s.of_none))
@@ -230,7 +232,7 @@ whole_empty {V} {L} s vs b left none mark =
       | inr some ↦ absurd (no_items s r l more q some)
     ]
 
--- Where another byte stands, there are some.
+-- Where there is another byte, there are some items.
 some_reaches : {V L : Type 0} (s : CommaList V L) (b : List ℕ) → ((x : List ℕ) → b ≡ s.close ∷ x → ⊥) → Reaches s.Whole (s.Items []) (λ l. l) b b
 some_reaches {V} {L} s b other = ([], refl, record { there = λ r l x q h. s.filled r l x q h; back = λ r l x q first h. some r l x q (λ y e. not_first x b y s.close first e other) h }) where
   some : (r : Rules) (l : L) (x q : List ℕ) → ((y : List ℕ) → x ≡ s.close ∷ y → ⊥) → s.Whole r l x q → (m : L) × (l ≡ m) × s.Items [] r m x q

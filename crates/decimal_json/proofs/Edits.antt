@@ -1,4 +1,4 @@
--- Items and members that are changed in place: what stands where, and that keys stay distinct.
+-- Items and members that are changed in place: what is at each place, and that keys stay distinct.
 use Rattle.std.proofs.Common.{◌≡◌, ◌≢◌, ℕ, zero, suc, ◌+◌, List, [], ◌∷◌, ◌++◌, get_or, set, refl, ap, sym, ◌∙◌, arith, Bool, true, false}
 use Rattle.std.specs.Prelude.{Option, Some, None, if◌then◌else◌, map, insert, remove}
 use Rattle.std.specs.Str.{bytes_eq}
@@ -57,7 +57,7 @@ view_without_from i q (m ∷ ms) j p = remove_step i q m ms (bytes_eq m.key q) j
 pub view_without : (q : List ℕ) (ms : List Member) (j : ℕ) → place_from 0 q (member_keys ms) ≡ Some j → members_view (remove ms j) ≡ members_without q (members_view ms)
 view_without q ms j p = view_without_from 0 q ms j (p ∙ ap Some (omega arith))
 
--- Where the key is not there, nothing is replaced or removed, and a new member stands behind the others.
+-- Where the key is not there, nothing is replaced or removed, and a new member follows the others.
 pub nothing_replaced : (i : ℕ) (q : List ℕ) (t : Tree) (ms : List Member) → place_from i q (member_keys ms) ≡ None → replaced_members q t (members_view ms) ≡ members_view ms
 nothing_replaced i q t [] e = refl
 nothing_replaced i q t (m ∷ ms) e =

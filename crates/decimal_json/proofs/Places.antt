@@ -18,14 +18,14 @@ pub distinct_member_keys : (ms : List Member) → HasDistinctKeys (members_view 
 distinct_member_keys [] h = tt
 distinct_member_keys (m ∷ ms) h = (lacks_member_key m.key ms h.0, distinct_member_keys ms h.1)
 
--- nothing stands at a key with no place
+-- nothing is at a key with no place
 pub no_value : (i : ℕ) (q : List ℕ) (ms : List Member) → place_from i q (member_keys ms) ≡ None → field_at q (fields ms) ≡ None
 no_value i q [] e = refl
 no_value i q (m ∷ ms) e =
     let parts = none_first i (place_from (i + 1) q (member_keys ms)) (bytes_eq m.key q) e in
     cond-false (bytes_eq m.key q) (Some (tree_of m.value)) (field_at q (fields ms)) parts.0 ∙ no_value (i + 1) q ms parts.1
 
--- where a key stands, and what stands there
+-- the place of a key, and what is there
 pub record StandsAt (i : ℕ) (q : List ℕ) (ms : List Member) (k : ℕ) : Type 0 where
   pub offset : ℕ
   pub place : k ≡ i + offset
@@ -48,7 +48,7 @@ stands i q (m ∷ ms) k e = stands_step i q m ms k (bytes_eq m.key q) refl e (λ
 pub found_within : (q : List ℕ) (ms : List Member) (k : ℕ) → place_from 0 q (member_keys ms) ≡ Some k → k < length ms
 found_within q ms k e = let found = stands 0 q ms k e in omega (arith, found.place, found.within)
 
--- and what stands there is the value of that member
+-- and what is there is the value of that member
 pub value_placed : (q : List ℕ) (ms : List Member) (k : ℕ) (d : Member) → place_from 0 q (member_keys ms) ≡ Some k → field_at q (fields ms) ≡ Some (tree_of (get_or ms k d).value)
 value_placed q ms k d f =
     let found = stands 0 q ms k f in

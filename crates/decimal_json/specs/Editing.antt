@@ -3,17 +3,19 @@ use Rattle.std.specs.Prelude.{ℕ, List, [], ◌∷◌, insert, remove, slice_in
 use Rattle.std.specs.Str.{bytes_eq}
 use Rattle.decimal_json.specs.Tree.{Tree, null}
 
--- The items after the one at a place was moved: it is taken out, and put in at a place among those that are left.
--- Source: own.
+-- The items after the one at a place was moved: it is taken out, and put in at a place among those that are
+-- left. Source: own.
 abbrev pub moved_items : ℕ → ℕ → List Tree → List Tree
 moved_items from to ts = insert (remove ts from) to (slice_index_or ts from null)
 
--- The members after a tree was put at a key: in place of the tree that is there, else in a new last member. Source: own.
+-- The members after a tree was put at a key: in place of the tree that is there, else in a new last member.
+-- Source: own.
 abbrev pub members_with : List ℕ → Tree → List (List ℕ × Tree) → List (List ℕ × Tree)
 members_with key t [] = (key, t) ∷ []
 members_with key t (m ∷ ms) = if bytes_eq m.0 key then (m.0, t) ∷ ms else m ∷ members_with key t ms
 
--- The members after a tree was put in place of the one at a key. Without the key they are as they were. Source: own.
+-- The members after a tree was put in place of the one at a key. Without the key they are as they were.
+-- Source: own.
 abbrev pub replaced_members : List ℕ → Tree → List (List ℕ × Tree) → List (List ℕ × Tree)
 replaced_members key t [] = []
 replaced_members key t (m ∷ ms) = if bytes_eq m.0 key then (m.0, t) ∷ ms else m ∷ replaced_members key t ms

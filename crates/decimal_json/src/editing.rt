@@ -10,8 +10,8 @@ use std::alloc::AllocError;
 use std::mem;
 
 impl Items {
-    /// Puts an item before the one at a place, or last where the place is the number of items. Takes time linear in the
-    /// items.
+    /// Puts an item before the one at a place, or last where the place is the number of items. Takes time
+    /// linear in the items.
     pub fn insert(&mut self, place: usize, item: Json) -> Result<(), AllocError>
         requires { place ≤ length self.old }
         ensures ok { OnOk result (self.new ≡ insert self.old place (tree_of item)) }
@@ -32,7 +32,8 @@ impl Items {
         self.items.remove(place)
     }
 
-    /// Moves the item at a place to another, and the items in between by one place. Takes time linear in the items.
+    /// Moves the item at a place to another, and the items in between by one place. Takes time linear in the
+    /// items.
     pub fn move_item(&mut self, from: usize, to: usize)
         requires from { from < length self.old }
         requires to { to < length self.old }
@@ -44,8 +45,8 @@ impl Items {
         };
     }
 
-    /// Puts an item in place of the one at a place, which it gives. Takes constant time. An item is changed in place
-    /// thus: replaced by a null, changed, and put back.
+    /// Puts an item in place of the one at a place, which it gives. Takes constant time. An item is changed
+    /// in place thus: replaced by a null, changed, and put back.
     pub fn replace(&mut self, place: usize, item: Json) -> Json
         requires { place < length self.old }
         ensures item { tree_of result ≡ slice_index_or self.old place (tree_of result) }
@@ -56,7 +57,8 @@ impl Items {
 }
 
 impl Members {
-    /// Puts a value at a key: in place of the one that is there, else in a new last member. Takes time as `get` does.
+    /// Puts a value at a key: in place of the one that is there, else in a new last member. Takes time as
+    /// `get` does.
     pub fn put(&mut self, key: Text, value: Json) -> Result<(), AllocError>
         ensures ok { OnOk result (self.new ≡ members_with key (tree_of value) self.old) }
         ensures err { OnErr result (self.new ≡ self.old) }
@@ -70,9 +72,9 @@ impl Members {
         }
     }
 
-    /// Puts a value in place of the one at a key, which it gives, or gives `None` exactly where no member has the key:
-    /// then nothing changes. Takes time as `get` does. A value is changed in place thus: replaced by a null, changed, and
-    /// put back.
+    /// Puts a value in place of the one at a key, which it gives, or gives `None` exactly where no member has
+    /// the key: then nothing changes. Takes time as `get` does. A value is changed in place thus: replaced by
+    /// a null, changed, and put back.
     pub fn replace(&mut self, key: &str, value: Json) -> Option<Json>
         ensures value { option_map tree_of result ≡ field_at key.now (fields_of self.old) }
         ensures put { self.new ≡ replaced_members key.now (tree_of value) self.old }
@@ -83,9 +85,9 @@ impl Members {
         }
     }
 
-    /// Takes the member of a key out and gives its value, or gives `None` exactly where no member has the key: then
-    /// nothing changes. Takes time linear in the members. It needs no memory: when allocation fails, keys are looked for one
-    /// by one until the next member is added.
+    /// Takes the member of a key out and gives its value, or gives `None` exactly where no member has the
+    /// key: then nothing changes. Takes time linear in the members. It needs no memory: when allocation
+    /// fails, keys are looked for one by one until the next member is added.
     pub fn remove(&mut self, key: &str) -> Option<Json>
         ensures value { option_map tree_of result ≡ field_at key.now (fields_of self.old) }
         ensures left { self.new ≡ members_without key.now self.old }
@@ -101,9 +103,9 @@ impl Members {
         }
     }
 
-    /// Puts a member before the one at a place, or last where the place is the number of members. No member may have its
-    /// key. Takes time linear in the members. An index for which there is no memory is made when the next member is
-    /// added; until then keys are looked for one by one.
+    /// Puts a member before the one at a place, or last where the place is the number of members. No member
+    /// may have its key. Takes time linear in the members. An index for which there is no memory is made when
+    /// the next member is added; until then keys are looked for one by one.
     pub fn insert_at(&mut self, place: usize, key: Text, value: Json) -> Result<(), AllocError>
         requires within { place ≤ length self.old }
         requires lacks { LacksKey key self.old }

@@ -1,9 +1,9 @@
 //! JSON whose numbers stay text: the trees that a style is read from and written as.
 //!
 //! `parse` reads a whole byte string, `write` appends the text of a tree, and a `Path` names a place in
-//! a tree. Nothing here turns a number into an amount: a `NumText` is the text as it stands. `parse` copies the
-//! bytes once, and `parse_owned` takes them over; texts without escapes and numbers are ranges of these bytes, which
-//! a tree keeps whole.
+//! a tree. Nothing here turns a number into an amount: a `NumText` is the text as it is. `parse` copies the
+//! bytes once, and `parse_owned` takes them over; texts without escapes and numbers are ranges of these
+//! bytes, which a tree keeps whole.
 //!
 //! ```text
 //! match parse(alloc, b"[\"+\", 0.1, 1.50]")? {
@@ -15,14 +15,14 @@
 //! What is promised: `parse` and `parse_owned` give a tree exactly where the bytes spell it by the grammar of
 //! `specs/Grammar.antt`, which is RFC 8259 with five rules of `json_tokens`, and no byte string spells two
 //! trees. Where they spell none, the fault's place is the length of the longest front that begins an
-//! accepted text, and its kind the one rule that, dropped alone, lets that front and the next byte begin
+//! accepted text, and its kind the rule that, dropped alone, lets that front and the next byte begin
 //! one; `specs/Parses.antt` says so. `write`, `write_text` and `write_path` append exactly the text that is
-//! defined in `specs/JsonText.antt` and `specs/Place.antt`; after want of memory a prefix of it may have
-//! been appended. The text of a tree that is sound, as `specs/Sound.antt` says it, spells that tree. The items of an array
-//! and the members of an object are edited in place, as `specs/Editing.antt` says; when allocation fails, nothing changes.
-//!
-//! The text to believe is in `specs/`: `Tree`, `View`, `Accessors`, `Editing`, `Grammar`, `Parses`, `JsonText`, `Place`. Laws of
-//! it: `OneTree`, `OneFault`, `Sound`, `RoundTrip`.
+//! defined in `specs/JsonText.antt` and `specs/Place.antt`; when allocation fails a prefix of it may have
+//! been appended. The text of a tree that is sound, as `specs/Sound.antt` says it, spells that tree. The
+//! items of an array and the members of an object are edited in place, as `specs/Editing.antt` says; when
+//! allocation fails, nothing changes.
+//! The text to believe is in `specs/`: `Tree`, `View`, `Accessors`, `Editing`, `Grammar`, `Parses`,
+//! `JsonText`, `Place`. Laws of it: `OneTree`, `OneFault`, `Sound`, `RoundTrip`.
 #![tactic(auto)]
 
 mod accessors;

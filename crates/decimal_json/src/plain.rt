@@ -5,7 +5,7 @@ ghost use Rattle.json_tokens.specs.TextToken.{is_unescaped};
 /// How many bytes are tested at once.
 pub(crate) const BLOCK: usize = 16;
 
-/// Whether the first bytes of a block stand for themselves. No branch stands between their tests, so that they are
+/// Whether the first bytes of a block are unescaped. There is no branch between their tests, so that they are
 /// tested at once.
 #[inline(always)]
 pub(crate) fn is_front_unescaped(block: &[u8], count: u8) -> bool
@@ -20,8 +20,8 @@ pub(crate) fn is_front_unescaped(block: &[u8], count: u8) -> bool
     plain
 }
 
-// Whether all of the bytes stand for themselves. No branch stands between their tests, so that blocks are tested at
-// once.
+// Whether all of the bytes are unescaped. There is no branch between their tests, so that blocks are tested
+// at once.
 fn are_unescaped(block: &[u8]) -> bool
     ensures { result ≡ list_all is_unescaped block.now }
 {
@@ -32,8 +32,8 @@ fn are_unescaped(block: &[u8]) -> bool
     plain
 }
 
-/// Whether all of the bytes stand for themselves. The last block overlaps the one before it, so that no byte is tested
-/// alone.
+/// Whether all of the bytes are unescaped. The last block overlaps the one before it, so that no byte is
+/// tested alone.
 pub(crate) fn is_plain(bytes: &[u8]) -> bool
     ensures { IsTrue result → IsTrue (list_all is_unescaped bytes.now) }
 {
@@ -49,7 +49,7 @@ pub(crate) fn is_plain(bytes: &[u8]) -> bool
     }
 }
 
-// How many bytes at the front stand for themselves in whole blocks.
+// How many bytes at the front are unescaped in whole blocks.
 fn unescaped_blocks(bytes: &[u8]) -> usize
     ensures within { result ≤ length bytes.now }
     ensures plain { IsTrue (list_all is_unescaped (take result bytes.now)) }
@@ -61,7 +61,7 @@ fn unescaped_blocks(bytes: &[u8]) -> usize
     at
 }
 
-/// How many bytes at the front stand for themselves.
+/// How many bytes at the front are unescaped.
 pub(crate) fn unescaped_length(bytes: &[u8]) -> usize
     ensures within { result ≤ length bytes.now }
     ensures plain { IsTrue (list_all is_unescaped (take result bytes.now)) }

@@ -19,8 +19,8 @@ use std::alloc::{AllocError, Global};
 /// How many arrays and objects may be open at one place.
 const MAX_OPEN: usize = 64;
 
-/// The tree that the bytes spell; or, where they spell none, the fault's place and kind. The bytes are copied once:
-/// texts without escapes, keys and numbers are ranges of that copy.
+/// The tree that the bytes spell; or, where they spell none, the fault's place and kind. The bytes are copied
+/// once: texts without escapes, keys and numbers are ranges of that copy.
 pub fn parse(alloc: Global, bytes: &[u8]) -> Result<Result<Json, JsonFault>, AllocError>
     ensures { IfOk result (Parses bytes.now) }
 {
@@ -120,7 +120,7 @@ fn read_items(alloc: Global, cursor: &mut Cursor<'_>, depth: usize) -> Result<It
     read_elements(alloc, cursor, depth)
 }
 
-// How many items an array has room for at first whose first item stands next.
+// How many items an array has room for when its first item is read.
 #[inline(always)]
 fn first_room(cursor: &Cursor<'_>) -> usize {
     match cursor.peek() {
@@ -242,7 +242,7 @@ fn read_pair(
     }
 }
 
-// Reads the colon behind a key, and the value.
+// Reads the colon after a key, and the value.
 #[cycle(read)]
 fn read_named(alloc: Global, cursor: &mut Cursor<'_>, depth: usize) -> Result<Json, Halt<JsonKind>>
     requires { depth ≤ MAX_OPEN }
@@ -288,7 +288,7 @@ fn read_key(
     }
 }
 
-// Reads what stands behind an item or a member: true at the end, false where the next one stands.
+// Reads what follows an item or a member: true at the end, false at the next one.
 #[inline(always)]
 fn read_turn(cursor: &mut Cursor<'_>, close: u8) -> Result<bool, JsonKind>
     ensures gives { GivesTurn close cursor.old result cursor.new }

@@ -1,5 +1,5 @@
--- `let` and `var` (MapLibre style specification, version 8, expressions): a binding does not see the other names of its own `let`, and
--- a fault of one counts only where its name is asked for.
+-- `let` and `var`: a binding does not see the other names of its own `let`, and a fault of one counts only
+-- where its name is asked for. Source: MapLibre style specification, version 8, expressions.
 use Rattle.std.specs.Prelude.{ℕ, List, [], ◌∷◌, length, take, drop, Err}
 use Rattle.prop_values.specs.declared.fault.EvalFault.TheVariants.{WrongType}
 use Rattle.prop_values.specs.declared.kinds.Want.TheVariants as wants

@@ -1,5 +1,5 @@
--- Operators that choose an output (MapLibre style specification, version 8, expressions). What decides is evaluated, and then the
--- output that it chooses alone, under the want of the node.
+-- Operators that choose an output. What decides is evaluated, and then the output that it chooses alone,
+-- under the want of the node. Source: MapLibre style specification, version 8, expressions.
 use Rattle.std.specs.Prelude.{ℕ, ◌+◌, ◌-◌, ℤ, List, [], ◌∷◌, length, true, false, Option, Some, None, Ok, Err}
 use Rattle.std.specs.List.{slice_get}
 use Rattle.prop_values.specs.Data.{boolean, number}
@@ -64,7 +64,8 @@ step_of inputs [] want names world = Err WrongType
 step_of inputs (value ∷ outputs) want names world =
     with_number (value wants.Number names world) (λ x. output_at outputs (count_not_above x inputs) want names world)
 
--- ---- `interpolate`: its curve moves the value between its neighbours. At or below the first input and at or above the last it is one
+-- ---- `interpolate`: its curve moves the value between its neighbours. At or below the first input and at or
+-- above the last it is one
 -- output, and else what is between two; under Shown the outputs are taken as they are.
 
 abbrev pub between_values : ℤ → ℤ → ℤ → Evaluated → Evaluated → Evaluated

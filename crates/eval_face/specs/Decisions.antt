@@ -1,5 +1,5 @@
--- Operators that stop at the argument that decides (MapLibre style specification, version 8, expressions). No argument after it is
--- evaluated.
+-- Operators that stop at the argument that decides. No argument after it is evaluated. Source: MapLibre style
+-- specification, version 8, expressions.
 use Rattle.std.specs.Prelude.{ℕ, ◌+◌, List, [], ◌∷◌, true, false, Option, Some, None, option_map, Ok}
 use Rattle.prop_values.specs.Data.{Data, null, boolean, number, text, color, map}
 use Rattle.prop_values.specs.declared.kinds.Want.{Want}
@@ -52,7 +52,7 @@ abbrev pub or_later : Option Data → Evaluated → Evaluated
 or_later (Some d) later = Ok d
 or_later None later = later
 
--- what the first of the arguments from place k on decides, or what stands where none does
+-- what the first of the arguments from place k on decides, or the other value where none does
 abbrev pub first_of : (Data → Option Data) → Evaluated → Operator → ℕ → ℕ → List Meaning → Want → Names → World → Evaluated
 first_of decides none op m k [] want names world = none
 first_of decides none op m k (meaning ∷ meanings) want names world =

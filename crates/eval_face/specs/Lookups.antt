@@ -1,12 +1,12 @@
--- Operators that look something up: in the feature, in its state, or in an object (MapLibre style specification, version 8,
--- expressions).
+-- Operators that look something up: in the feature, in its state, or in an object. Source: MapLibre style
+-- specification, version 8, expressions.
 use Rattle.std.specs.Prelude.{ℕ, ◌*◌, pos, List, [], ◌∷◌, Bool, Option, Some, None, is_some, unwrap_or, Ok, Err, if◌then◌else◌}
 use Rattle.prop_values.specs.Data.{Data, null, boolean, number, text, map, Pairs, pairs_of}
 use Rattle.prop_values.specs.Equality.{at_key}
 use Rattle.prop_values.specs.declared.fault.EvalFault.TheVariants.{WrongType}
 use Rattle.operator_values.specs.Evaluated.{Evaluated}
 
--- what stands at a key, and null where nothing does
+-- what is at a key, and null where there is nothing
 abbrev pub entry_at : List ℕ → Pairs → Data
 entry_at key entries = unwrap_or (at_key key entries) null
 

@@ -1,5 +1,5 @@
--- What an expression means under a want, in the names around it and in a world (MapLibre style specification, version 8,
--- expressions, over numbers as whole millionths).
+-- What an expression means under a want, in the names around it and in a world. Source: MapLibre style
+-- specification, version 8, expressions, over numbers as whole millionths.
 use Rattle.std.specs.Prelude.{List, [], ◌∷◌, length}
 use Rattle.property_tables.specs.Fitting.{fit}
 use Rattle.expr_syntax.specs.declared.expression.Operator.{Operator}

@@ -39,7 +39,7 @@ abbrev pub then_values : Result (List Data) EvalFault → (List Data → Evaluat
 then_values (Ok ds) go = go ds
 then_values (Err fault) go = Err fault
 
--- a value before others: the first fault stands for all
+-- a value before others: the first fault is the fault of all
 abbrev pub and_values : Evaluated → Result (List Data) EvalFault → Result (List Data) EvalFault
 and_values (Ok d) (Ok ds) = Ok (d ∷ ds)
 and_values (Ok d) (Err fault) = Err fault

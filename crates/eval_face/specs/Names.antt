@@ -1,4 +1,4 @@
--- The names that are bound around an expression, and what they stand for.
+-- The names that are bound around an expression, and what they represent.
 use Rattle.std.specs.Prelude.{ℕ, List, [], ◌∷◌, Option, Some, None, Err, if◌then◌else◌}
 use Rattle.prop_values.specs.Equality.{same_text}
 use Rattle.prop_values.specs.declared.fault.EvalFault.TheVariants.{WrongType}
@@ -28,7 +28,8 @@ abbrev pub or_outer : Option Evaluated → Evaluated → Evaluated
 or_outer (Some outcome) outer = outcome
 or_outer None outer = outer
 
--- What a name stands for: in the innermost `let` that has it. An expression that was read asks for no other name.
+-- What a name represents: in the innermost `let` that has it. An expression that was read asks for no other
+-- name.
 abbrev pub named : Names → List ℕ → Evaluated
 named [] asked = Err WrongType
 named (bs ∷ outer) asked = or_outer (last_named bs asked) (named outer asked)

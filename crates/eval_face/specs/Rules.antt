@@ -1,5 +1,5 @@
--- The rule of each operator, in the order of the table (MapLibre style specification, version 8, expressions). What its arguments are
--- wanted as is in its row.
+-- The rule of each operator, in the order of the table. What its arguments are wanted as is in its row.
+-- Source: MapLibre style specification, version 8, expressions.
 use Rattle.std.specs.Prelude.{ℕ, ℤ, List, [], ◌∷◌, true, false, Option, Some, None, Ok, Err}
 use Rattle.fixed_num.specs.Number.{absolute, floor_of, ceil_of, round_of}
 use Rattle.prop_values.specs.Data.{Data, null, boolean, number, text, map, pairs_of}
@@ -27,7 +27,7 @@ use Rattle.eval_face.specs.World.{World}
 pub data Rule : Type 0 where
   -- all arguments are evaluated, and their values decide
   each : (World → List Data → Evaluated) → Rule
-  -- the first argument that decides, or what stands where none does
+  -- the first argument that decides, or the other value where none does
   deciding : (Data → Option Data) → Evaluated → Rule
   -- `case`, `match`, `step` and `interpolate`
   cases : Rule

@@ -1,5 +1,5 @@
--- `format`: the list of its sections, each its content and the options that follow it (MapLibre style specification, version 8,
--- expressions).
+-- `format`: the list of its sections, each its content and the options that follow it. Source: MapLibre style
+-- specification, version 8, expressions.
 use Rattle.std.specs.Prelude.{List, [], ◌∷◌, ◌++◌, Some, Result, Ok, Err}
 use Rattle.prop_values.specs.Data.{Data, number, text, color, list, items_of}
 use Rattle.prop_values.specs.View.{value_of}

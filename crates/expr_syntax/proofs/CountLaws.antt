@@ -48,9 +48,9 @@ last_at n i h = eq-eqb (i + 1) n h
 not_last : (n i : ℕ) → i + 1 < n → is_last n i ≡ false
 not_last n i h = ne_eqb (i + 1) n (λ e. omega arith)
 
--- ---- places behind the name
+-- ---- places after the name
 
--- an element behind the name is what its layout says
+-- an element after the name is what its layout says
 pub behind : (layout : Layout) (n i : ℕ) → 0 < i → element_place layout n i ≡ place layout n i
 behind layout n i h = ap (λ b. if b then Part else place layout n i) (not_zero i h)
 
@@ -151,7 +151,7 @@ odd_is_input i h false e =
     let three : 3 ≤ i = three_at i h (λ two. even_two i two e) in
     sym (ap (λ b. nat_le 3 i && not b) e ∙ ap (λ b. b && true) (le-leb 3 i three))
 
--- inputs stand at odd places from 3 on, and no other place from 2 on is odd
+-- inputs are at odd places from 3 on, and nothing else is at an odd place from 2 on
 pub ramp_parts : (n : ℕ) → TakesParts (λ n i. is_input i) Ramp n 2
 ramp_parts n i h =
     ap is_part (behind Ramp n i (omega arith)) ∙ (part_unless (is_even i) ∙ odd_is_input i h (is_even i) refl)

@@ -88,7 +88,7 @@ left_true : (a b : Bool) → (a && b) ≡ true → a ≡ true
 left_true true b h = refl
 left_true false b h = h
 
--- an interpolation has at least four elements behind its name
+-- an interpolation has at least four elements after its name
 pub ramp_arity : (name : Name) (n : ℕ) → (row name).layout ≡ Ramp → allows (row name).arity (n - 1) ≡ true → 3 < n
 ramp_arity Interpolate n layout h = let least : 4 ≤ n - 1 = leb-true 4 (n - 1) (left_true (nat_le 4 (n - 1)) (nat_eq ((n - 1) % 2) 0) h) in omega (arith, least)
 ramp_arity _ n layout h = absurd (cc)

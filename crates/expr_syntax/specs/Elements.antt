@@ -30,7 +30,7 @@ abbrev pub first_of : Trees → Option Tree
 first_of no_trees = None
 first_of (tree t ts) = Some t
 
--- the element behind the name
+-- the element after the name
 abbrev pub second : Trees → Option Tree
 second ts = first_of (after_head ts)
 
@@ -38,7 +38,7 @@ abbrev pub text_of : Option Tree → Option (List ℕ)
 text_of (Some t) = text_in t
 text_of None = None
 
--- the text that is the element behind the name
+-- the text that is the element after the name
 abbrev pub second_text : Trees → Option (List ℕ)
 second_text ts = text_of (second ts)
 

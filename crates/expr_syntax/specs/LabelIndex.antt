@@ -37,7 +37,7 @@ listed_output (l ∷ ls) m = if same_label l.label m then Some l.output else lis
 abbrev pub IsIndexOfLabels : LabelIndex → List Labelled → Type 0
 IsIndexOfLabels index labels = (m : Label) → output_at index m ≡ listed_output labels m
 
--- labels, or none where one stands twice
+-- labels, or none where one occurs twice
 abbrev pub distinct_labels : List Labelled → Option (List Labelled)
 distinct_labels labels = if repeats (λ m. false) labels then None else Some labels
 

@@ -21,7 +21,7 @@ same_label (Text s) (Text t) = bytes_eq s t
 same_label (Number y) (Number z) = int_eq y z
 same_label _ _ = false
 
--- whether one of some labels stands twice, or is one of those before them
+-- whether one of some labels occurs twice, or is one of those before them
 abbrev pub repeats : (Label → Bool) → List Labelled → Bool
 repeats is_before [] = false
 repeats is_before (l ∷ ls) = is_before l.label || repeats (λ m. same_label l.label m || is_before m) ls

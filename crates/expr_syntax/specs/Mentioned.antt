@@ -23,7 +23,7 @@ reads_of FeatureAlone arguments = if nat_le arguments 1 then record nothing { fe
 reads_of State arguments = record nothing { state = true }
 reads_of Images arguments = record nothing { image = true }
 
--- What an operator itself reads: its row says it. Own.
+-- What an operator itself reads, by its row. Source: own.
 abbrev pub of_operator : Operator → ℕ → Mentions
 of_operator op arguments = reads_of (row (operator_name op)).reads arguments
 

@@ -1,5 +1,5 @@
--- The table of operators, a row for each name, in its order (MapLibre style specification, version 8,
--- expressions).
+-- The table of operators, a row for each name, in its order. Source: MapLibre style specification, version 8,
+-- expressions.
 use Rattle.std.specs.Prelude.{ℕ, List, [], ◌∷◌, codes, Option, Some, None, if◌then◌else◌}
 use Rattle.std.specs.Str.{bytes_eq}
 use Rattle.prop_values.specs.declared.kinds.Want.TheVariants as wants

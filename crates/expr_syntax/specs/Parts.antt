@@ -29,7 +29,7 @@ use Rattle.expr_syntax.specs.Scopes.{Scope, is_known}
 
 -- ---- `array`
 
--- the items that a name stands for
+-- the items that a name represents
 abbrev pub item_named : List ℕ → Option Item
 item_named s =
     if bytes_eq s (codes "boolean") then Some items.Boolean
@@ -62,14 +62,15 @@ with_length (Some item) (Some n) = Ok (operators.Array (Some item) (Some n))
 with_length (Some item) None = Err code.Part
 with_length None length = Err code.Part
 
--- by the elements behind the name
+-- by the elements after the name
 abbrev pub array_operator : Trees → Result Operator SynCode
 array_operator no_trees = Err code.Part
 array_operator (tree x no_trees) = Ok (operators.Array None None)
 array_operator (tree item (tree x no_trees)) = with_item (item_of item)
 array_operator (tree item (tree length (tree x ts))) = with_length (item_of item) (length_of length)
 
--- ---- `match`: all labels are of one type, and none stands twice; a number past the bound has no value and is not compared
+-- ---- `match`: all labels are of one type, and none occurs twice; a number past the bound has no value and
+-- is not compared
 
 abbrev pub is_whole : ℤ → Bool
 is_whole z = nat_eq (unsigned_abs z % 1000000) 0
@@ -121,7 +122,8 @@ abbrev pub match_operator : Option Collected → Result Operator SynCode
 match_operator (Some found) = labels_operator found
 match_operator None = Err code.Part
 
--- ---- `step` and `interpolate`: inputs are numbers and ascend; one past the bound has no value and is not compared
+-- ---- `step` and `interpolate`: inputs are numbers and ascend; one past the bound has no value and is not
+-- compared
 
 abbrev pub steps_up : Option ℤ → Option ℤ → Bool
 steps_up (Some y) (Some z) = int_lt y z
@@ -139,7 +141,7 @@ and_input z (Err c) = Err c
 abbrev pub input_of : Option ℤ → Option ℤ → Result (List ℤ) SynCode → Result (List ℤ) SynCode
 input_of before z later = if steps_up before z then and_input z later else Err code.Part
 
--- the inputs after one; none stands before the first, and none is compared with one past the bound
+-- the inputs after one; none is before the first, and none is compared with one past the bound
 abbrev pub inputs_of : Option ℤ → List Tree → Result (List ℤ) SynCode
 inputs_of before [] = Ok []
 inputs_of before (number n ∷ ts) = input_of before (value_in (read_text n)) (inputs_of (value_in (read_text n)) ts)

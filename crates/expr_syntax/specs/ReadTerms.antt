@@ -1,6 +1,6 @@
 -- What holds of every expression that was read: at each node the number of elements is one that its row
 -- allows, the parts are of their form, and each `var` names a name of a `let` around it. Source: own, from
--- the table of operators (MapLibre style specification, version 8, expressions).
+-- the table of operators. Source: MapLibre style specification, version 8, expressions.
 use Rattle.std.specs.Prelude.{◌≡◌, ℕ, ◌+◌, ◌-◌, ◌<◌, List, [], ◌∷◌, ◌++◌, length, Bool, true, false, ◌||◌, nat_eq, Some, None, Ok}
 use Rattle.std.specs.List.{list_all}
 use Rattle.decimal_json.specs.Tree.{Tree}
@@ -22,7 +22,7 @@ use Rattle.expr_syntax.specs.Reading.{reading_with}
 use Rattle.expr_syntax.specs.Rows.{allows}
 use Rattle.expr_syntax.specs.Term.{Term, literal, node, Terms, no_terms, term}
 
--- How many elements stand behind the name of a node of m arguments: those, and the parts. Of the arguments of
+-- How many elements follow the name of a node of m arguments: those, and the parts. Of the arguments of
 -- `match` each but the input and the last has an element of labels; of `format` the elements that are options
 -- are not counted.
 abbrev pub elements_behind : Operator → ℕ → ℕ

@@ -1,5 +1,5 @@
 -- What a JSON tree reads as: an expression, that it is outside, or its first fault in document order, of two
--- at one node the lesser (MapLibre style specification, version 8, expressions).
+-- at one node the lesser. Source: MapLibre style specification, version 8, expressions.
 use Rattle.std.specs.Prelude.{ℕ, ◌+◌, ◌-◌, ℤ, List, [], ◌∷◌, ◌++◌, length, Bool, true, false, not, nat_eq, is_none, Option, Some, None, Result, Ok, Err, if◌then◌else◌}
 use Rattle.decimal_json.specs.Tree.{Tree, null, boolean, number, text, list, object, Trees, no_trees, tree, Fields, no_fields, field}
 use Rattle.decimal_json.specs.declared.paths.PathPart.{PathPart}
@@ -57,7 +57,8 @@ abbrev pub literal_read : Option Tree → List PathPart → Read
 literal_read (Some t) path = data_read (json_data t) path
 literal_read None path = fault path code.Part
 
--- ---- `global-state`: `get` of its name in an object that has the name's value, or is empty where there is none
+-- ---- `global-state`: `get` of its name in an object that has the name's value, or is empty where there is
+-- none
 
 abbrev pub global_object : List ℕ → Option Data → Pairs
 global_object name (Some d) = pair name d no_pairs
@@ -70,7 +71,8 @@ abbrev pub global_read : Option (List ℕ) → Scope → List PathPart → Read
 global_read (Some s) scope path = Ok (global_term s (global_at scope s))
 global_read None scope path = fault path code.Part
 
--- ---- the arguments of a node that is laid out by places; the last element is read inside the names that the node binds
+-- ---- the arguments of a node that is laid out by places; the last element is read inside the names that the
+-- node binds
 
 abbrev pub is_part : Place → Bool
 is_part Part = true
@@ -99,7 +101,8 @@ abbrev pub with_operator : Layout → List (Element Reader) → Result Operator 
 with_operator layout es (Ok op) scope path = then_node op (arguments layout (length es) 0 es (names_in op scope) scope path)
 with_operator layout es (Err c) scope path = fault path c
 
--- ---- the arguments of `format`: contents, and the members of an object directly behind one, each with what it is
+-- ---- the arguments of `format`: contents, and the members of an object directly after one, each with its
+-- role
 
 abbrev pub then_term : {A : Type 0} → Read → (Term → Result A SynFault) → Result A SynFault
 then_term (Ok t) go = go t
@@ -125,7 +128,7 @@ abbrev pub section_read : ℕ → Bool → Option (List (List ℕ × Reader)) �
 section_read i follows (Some ms) r scope path found = if follows then options_read i ms scope path found else fault path code.BareObject
 section_read i follows None r scope path found = then_term (r scope path) (λ t. Ok (with_piece i Content found t))
 
--- from element i on; `follows` says whether the one before is a content, and the name stands at 0
+-- from element i on; `follows` says whether the one before is a content, and the name is at 0
 abbrev pub sections_read : ℕ → Bool → List (Element Reader) → Scope → List PathPart → Sections → Result Sections SynFault
 sections_read i follows [] scope path found = Ok found
 sections_read i follows (e ∷ es) scope path found =

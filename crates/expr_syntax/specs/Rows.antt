@@ -53,19 +53,19 @@ is_last n i = nat_eq (i + 1) n
 abbrev pub is_even : ℕ → Bool
 is_even i = nat_eq (i % 2) 0
 
--- the inputs of stops stand at 3, 5, ..
+-- the inputs of stops are at 3, 5, ..
 abbrev pub is_input : ℕ → Bool
 is_input i = nat_le 3 i && not (is_even i)
 
--- the labels of outputs stand at 2, 4, .., but not at the end
+-- the labels of outputs are at 2, 4, .., but not at the end
 abbrev pub is_label : ℕ → ℕ → Bool
 is_label n i = nat_le 2 i && (is_even i && not (is_last n i))
 
--- the names of bindings stand at 1, 3, .., but not at the end
+-- the names of bindings are at 1, 3, .., but not at the end
 abbrev pub is_binder : ℕ → ℕ → Bool
 is_binder n i = not (is_even i) && not (is_last n i)
 
--- what an element behind the name is
+-- what an element after the name is
 abbrev pub place : Layout → ℕ → ℕ → Place
 place Arguments n i = Argument
 place Choices n i = Output

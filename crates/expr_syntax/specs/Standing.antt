@@ -1,4 +1,4 @@
--- Whether a node of some sort stands in a tree. A node of an unknown or outside name, or with a number of
+-- Whether a tree contains a node of some sort. A node of an unknown or outside name, or with a number of
 -- elements that its row does not allow, has no argument nodes.
 use Rattle.std.specs.Prelude.{ℕ, ◌+◌, ◌-◌, List, [], ◌∷◌, length, Bool, true, false, not, ◌&&◌, ◌||◌, nat_lt, Option, Some, None, is_none, if◌then◌else◌, codes}
 use Rattle.std.specs.Str.{bytes_eq}
@@ -43,7 +43,7 @@ abbrev pub is_image_node : Option (List ℕ) → Bool
 is_image_node (Some s) = bytes_eq s (codes "image")
 is_image_node None = false
 
--- Elements of a `format`: an object directly behind a content is one of options. The name stands at place 0
+-- Elements of a `format`: an object directly after a content is one of options. The name is at place 0
 -- and is no content.
 abbrev pub outside_part : ℕ → Bool → Tree → Bool
 outside_part i follows (object fs) = follows && other_options fs
@@ -59,13 +59,13 @@ layout_outside Ramp ts format = outside_ramp (second ts)
 layout_outside Sections ts format = not format || outside_sections 0 false ts
 layout_outside _ ts format = false
 
--- a node by itself; `format` says whether a `format` node may stand here
+-- a node by itself; `format` says whether a `format` node may be here
 abbrev pub is_outside_node : Name → Trees → Bool → Bool
 is_outside_node name ts format = (row name).is_outside || layout_outside (row name).layout ts format
 
 -- ---- the walk
 
--- whether what is sought stands in a tree, at whose root a `format` node may stand or not
+-- whether a tree contains what is sought, where its root may be a `format` node or not
 abbrev pub Walker : Type 0
 Walker = Sought → Bool → Bool
 
@@ -84,7 +84,7 @@ is_for_global Outside = false
 abbrev pub is_sought : Sought → Layout → Bool
 is_sought sought layout = is_for_global sought && is_global_layout layout
 
--- a `format` node may stand where the value of the node may come from
+-- a `format` node may be where the value of the node may come from
 abbrev pub in_element : Place → Walker → Walker
 in_element Part w sought format = false
 in_element Argument w sought format = w sought false
@@ -147,6 +147,6 @@ abbrev mutual
 abbrev pub is_outside : Tree → Bool
 is_outside t = stands t Outside true
 
--- whether a `global-state` node stands in an expression
+-- whether an expression contains a `global-state` node
 abbrev pub uses_globals : Tree → Bool
 uses_globals t = stands t Global true

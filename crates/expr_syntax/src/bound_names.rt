@@ -10,11 +10,11 @@ use std::alloc::{AllocError, Global};
 use std::collections::BTreeMap;
 use std::marker::Model;
 
-// How many names are looked through one by one, and stand in no index.
+// How many names are compared one by one, and are in no index.
 const FIRST: usize = 8;
 
-/// The names that a `let` binds, in order. Up to eight are looked through one by one; of more an index has the last
-/// place of each.
+/// The names that a `let` binds, in order. Up to eight are looked through one by one; of more an index has
+/// the last place of each.
 #[derive(Drop)]
 pub struct Names {
     names: Vec<Text>,

@@ -38,7 +38,7 @@ pub(crate) fn head_name(items: &[Json]) -> Option<Name>
     }
 }
 
-/// The elements behind the name.
+/// The elements after the name.
 #[tactic(auto, using(crate::proofs::PartLaws::after_first))]
 pub(crate) fn after_head(items: &[Json]) -> &[Json]
     ensures { trees result.now ≡ after_head (trees items.now) }
@@ -49,7 +49,7 @@ pub(crate) fn after_head(items: &[Json]) -> &[Json]
     }
 }
 
-/// The element behind the name.
+/// The element after the name.
 #[tactic(auto, using(crate::proofs::PartLaws::second_of_one))]
 pub(crate) fn second(items: &[Json]) -> Option<&Json>
     ensures { option_map (λ j. tree_of j.now) result ≡ second (trees items.now) }
@@ -61,7 +61,7 @@ pub(crate) fn second(items: &[Json]) -> Option<&Json>
     }
 }
 
-/// The text that is the element behind the name.
+/// The text that is the element after the name.
 pub(crate) fn second_text(items: &[Json]) -> Option<&Text>
     ensures { option_map (λ t. t.now) result ≡ second_text (trees items.now) }
 {

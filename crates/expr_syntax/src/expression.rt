@@ -13,126 +13,71 @@ use prop_values::{Item, Value, Want};
 use std::alloc::{AllocError, Global};
 use std::marker::Model;
 
-/// What a node does with its arguments (MapLibre style specification, version 8, expressions), with its
-/// parts. `name` gives its row in the table of operators.
+/// What a node does with its arguments, with its parts. `name` gives its row in the table of operators.
+/// Source: MapLibre style specification, version 8, expressions.
 #[derive(Drop)]
 pub enum Operator {
     /// `array`: the items and the length, where they are asked.
     Array(Option<Item>, Option<u32>),
-    /// `boolean`.
     Boolean,
-    /// `number`.
     Number,
-    /// `string`.
     String,
-    /// `object`.
     Object,
-    /// `to-boolean`.
     ToBoolean,
-    /// `to-color`.
     ToColor,
-    /// `to-number`.
     ToNumber,
-    /// `to-string`.
     ToString,
-    /// `typeof`.
     TypeOf,
-    /// `get`.
     Get,
-    /// `has`.
     Has,
-    /// `properties`.
     Properties,
-    /// `id`.
     Id,
-    /// `geometry-type`.
     GeometryType,
-    /// `feature-state`.
     FeatureState,
-    /// `at`.
     At,
-    /// `in`.
     In,
-    /// `index-of`.
     IndexOf,
-    /// `length`.
     Length,
-    /// `slice`.
     Slice,
-    /// `!`.
     Not,
-    /// `==`.
     Equal,
-    /// `!=`.
     NotEqual,
-    /// `<`.
     Less,
-    /// `<=`.
     LessOrEqual,
-    /// `>`.
     Greater,
-    /// `>=`.
     GreaterOrEqual,
-    /// `all`.
     All,
-    /// `any`.
     Any,
-    /// `case`.
     Case,
-    /// `match`.
     Match(Labels),
-    /// `coalesce`.
     Coalesce,
-    /// `step`.
     Step(Inputs),
-    /// `interpolate`.
     Interpolate(Ramp),
-    /// `let`.
     Let(Names),
-    /// `var`.
     Var(Text),
-    /// `zoom`.
     Zoom,
-    /// `concat`.
     Concat,
-    /// `rgb`.
     Rgb,
-    /// `rgba`.
     Rgba,
-    /// `to-rgba`.
     ToRgba,
-    /// `+`.
     Add,
-    /// `*`.
     Multiply,
-    /// `-`.
     Subtract,
-    /// `/`.
     Divide,
-    /// `%`.
     Remainder,
-    /// `abs`.
     Abs,
-    /// `ceil`.
     Ceil,
-    /// `floor`.
     Floor,
-    /// `round`.
     Round,
-    /// `min`.
     Min,
-    /// `max`.
     Max,
-    /// `image`.
     Image,
-    /// `is-supported-script`.
     IsSupportedScript,
     /// `format`: what its arguments are.
     Format(Pieces),
 }
 
 impl Operator {
-    /// The name of the operator.
     pub fn name(&self) -> Name
         ensures { result ≡ operator_name self.now }
     {
@@ -313,7 +258,6 @@ impl Model for Arguments {
 }
 
 impl Arguments {
-    /// No arguments.
     pub fn new(alloc: Global) -> Arguments
         ensures { result ≡ [] }
     {

@@ -8,13 +8,12 @@ use decimal_json::Path;
 pub enum SynCode {
     /// An array is empty or does not begin with a text.
     NoOperator,
-    /// No operator has the name.
     UnknownOperator,
     /// The operator does not take so many elements.
     Arity,
-    /// A part of the operator is not of its form, or stands twice, or is out of order.
+    /// A part of the operator is not of its form, or occurs twice, or is out of order.
     Part,
-    /// An object stands where an expression has to.
+    /// There is an object where an expression has to be.
     BareObject,
     /// A number is past the bound.
     NumberRange,
@@ -23,7 +22,6 @@ pub enum SynCode {
 }
 
 impl SynCode {
-    /// The name that is printed.
     pub fn name(self) -> &'static str
         ensures { result.now ≡ code_name self }
     {

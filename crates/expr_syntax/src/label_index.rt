@@ -73,7 +73,7 @@ impl LabelIndex {
     }
 }
 
-/// The index of labels, or none where one stands twice.
+/// The index of labels, or none where one occurs twice.
 #[tactic(auto, using(crate::proofs::LabelIndexLaws::index_rules))]
 pub(crate) fn index_of(alloc: Global, labels: &[Labelled]) -> Result<Option<LabelIndex>, AllocError>
     ensures { IfOk result (λ index. IsIndexOrNone index labels.now) }
@@ -88,7 +88,6 @@ pub(crate) fn index_of(alloc: Global, labels: &[Labelled]) -> Result<Option<Labe
     Ok(Some(index))
 }
 
-/// The output of a label.
 fn output_at(index: &LabelIndex, label: &Label) -> Option<usize>
     ensures { result ≡ output_at index.now label.now }
 {

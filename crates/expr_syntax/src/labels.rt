@@ -23,7 +23,7 @@ pub(crate) struct Collected {
     past: bool,
 }
 
-/// `match` with its labels, which stand among the elements of its node.
+/// `match` with its labels, which are among the elements of its node.
 pub(crate) fn read_match(
     alloc: Global,
     items: &[Json],

@@ -10,53 +10,33 @@ use crate::rows::Wants::{Bindings, Conditions, Each, Input, Then, Third};
 use crate::rows::{Arity, Layout, Manner, Reads, Row, Wants};
 use prop_values::{Item, Want};
 
-/// The name of an operator (MapLibre style specification, version 8, expressions), in the order of the table.
-/// Those behind `format` are outside of what is evaluated.
+/// The name of an operator, in the order of the table: lower case with hyphens, where nothing else is said.
+/// Those after `format` are outside of what is evaluated. Source: MapLibre style specification, version 8,
+/// expressions.
 #[derive(Clone, Copy, Debug, PartialEq, Eq)]
 pub enum Name {
-    /// `literal`.
     Literal,
-    /// `array`.
     Array,
-    /// `boolean`.
     Boolean,
-    /// `number`.
     Number,
-    /// `string`.
     String,
-    /// `object`.
     Object,
-    /// `to-boolean`.
     ToBoolean,
-    /// `to-color`.
     ToColor,
-    /// `to-number`.
     ToNumber,
-    /// `to-string`.
     ToString,
     /// `typeof`.
     TypeOf,
-    /// `get`.
     Get,
-    /// `has`.
     Has,
-    /// `properties`.
     Properties,
-    /// `id`.
     Id,
-    /// `geometry-type`.
     GeometryType,
-    /// `feature-state`.
     FeatureState,
-    /// `at`.
     At,
-    /// `in`.
     In,
-    /// `index-of`.
     IndexOf,
-    /// `length`.
     Length,
-    /// `slice`.
     Slice,
     /// `!`.
     Not,
@@ -72,33 +52,19 @@ pub enum Name {
     Greater,
     /// `>=`.
     GreaterOrEqual,
-    /// `all`.
     All,
-    /// `any`.
     Any,
-    /// `case`.
     Case,
-    /// `match`.
     Match,
-    /// `coalesce`.
     Coalesce,
-    /// `step`.
     Step,
-    /// `interpolate`.
     Interpolate,
-    /// `let`.
     Let,
-    /// `var`.
     Var,
-    /// `zoom`.
     Zoom,
-    /// `concat`.
     Concat,
-    /// `rgb`.
     Rgb,
-    /// `rgba`.
     Rgba,
-    /// `to-rgba`.
     ToRgba,
     /// `+`.
     Add,
@@ -110,81 +76,46 @@ pub enum Name {
     Divide,
     /// `%`.
     Remainder,
-    /// `abs`.
     Abs,
-    /// `ceil`.
     Ceil,
-    /// `floor`.
     Floor,
-    /// `round`.
     Round,
-    /// `min`.
     Min,
-    /// `max`.
     Max,
-    /// `image`.
     Image,
-    /// `is-supported-script`.
     IsSupportedScript,
-    /// `global-state`.
     GlobalState,
-    /// `format`.
     Format,
-    /// `upcase`.
     Upcase,
-    /// `downcase`.
     Downcase,
-    /// `collator`.
     Collator,
-    /// `resolved-locale`.
     ResolvedLocale,
-    /// `number-format`.
     NumberFormat,
-    /// `within`.
     Within,
-    /// `distance`.
     Distance,
-    /// `interpolate-hcl`.
     InterpolateHcl,
-    /// `interpolate-lab`.
     InterpolateLab,
     /// `^`.
     Power,
-    /// `sqrt`.
     Sqrt,
-    /// `ln`.
     Ln,
-    /// `log10`.
     Log10,
-    /// `log2`.
     Log2,
-    /// `sin`.
     Sin,
-    /// `cos`.
     Cos,
-    /// `tan`.
     Tan,
-    /// `asin`.
     Asin,
-    /// `acos`.
     Acos,
-    /// `atan`.
     Atan,
-    /// `e`.
     E,
-    /// `pi`.
     Pi,
-    /// `ln2`.
     Ln2,
-    /// `heatmap-density`.
     HeatmapDensity,
-    /// `line-progress`.
     LineProgress,
-    /// `accumulated`.
     Accumulated,
 }
 
-/// How the elements of a node stand: a part of its row.
+/// The order of the elements of a node: a part of its row.
 #[derive(Clone, Copy, Debug, PartialEq, Eq)]
 pub(crate) struct Shape {
     /// Whether the operator is outside of what is evaluated.
@@ -196,7 +127,7 @@ pub(crate) struct Shape {
 }
 
 impl Name {
-    /// How the elements of its nodes stand.
+    /// The order of the elements of its nodes.
     pub(crate) fn shape(self) -> Shape
         ensures is_outside { result.is_outside ≡ (row self).is_outside }
         ensures arity { result.arity ≡ (row self).arity }
@@ -231,7 +162,6 @@ pub fn operator_named(text: &str) -> Option<Name>
     }
 }
 
-// The name of a slot.
 #[tactic(auto, using(crate::proofs::NameLaws::slot_place), unfolding(crate::specs::Slots::slots))]
 fn name_in(slot: usize) -> Name
     requires { slot < 256 }

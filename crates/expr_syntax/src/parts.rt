@@ -51,7 +51,7 @@ impl Model for Labels {
 }
 
 impl Labels {
-    /// Labels, or none where one stands twice.
+    /// Labels, or none where one occurs twice.
     pub(crate) fn of(alloc: Global, labels: LabelList) -> Result<Option<Labels>, AllocError>
         ensures { IfOk result (λ made. made ≡ distinct_labels labels) }
     {

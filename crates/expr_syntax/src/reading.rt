@@ -63,7 +63,7 @@ pub fn read_with(
     }
 }
 
-/// Whether a `global-state` node stands in an expression.
+/// Whether an expression contains a `global-state` node.
 pub fn uses_globals(json: &Json) -> bool
     ensures { result ≡ uses_globals (tree_of json.now) }
 {
@@ -195,7 +195,7 @@ fn read_arguments<'x>(
     Ok(Ok(arguments))
 }
 
-// The contents of a `format` and the options behind them.
+// The contents of a `format` and the options after them.
 #[tactic(auto, using(crate::proofs::ElementLaws::reading_rules))]
 #[cycle(reading)]
 fn read_sections(

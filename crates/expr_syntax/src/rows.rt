@@ -6,7 +6,7 @@ ghost use Rattle.expr_syntax.specs.Rows.{allows, element_place, wanted, is_input
 
 use prop_values::Want;
 
-/// A row of the table of operators (MapLibre style specification, version 8, expressions).
+/// A row of the table of operators. Source: MapLibre style specification, version 8, expressions.
 #[derive(Clone, Copy, Debug, PartialEq, Eq)]
 pub struct Row {
     /// The name as it is written.
@@ -17,7 +17,6 @@ pub struct Row {
     pub arity: Arity,
     /// Which elements are arguments.
     pub layout: Layout,
-    /// What each argument is wanted as.
     pub wants: Wants,
     /// The argument, counted from 0, that has to be a text or a list.
     pub sequence: Option<usize>,
@@ -27,7 +26,7 @@ pub struct Row {
     pub reads: Reads,
 }
 
-/// Numbers of elements behind a name.
+/// Numbers of elements after a name.
 #[derive(Clone, Copy, Debug, PartialEq, Eq)]
 pub enum Arity {
     Exactly(usize),
@@ -39,10 +38,9 @@ pub enum Arity {
     EvenFrom(usize),
 }
 
-/// What the elements behind a name are.
+/// What the elements after a name are.
 #[derive(Clone, Copy, Debug, PartialEq, Eq)]
 pub enum Layout {
-    /// Arguments.
     Arguments,
     /// Arguments, one of which is the value of the node.
     Choices,

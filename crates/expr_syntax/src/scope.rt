@@ -8,7 +8,8 @@ ghost use Rattle.expr_syntax.specs.BoundNames.{is_among};
 use crate::bound_names::Names;
 use prop_values::{Entries, Value};
 
-/// The names around an expression: the values of the global state, and inside of them the names of each `let`.
+/// The names around an expression: the values of the global state, and inside of them the names of each
+/// `let`.
 #[derive(Drop)]
 pub(crate) enum Scope<'a> {
     Globals(&'a Entries),

@@ -1,4 +1,4 @@
-//! Whether a node of some sort stands in a tree.
+//! Whether a tree contains a node of some sort.
 
 ghost use Rattle.expr_syntax.specs.Rows.{allows};
 ghost use Rattle.std.specs.Prelude.{◌≡◌, length, false, Some, ◌-◌};
@@ -22,7 +22,7 @@ pub(crate) enum Sought {
     Global,
 }
 
-/// Whether a node that is sought stands in a tree. `format` says whether a `format` node may stand at its root.
+/// Whether a tree contains a node that is sought. `format` says whether a `format` node may be at its root.
 #[tactic(auto, using(crate::proofs::ElementLaws::standing_rules))]
 #[cycle(standing)]
 pub(crate) fn stands(sought: Sought, json: &Json, format: bool) -> bool
@@ -77,7 +77,7 @@ fn stands_in_elements(sought: Sought, layout: Layout, items: &[Json], format: bo
     false
 }
 
-// The contents of a `format` and the options behind them. The name, which is a text, counts as no content.
+// The contents of a `format` and the options after them. The name, which is a text, counts as no content.
 #[tactic(auto, using(crate::proofs::ElementLaws::standing_rules))]
 #[cycle(standing)]
 fn stands_in_sections(sought: Sought, items: &[Json]) -> bool

@@ -9,7 +9,6 @@ use std::collections::BTreeMap;
 
 pub(crate) type TextNumbers = BTreeMap<BoxedStr, usize>;
 
-/// The number of a text.
 pub(crate) fn number_of_text(texts: &TextNumbers, text: &str) -> Option<usize>
     ensures { result ≡ number_of_text texts.now text.now }
 {

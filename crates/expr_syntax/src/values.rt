@@ -51,7 +51,7 @@ pub(crate) fn read_operator(
     }
 }
 
-// `array`, by the elements behind its name.
+// `array`, by the elements after its name.
 #[tactic(auto, using(crate::proofs::PartLaws::array_rules))]
 fn read_array(elements: &[Json]) -> Result<Operator, SynCode>
     ensures { result ≡ array_operator (trees elements.now) }
@@ -205,7 +205,7 @@ fn steps_up(before: &Option<Fixed>, input: &Option<Fixed>) -> bool
     }
 }
 
-// The interpolation of a node, which stands behind its name.
+// The interpolation of a node, which follows its name.
 fn curve_in(items: &[Json]) -> Option<Curve>
     ensures curve { result ≡ curve_in (second (trees items.now)) }
     ensures base { IfSome result HasPositiveBase }

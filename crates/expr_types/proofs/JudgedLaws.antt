@@ -37,7 +37,7 @@ pub judged_fault : (t : Typed) (e : TypeFault) (pair : Judged) → Err e ≡ roo
 judged_fault (Ok f) e pair is = absurd (cc)
 judged_fault (Err g) e pair is = cc
 
--- what stands where it may not
+-- what is where it may not be
 stray_by : (unread zoom : Option (List PathPart)) (row : Option RowData) (f : Found) (pair : Judged) → (vs : List Visit) → unread ≡ first_unread (allowed_by row) vs → zoom ≡ first_stray_zoom vs → stray_or unread zoom (is_some row) pair ≡ judged pair (allowed row vs (Ok f))
 stray_by (Some path) zoom row f pair vs u z = rw (← u) refl
 stray_by None (Some path) (Some row) f pair vs u z = rw (← u) (rw (← z) refl)

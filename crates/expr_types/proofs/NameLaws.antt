@@ -26,6 +26,6 @@ some_from (n ∷ names) (k ∷ kinds) asked i j (suc m) other l h q =
 pub no_kind : (names : List (List ℕ)) (kinds : List Kind) (asked : List ℕ) → last_place 0 names asked ≡ None → last_kind (frame names kinds) asked ≡ None
 no_kind names kinds asked h = none_from 0 names kinds asked h
 
--- and the kind of one that has a place stands there
+-- and the kind of a name that has a place is there
 pub kind_there : (names : List (List ℕ)) (kinds : List Kind) (asked : List ℕ) (place : ℕ) (other : Kind) → length names ≡ length kinds → last_place 0 names asked ≡ Some place → last_kind (frame names kinds) asked ≡ Some (slice_index_or kinds place other)
 kind_there names kinds asked place other l h = some_from names kinds asked 0 place place other l h (omega arith)

@@ -1,4 +1,4 @@
--- Where the arguments of operators other than `array` and `format` stand.
+-- The places of the arguments of operators other than `array` and `format`.
 use Rattle.std.proofs.Common.{◌≡◌, List, ℕ, refl}
 use Rattle.std.specs.Prelude.{Option}
 use Rattle.prop_values.specs.declared.kinds.Item.{Item}

@@ -46,7 +46,7 @@ steps_step xs want es k e is there same =
 and_left : (b c : Bool) → b ≡ false → (b && c) ≡ false
 and_left b c misses = ap (λ d. d && c) misses
 
--- an output that is no literal that fits, and one behind which the next is near
+-- an output that is no literal that fits, and one after which the next is near
 pub unfitting : (xs : List ℤ) (want : Want) (es : List Expr) (k : ℕ) (e : Expr) (all : Bool) → steps_are_near (drop k xs) want (literals_of (drop k es)) ≡ all → e ≡ get_or es k e → k < length es → length xs ≡ length es → is_fitting want (literal_of (term_of e)) ≡ false → false ≡ all
 unfitting xs want es k e all inv is there same misses =
     sym (steps_step xs want es k e is there same ∙ and_left (is_fitting want (literal_of (term_of e))) (next_from (drop k xs) (literals_of (drop k es)) && steps_are_near (drop (k + 1) xs) want (literals_of (drop (k + 1) es))) misses) ∙ inv

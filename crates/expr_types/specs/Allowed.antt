@@ -1,4 +1,5 @@
--- What a value or a filter may read, and where the zoom may stand in a value (MapLibre style specification, version 8, layers).
+-- What a value or a filter may read, and where the zoom may be in a value. Source: MapLibre style
+-- specification, version 8, layers.
 use Rattle.std.specs.Prelude.{ℕ, List, [], ◌∷◌, Bool, true, false, not, ◌&&◌, ◌||◌, Option, Some, None, if◌then◌else◌}
 use Rattle.decimal_json.specs.declared.paths.PathPart.{PathPart}
 use Rattle.property_tables.specs.Rows.{RowData}
@@ -30,7 +31,7 @@ abbrev pub is_input : Standing → Bool
 is_input Input = true
 is_input standing = false
 
--- The first `zoom` that is no input of a root, or stands after another. A filter has it anywhere.
+-- The first `zoom` that is no input of a root, or is after another. A filter has it anywhere.
 abbrev pub first_zoom_after : List Visit → Option (List PathPart)
 first_zoom_after [] = None
 first_zoom_after (v ∷ vs) = if v.reads.zoom then Some v.path else first_zoom_after vs

@@ -1,4 +1,4 @@
--- Where the arguments of a node stand among its elements.
+-- The places of the arguments of a node among its elements.
 use Rattle.std.specs.Prelude.{ℕ, ◌+◌, ◌*◌, List, [], ◌∷◌, ◌++◌, Bool, nat_eq, codes, Option, Some, None, if◌then◌else◌}
 use Rattle.std.specs.List.{slice_get}
 use Rattle.decimal_json.specs.declared.paths.PathPart.{PathPart}
@@ -15,7 +15,7 @@ use Rattle.expr_syntax.specs.Names.{row}
 use Rattle.expr_syntax.specs.Operators.{operator_name}
 use Rattle.expr_syntax.specs.Rows.{is_last}
 
--- The element that is the argument k of m arguments. The name is element 0, and parts stand between arguments.
+-- The element that is the argument k of m arguments. The name is element 0, and parts are between arguments.
 abbrev pub element_of : Layout → ℕ → ℕ → ℕ
 element_of Labels m k = if nat_eq k 0 then 1 else if is_last m k then 2 * k else 2 * k + 1
 element_of Stops m k = if nat_eq k 0 then 1 else 2 * k

@@ -1,5 +1,5 @@
--- Arithmetic: where a number may pass the bound, and where a divisor may be 0 (MapLibre style specification, version 8, expressions,
--- over numbers as whole millionths).
+-- Arithmetic: where a number may pass the bound, and where a divisor may be 0. Source: MapLibre style
+-- specification, version 8, expressions, over numbers as whole millionths.
 use Rattle.std.specs.Prelude.{ℕ, pos, List, [], ◌∷◌, Bool, true, false, not, Option, Some, None}
 use Rattle.std.specs.Ordering.{int_eq}
 use Rattle.prop_values.specs.Data.{Data, number}

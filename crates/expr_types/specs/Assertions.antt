@@ -1,5 +1,5 @@
--- Assertions and conversions: the faults of those whose argument may be of another form (MapLibre style specification, version 8,
--- expressions).
+-- Assertions and conversions: the faults of those whose argument may be of another form. Source: MapLibre
+-- style specification, version 8, expressions.
 use Rattle.std.specs.Prelude.{ℕ, List, [], ◌∷◌, Bool, true, false, not, ◌||◌, is_some, Option, Some, None}
 use Rattle.prop_values.specs.Data.{Data, text}
 use Rattle.prop_values.specs.declared.fault.EvalFault.TheVariants.{WrongType, NotColor, NotNumberText}

@@ -1,5 +1,5 @@
--- The check of an expression: its first type fault, then the first node that reads what may not be read there, then the first `zoom`
--- that stands elsewhere.
+-- The check of an expression: its first type fault, then the first node that reads what may not be read
+-- there, then the first `zoom` that is not the input of the root.
 use Rattle.std.specs.Prelude.{ℕ, List, [], Option, Some, None, Result, Ok, Err}
 use Rattle.decimal_json.specs.declared.paths.PathPart.{PathPart}
 use Rattle.prop_values.specs.declared.kinds.Want.{Want}
@@ -25,6 +25,6 @@ allowed row vs (Err f) = Err f
 abbrev pub checked : Term → Want → Option RowData → Typed
 checked t want row = allowed row (visits t Reached []) (typed t want [] [])
 
--- by itself: every input is allowed, and `zoom` may stand anywhere
+-- by itself: every input is allowed, and `zoom` may be anywhere
 abbrev pub checked_free : Term → Typed
 checked_free t = typed t wants.Any [] []

@@ -1,5 +1,5 @@
--- Kinds that may be compared (MapLibre style specification, version 8, expressions, as this project takes them). An image counts as
--- anything.
+-- Kinds that may be compared. An image counts as anything. Source: MapLibre style specification, version 8,
+-- expressions, as this project takes them.
 use Rattle.std.specs.Prelude.{Bool, true, false, not, ◌&&◌, ◌||◌, List, [], ◌∷◌, Option, Some, None, if◌then◌else◌}
 use Rattle.prop_values.specs.Faults.{no_faults}
 use Rattle.prop_values.specs.declared.fault.EvalFault.TheVariants.{NotOrdered}

@@ -1,5 +1,5 @@
--- How a kind fits a want, the kind of a node under a want, and the faults of a fit that may fail (MapLibre style specification,
--- version 8, types of expressions, as this project takes them).
+-- How a kind fits a want, the kind of a node under a want, and the faults of a fit that may fail.
+-- Source: MapLibre style specification, version 8, types of expressions, as this project takes them.
 use Rattle.std.specs.Prelude.{ℕ, Bool, true, false, ◌&&◌, ◌||◌, nat_eq, Option, Some, None, if◌then◌else◌}
 use Rattle.prop_values.specs.Faults.{no_faults, one_fault, union}
 use Rattle.prop_values.specs.declared.fault.EvalFault.TheVariants.{WrongType, NotColor, NotInEnum}
@@ -43,7 +43,8 @@ is_any_item i = same_item i items.Any
 abbrev pub is_open : Option ℕ → Bool
 is_open n = same_count n None
 
--- A list of i, n of them, where j, m of them, are wanted: each part that is wanted is known; else none that is known differs.
+-- A list of i, n of them, where j, m of them, are wanted: each part that is wanted is known; else none that
+-- is known differs.
 abbrev pub list_fit : Item → Option ℕ → Item → Option ℕ → Fit
 list_fit i n j m =
     if (is_any_item j || same_item i j) && (is_open m || same_count n m) then Always
@@ -92,8 +93,8 @@ wanted_kind (wants.List i n) = kinds.List i n
 wanted_kind (wants.Enum c) = kinds.Text
 wanted_kind (wants.EnumList c) = kinds.List items.Text None
 
--- The kind of a node under a want: the want's, where it is not Any. Under a list of anything, and of any number, a list keeps its
--- own kind.
+-- The kind of a node under a want: the want's, where it is not Any. Under a list of anything, and of any
+-- number, a list keeps its own kind.
 abbrev pub list_under : Item → Option ℕ → Item → Option ℕ → Kind
 list_under items.Any None i n = kinds.List i n
 list_under j m i n = kinds.List j m

@@ -61,7 +61,7 @@ abbrev pub judged : Judged → Typed → Result Judged TypeFault
 judged pair (Ok found) = Ok pair
 judged pair (Err f) = Err f
 
--- where nothing stands where it may not
+-- where nothing is where it may not be
 abbrev pub zoom_or : Option (List PathPart) → Bool → Judged → Result Judged TypeFault
 zoom_or (Some path) has_row pair = if has_row then Err (record { path = path; code = codes.ZoomPlace }) else Ok pair
 zoom_or None has_row pair = Ok pair

@@ -1,4 +1,4 @@
--- How proofs tell checked expressions apart.
+-- What the codes that contracts see say of the judgement of an expression.
 use base.Stored.{Coded, coded×}
 use Rattle.prop_values.specs.contracts.kinds.Want as want
 use Rattle.expr_syntax.specs.TermCode.{term_code}

@@ -1,4 +1,5 @@
--- To be believed: how a kind fits a want, the kind and the faults of each operator, and of an expression under a want.
+-- To be believed: how a kind fits a want, the kind and the faults of each operator, and of an expression
+-- under a want.
 pub mod FaultName
 pub mod Fits
 pub mod Literals

@@ -1,4 +1,5 @@
--- The kinds of literals (MapLibre style specification, version 8, types of expressions, as this project takes them).
+-- The kinds of literals. Source: MapLibre style specification, version 8, types of expressions, as this
+-- project takes them.
 use Rattle.std.specs.Prelude.{ℕ, Bool, true, false, nat_lt, Option, Some, None, Result, Ok, Err, if◌then◌else◌}
 use Rattle.prop_values.specs.Data.{Data, null, boolean, number, text, color, list, map, Items, no_items, item}
 use Rattle.prop_values.specs.declared.fault.EvalFault.{EvalFault}
@@ -45,7 +46,8 @@ literal_kind (color c) = kinds.Color
 literal_kind (list ds) = kinds.List (item_of ds) (count_of (item_count ds))
 literal_kind (map ps) = kinds.Object
 
--- A literal whose kind says no more than that it may fit, and which fits: the text of a color, a text of a set, a list of such texts.
+-- A literal whose kind says no more than that it may fit, and which fits: the text of a color, a text of a
+-- set, a list of such texts.
 abbrev pub surely_fits : Want → Data → Bool
 surely_fits wants.Color (text s) = is_value (fit wants.Color (text s))
 surely_fits (wants.Enum c) (text s) = is_value (fit (wants.Enum c) (text s))

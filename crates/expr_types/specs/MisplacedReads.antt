@@ -1,4 +1,5 @@
--- What a walk over the nodes has found so far: the first that reads what it may not, and the first `zoom` that is misplaced.
+-- What a walk over the nodes has found so far: the first that reads what it may not, and the first `zoom`
+-- that is misplaced.
 use Rattle.std.specs.Prelude.{ℕ, List, [], ◌∷◌, Bool, false, not, ◌&&◌, ◌||◌, Option, Some, None, if◌then◌else◌}
 use Rattle.decimal_json.specs.declared.paths.PathPart.{PathPart}
 use Rattle.expr_types.specs.Allowed.{Allowed, is_input}

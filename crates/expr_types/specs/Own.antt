@@ -1,4 +1,5 @@
--- What a node has of its own: its kind before it takes the want's, a type fault, and the faults that it may give.
+-- What a node has of its own: its kind before it takes the want's, a type fault, and the faults that it may
+-- give.
 use Rattle.std.specs.Prelude.{ℕ, List, [], ◌∷◌, Bool, true, false, ◌&&◌, ◌||◌, Option, Some, None, if◌then◌else◌}
 use Rattle.prop_values.specs.Data.{Data}
 use Rattle.prop_values.specs.Faults.{no_faults, one_fault}

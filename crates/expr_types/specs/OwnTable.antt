@@ -1,5 +1,5 @@
--- What each operator has of its own, in the order of the table (MapLibre style specification, version 8, expressions, with types as
--- this project takes them).
+-- What each operator has of its own, in the order of the table. Source: MapLibre style specification, version
+-- 8, expressions, with types as this project takes them.
 use Rattle.std.specs.Prelude.{ℕ, ◌+◌, List, [], ◌∷◌, length, drop, Bool, true, false, not, ◌||◌, Option, Some, None, if◌then◌else◌}
 use Rattle.prop_values.specs.Data.{Data}
 use Rattle.prop_values.specs.Faults.{no_faults, one_fault}

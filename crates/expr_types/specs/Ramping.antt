@@ -1,5 +1,5 @@
--- `interpolate`: what may be interpolated, and when a number may pass the bound (MapLibre style specification, version 8, expressions,
--- as this project takes them).
+-- `interpolate`: what may be interpolated, and when a number may pass the bound. Source: MapLibre style
+-- specification, version 8, expressions, as this project takes them.
 use Rattle.std.specs.Prelude.{ℕ, ◌*◌, ℤ, ◌-ℤ◌, unsigned_abs, nat_le, List, [], ◌∷◌, drop, Bool, true, false, not, ◌&&◌, ◌||◌, Option, Some, None, Result, Ok, Err, if◌then◌else◌}
 use Rattle.prop_values.specs.Data.{Data, number, list, Items, no_items, item}
 use Rattle.prop_values.specs.declared.fault.EvalFault.{EvalFault}

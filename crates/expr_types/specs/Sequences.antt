@@ -1,5 +1,5 @@
--- Operators over texts and lists: an argument that has to be one of the two, and their own kinds (MapLibre style specification,
--- version 8, expressions).
+-- Operators over texts and lists: an argument that has to be one of the two, and their own kinds.
+-- Source: MapLibre style specification, version 8, expressions.
 use Rattle.std.specs.Prelude.{ℕ, List, [], ◌∷◌, Option, None, not}
 use Rattle.prop_values.specs.Faults.{no_faults, one_fault, union}
 use Rattle.prop_values.specs.declared.fault.EvalFault.TheVariants.{IndexOutside, IndexNotWhole}

@@ -1,4 +1,5 @@
--- What the check of arguments has found so far, and what the program's own check of an expression is to definitions.
+-- What the check of arguments has found so far, and what the program's own check of an expression is to
+-- definitions.
 use Rattle.std.specs.Prelude.{ℕ, List, [], ◌∷◌, ◌++◌, ◌+◌, length, Result, Ok, Err}
 use Rattle.decimal_json.specs.declared.paths.Here.{Here}
 use Rattle.decimal_json.specs.declared.paths.PathPart.{PathPart}

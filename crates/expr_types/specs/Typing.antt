@@ -1,5 +1,5 @@
--- The kind of an expression under a want with the faults that it may give, or its type fault (MapLibre style specification, version 8,
--- types of expressions, as this project takes them).
+-- The kind of an expression under a want with the faults that it may give, or its type fault.
+-- Source: MapLibre style specification, version 8, types of expressions, as this project takes them.
 use Rattle.std.specs.Prelude.{ℕ, ◌+◌, List, [], ◌∷◌, ◌++◌, length, take, drop, map, nat_eq, Bool, true, false, Option, Some, None, Result, Ok, Err, if◌then◌else◌}
 use Rattle.decimal_json.specs.declared.paths.PathPart.{PathPart}
 use Rattle.prop_values.specs.Data.{Data}
@@ -127,7 +127,7 @@ and_found (Ok found) (Ok founds) = Ok (found ∷ founds)
 and_found (Ok found) (Err f) = Err f
 and_found (Err f) later = Err f
 
--- the arguments from that of place k on, from left to right: the first fault stands for all
+-- the arguments from that of place k on, from left to right: the first fault is the fault of all
 abbrev pub founds_of : Operator → ℕ → ℕ → List Typing → Want → Scope → List PathPart → Result (List Found) TypeFault
 founds_of op m k [] want scope path = Ok []
 founds_of op m k (typing ∷ typings) want scope path =

@@ -1,4 +1,4 @@
--- The nodes of an expression in document order, each with its path, what it reads, and where it stands.
+-- The nodes of an expression in document order, each with its path, what it reads, and where it is.
 use Rattle.std.specs.Prelude.{ℕ, ◌+◌, List, [], ◌∷◌, ◌++◌, nat_eq, if◌then◌else◌}
 use Rattle.decimal_json.specs.declared.paths.PathPart.{PathPart}
 use Rattle.expr_syntax.specs.declared.expression.Operator.{Operator}
@@ -16,8 +16,8 @@ pub record Visit : Type 0 where
   pub standing : Standing
   pub path : List PathPart
 
--- The root is reached, and from a node that is reached the results of `let` and the arguments of `coalesce` are; the input of a `step`
--- or `interpolate` that is reached stands as its input.
+-- The root is reached, and from a node that is reached the results of `let` and the arguments of `coalesce`
+-- are; the input of a `step` or `interpolate` that is reached has the place of its input.
 abbrev pub below_reached : Operator → ℕ → ℕ → Standing
 below_reached Coalesce m k = Reached
 below_reached (Let names) m k = if is_last m k then Reached else Elsewhere
@@ -29,7 +29,7 @@ abbrev pub standing_of : Standing → Operator → ℕ → ℕ → Standing
 standing_of Reached op m k = below_reached op m k
 standing_of standing op m k = Elsewhere
 
--- what stands there
+-- what is at a place
 abbrev pub Visiting : Type 0
 Visiting = Standing → List PathPart → List Visit
 

@@ -1,4 +1,4 @@
-//! Where the arguments of a node stand among its elements.
+//! The places of the arguments of a node among its elements.
 
 ghost use Rattle.std.specs.Prelude.{◌≡◌, ◌<◌, ◌^◌, option_map};
 ghost use Rattle.expr_types.specs.ArgumentPaths.{element_of, element_at, key_at, role_key};

@@ -30,8 +30,8 @@ pub(crate) struct ArgumentKinds {
     may: FaultSet,
 }
 
-/// What the arguments of a node are checked by: the operator, the want under which the node is checked, the names around it, and where
-/// it is.
+/// What the arguments of a node are checked by: the operator, the want under which the node is checked, the
+/// names around it, and where it is.
 #[derive(Drop)]
 pub(crate) struct NodeContext<'x> {
     op: &'x Operator,
@@ -48,7 +48,8 @@ pub(crate) struct Checking {
 }
 
 impl Checking {
-    /// What is known of an expression under a want, in the names around it. The places of its nodes are added.
+    /// What is known of an expression under a want, in the names around it. The places of its nodes are
+    /// added.
     #[tactic(auto, using(expr_syntax::proofs::Falls::argument_weight))]
     #[cycle(checking)]
     pub(crate) fn check_expression<'x>(

@@ -3,7 +3,7 @@ ghost use Rattle.expr_types.specs.FaultName.{code_name};
 
 use decimal_json::Path;
 
-/// Why an expression has no kind, or may not stand where it does. Of two at one node the earlier counts.
+/// Why an expression has no kind, or may not be at its place. Of two at one node the earlier counts.
 #[derive(Clone, Copy, Debug, PartialEq, Eq)]
 pub enum TypeCode {
     /// What an expression gives can never be what is wanted.
@@ -19,7 +19,6 @@ pub enum TypeCode {
 }
 
 impl TypeCode {
-    /// The name that is printed.
     pub fn name(self) -> &'static str
         ensures { result.now ≡ code_name self }
     {

@@ -201,7 +201,6 @@ fn misfits(want: &Want, kind: Kind) -> FaultSet
     }
 }
 
-/// The faults of a fit.
 pub(crate) fn fit_faults(fit: Fit, want: &Want, kind: Kind) -> FaultSet
     ensures { result ≡ fit_faults fit want.now kind }
 {

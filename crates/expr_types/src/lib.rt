@@ -1,5 +1,5 @@
-//! The types of expressions (MapLibre style specification, version 8, as this project takes them): the kind of what an expression gives,
-//! and the faults that its evaluation may end with.
+//! The types of expressions: the kind of what an expression gives, and the faults that its evaluation may end
+//! with. Source: MapLibre style specification, version 8, types of expressions, as this project takes them.
 //!
 //! ```text
 //! check(alloc, &expression, &Want::Number, Some(&row))?    // Err of Kind at /1 for ["+","a",1]
@@ -8,21 +8,23 @@
 //! typed.may()                                              // WrongType and Overflow
 //! ```
 //!
-//! A kind fits a want always, maybe or never. A node whose kind never fits has no kind: that is the type fault `Kind`, and
-//! `NotComparable` and `NotInterpolable` are those of comparisons and of `interpolate`. Of the nodes that fail while their arguments do
-//! not, the first in document order counts. A fit that may fail lists its faults, and each operator those that are its own.
+//! A kind fits a want always, maybe or never. A node whose kind never fits has no kind: that is the type
+//! fault `Kind`, and `NotComparable` and `NotInterpolable` are those of comparisons and of `interpolate`. Of
+//! the nodes that fail while their arguments do not, the first in document order counts. A fit that may fail
+//! lists its faults, and each operator those that are its own.
 //!
-//! What is promised: `check_free` gives exactly the first type fault of `checked_free`, else the expression with its want; `check` the
-//! same by `checked`, and then the first node that reads what its row, or a filter, may not read, and then the first `zoom` that is
-//! elsewhere than at the input of the root. `kind`, `may`, `want_at` and `always_at` are exactly what `typed` of `specs/Typing.antt`
-//! finds. That evaluation gives no other fault, and only values of the kind, are laws of the crate `typing_laws`.
+//! What is promised: `check_free` gives exactly the first type fault of `checked_free`, else the expression
+//! with its want; `check` the same by `checked`, and then the first node that reads what its row, or a
+//! filter, may not read, and then the first `zoom` that is elsewhere than at the input of the root. `kind`,
+//! `may`, `want_at` and `always_at` are exactly what `typed` of `specs/Typing.antt` finds. That evaluation
+//! gives no other fault, and only values of the kind, are laws of the crate `typing_laws`.
 //!
-//! Time is linear in the expression, but for names: a `var` asks each `let` around it, which finds a name in logarithmic time. The
-//! recursion is as deep as the tree. Memory is taken for a path of a fault, for the kinds of arguments, and for what is known of each
-//! node.
+//! Time is linear in the expression, but for names: a `var` asks each `let` around it, which finds a name in
+//! logarithmic time. The recursion is as deep as the tree. Memory is taken for a path of a fault, for the
+//! kinds of arguments, and for what is known of each node.
 //!
-//! The text to believe is in `specs/`: `Fits`, `Literals`, `Own`, `Assertions`, `Sequences`, `Comparing`, `Ramping`, `Arithmetics`,
-//! `OwnTable`, `ArgumentPaths`, `Typing`, `Visits`, `Allowed`, `Checked`, `Judged`.
+//! The text to believe is in `specs/`: `Fits`, `Literals`, `Own`, `Assertions`, `Sequences`, `Comparing`,
+//! `Ramping`, `Arithmetics`, `OwnTable`, `ArgumentPaths`, `Typing`, `Visits`, `Allowed`, `Checked`, `Judged`.
 #![tactic(auto)]
 
 mod argument_paths;

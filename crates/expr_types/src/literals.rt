@@ -14,7 +14,6 @@ use prop_values::{Item, Kind, Value, Want, copy};
 use property_tables::fit;
 use std::alloc::{AllocError, Global};
 
-/// Whether a value fits a want.
 pub(crate) fn fits_value(alloc: Global, want: &Want, value: &Value) -> Result<bool, AllocError>
     ensures { IfOk result (λ holds. holds ≡ is_value (fit want.now (data_of value.now))) }
 {
@@ -54,7 +53,6 @@ pub(crate) fn count_of(count: usize) -> Option<u32>
     }
 }
 
-/// The kind of a literal.
 #[tactic(auto, using(crate::proofs::ItemLaws::count_items, crate::proofs::ItemLaws::some_items, crate::proofs::ItemLaws::no_items_kind))]
 pub(crate) fn literal_kind(alloc: Global, value: &Value) -> Result<Kind, AllocError>
     ensures { IfOk result (λ kind. kind ≡ literal_kind (data_of value.now)) }
@@ -86,7 +84,6 @@ pub(crate) fn surely_fits(alloc: Global, want: &Want, value: &Value) -> Result<b
     }
 }
 
-/// The value of an expression that is a literal.
 pub(crate) fn literal_of(expression: &Expr) -> Option<&Value>
     ensures { option_map (λ v. data_of v.now) result ≡ literal_of (term_of expression.now) }
 {

@@ -1,4 +1,4 @@
-//! The first nodes that stand where they may not.
+//! The first nodes that are where they may not be.
 
 ghost use Rattle.std.specs.Prelude.{◌≡◌, IfOk, option_map};
 ghost use Rattle.decimal_json.specs.Place.{path_of};
@@ -12,8 +12,9 @@ use expr_syntax::Mentions;
 use property_tables::Row;
 use std::alloc::{AllocError, Global};
 
-/// What a walk over the nodes of an expression in document order has found: the first that reads what it may not, the first `zoom`
-/// that stands elsewhere than as the input of the root, or behind another, and whether there was a `zoom`.
+/// What a walk over the nodes of an expression in document order has found: the first that reads what it may
+/// not, the first `zoom` that is not the input of the root, or is after another, and whether there was a
+/// `zoom`.
 #[derive(Drop)]
 pub(crate) struct MisplacedReads {
     pub(crate) unread: Option<Path>,

@@ -7,7 +7,8 @@ use crate::fault::TypeCode;
 use crate::fits::same_kind;
 use prop_values::{EvalFault, FaultSet, Kind};
 
-/// What a node has of its own: its kind before it takes the want's, a type fault, and the faults that it may give.
+/// What a node has of its own: its kind before it takes the want's, a type fault, and the faults that it may
+/// give.
 #[derive(Clone, Copy, Debug, PartialEq, Eq)]
 pub struct Own {
     pub kind: Kind,
@@ -46,7 +47,6 @@ pub(crate) fn ill_typed() -> Own
     }
 }
 
-/// Whether one of some kinds is this one.
 pub(crate) fn some_kind(kind: Kind, kinds: &[Kind]) -> bool
     ensures { result ≡ some_kind kind kinds.now }
 {

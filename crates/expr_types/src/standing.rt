@@ -3,7 +3,7 @@ ghost use Rattle.expr_types.specs.Visits.{below_reached, standing_of};
 
 use expr_syntax::Operator;
 
-/// Where a node stands in an expression.
+/// The place of a node in an expression.
 #[derive(Clone, Copy, Debug, PartialEq, Eq)]
 pub enum Standing {
     /// At the root, or where a node that is reached takes its value from.
@@ -14,7 +14,7 @@ pub enum Standing {
 }
 
 impl Standing {
-    /// Where the argument of a node stands, counted from 0, of so many.
+    /// The argument of a node, by its number from 0 and the number of arguments.
     pub(crate) fn of_argument(self, op: &Operator, count: usize, argument: usize) -> Standing
         requires { argument < 2 ^ 63 }
         ensures { result ≡ standing_of self op.now count argument }

@@ -22,7 +22,8 @@ use expr_syntax::{Expr, Labelled, Operator, Piece, Role};
 use prop_values::{EvalFault, FaultSet, Item, Kind, Want};
 use std::alloc::{AllocError, Global};
 
-/// What an operator has of its own, by its arguments and their kinds. `let` and `var` have it by the names around them.
+/// What an operator has of its own, by its arguments and their kinds. `let` and `var` have it by the names
+/// around them.
 pub(crate) fn own(
     alloc: Global,
     op: &Operator,

@@ -88,8 +88,9 @@ impl<'a> Typed<'a> {
     }
 }
 
-/// Checks an expression as the value of a property of a row, or as a filter where there is none: the first type fault, else the first
-/// node that reads what may not be read there, else the first `zoom` that stands elsewhere than as the input of the root.
+/// Checks an expression as the value of a property of a row, or as a filter where there is none: the first
+/// type fault, else the first node that reads what may not be read there, else the first `zoom` that is not
+/// the input of the root.
 pub fn check<'a>(
     alloc: Global,
     expression: &'a Expr,
@@ -112,7 +113,7 @@ pub fn check<'a>(
     Ok(unless_misplaced(typed, found, row.is_some()))
 }
 
-// Where nothing stands where it may not.
+// Where nothing is where it may not be.
 fn unless_misplaced<'a>(
     typed: Typed<'a>,
     found: MisplacedReads,
@@ -134,7 +135,7 @@ fn unless_misplaced<'a>(
     }
 }
 
-/// Checks an expression that stands by itself: it may read everything and give anything.
+/// Checks an expression by itself: it may read everything and give anything.
 pub fn check_free<'a>(
     alloc: Global,
     expression: &'a Expr,

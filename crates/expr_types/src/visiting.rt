@@ -25,7 +25,7 @@ pub(crate) struct Walk<'r> {
     pub(crate) row: Option<&'r Row>,
 }
 
-/// A node whose arguments are visited: its operator, where it stands, and its path.
+/// A node whose arguments are visited: its operator, its place, and its path.
 #[derive(Drop)]
 pub(crate) struct VisitedNode<'x> {
     op: &'x Operator,

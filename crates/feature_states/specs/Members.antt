@@ -19,8 +19,8 @@ members_in_layer layers layer id = unwrap_or (option_map (λ ids. members_of_id 
 abbrev pub members_in_source : {S T U : Type 0} → IndexMap (String Global) (IndexMap (String Global) (IndexMap ℕ Entries S) T) U → List ℕ → List ℕ → ℕ → List (List ℕ × Data)
 members_in_source sources source layer id = unwrap_or (option_map (λ layers. members_in_layer layers layer id) (get_by_text sources source)) []
 
--- The members that a feature has, by its source, layer and id, as a list of pairs of a key and data. A feature of
--- which nothing was told has none. Own.
+-- The members that a feature has, by its source, layer and id, as a list of pairs of a key and data. A
+-- feature that no call has named has none. Source: own.
 abbrev pub members_at : States → List ℕ → List ℕ → ℕ → List (List ℕ × Data)
 members_at states = members_in_source states.sources
 
@@ -28,7 +28,7 @@ members_at states = members_in_source states.sources
 abbrev pub same_feature : List ℕ → List ℕ → ℕ → List ℕ → List ℕ → ℕ → Bool
 same_feature source layer id s l i = bytes_eq source s && (bytes_eq layer l && nat_eq id i)
 
--- The members that are left once one is removed, or, without a key, all. Own.
+-- The members that are left once one is removed, or, without a key, all. Source: own.
 abbrev pub left_of : Option (List ℕ) → List (List ℕ × Data) → List (List ℕ × Data)
 left_of None members = []
 left_of (Some key) members = without_key key members

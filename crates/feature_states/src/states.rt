@@ -26,8 +26,8 @@ impl States {
         }
     }
 
-    /// Sets each of the members for one feature: where a key is there, its value is replaced, and new keys stand
-    /// behind the others in their order. Without members nothing changes, and no memory is taken.
+    /// Sets each of the members for one feature: where a key is there, its value is replaced, and new keys
+    /// follow the others in their order. Without members nothing changes, and no memory is taken.
     pub fn merge(
         &mut self,
         source: &str,
@@ -45,7 +45,8 @@ impl States {
         merge_source(self.alloc, &mut self.sources, source, layer, id, members)
     }
 
-    /// Removes one member of a feature, by its key, or all where no key is given. What is not there stays away.
+    /// Removes one member of a feature, by its key, or all where no key is given. What is not there stays
+    /// away.
     pub fn remove(&mut self, source: &str, layer: &str, id: u64, key: Option<&str>)
         ensures { (s l : List ℕ) (i : ℕ) → members_at self.new s l i ≡ (if same_feature source.now layer.now id s l i then left_of (option_map (λ k. k.now) key.entry) (members_at self.old s l i) else members_at self.old s l i) }
     {

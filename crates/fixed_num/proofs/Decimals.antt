@@ -17,7 +17,7 @@ use Rattle.fixed_num.specs.Saturation.{past, saturated}
 pub ten_pow : (k : ℕ) → 0 < 10 ^ k
 ten_pow k = one-le-pow k 10 (omega arith)
 
--- digits behind digits
+-- digits after digits
 pub number_of-append : (xs ys : List ℕ) → number_of (xs ++ ys) ≡ number_of xs * 10 ^ length ys + number_of ys
 number_of-append [] ys = omega arith
 number_of-append (x ∷ xs) ys =
@@ -90,7 +90,7 @@ pub saturated-far : (m j : ℕ) → saturated (m * (past * 10 ^ j)) ≡ saturate
 saturated-far zero j = omega arith
 saturated-far (suc m) j = let more : past * 1 ≤ past * 10 ^ j = mul-le-mul_left past (ten_pow j) in omega arith
 
--- with the point behind all digits
+-- with the point after all digits
 pub nearest-all : (m n kept : ℕ) → n ≤ kept → nearest (m * 10 ^ kept) (10 ^ n) ≡ m * 10 ^ (kept - n)
 nearest-all m n kept h =
     let e : 10 ^ kept ≡ 10 ^ (kept - n) * 10 ^ n = ap (λ k. 10 ^ k) (omega arith) ∙ pow-add 10 (kept - n) n in
@@ -103,7 +103,7 @@ number_of-split xs c ys =
     let e : 10 ^ length (c ∷ ys) ≡ 10 ^ length ys * 10 = pow-suc 10 (length ys) in
     number_of-append xs (c ∷ ys) ∙ rw e (omega arith)
 
--- the point behind some digits: the next one decides
+-- the point after some digits: the next one decides
 split_power : (k m : ℕ) → 10 ^ (k + suc m) ≡ (10 * 10 ^ m) * 10 ^ k
 split_power k m = pow-add 10 k (suc m) ∙ ap (λ w. 10 ^ k * w) (pow-suc 10 m) ∙ omega arith
 
@@ -143,7 +143,7 @@ zeros_enough front zeros i e = elim (cases_lt zeros 28) [
       rw (same, p) (sym (saturated-far front (zeros - 27)))
 ]
 
--- digits behind a saturated number
+-- digits after a saturated number
 pub saturated-front : (x p y : ℕ) → 0 < p → saturated (saturated x * p + y) ≡ saturated (x * p + y)
 saturated-front x p y some = elim (cases_lt past x) [
   | inl more ↦
@@ -177,7 +177,7 @@ first_digits_is xs ys k i j front both e f one two =
     rw (take-append_both xs ys k i j e f, number_of-append (take i xs) (take j ys))
     (two ∙ ap (λ n. saturated (n * 10 ^ length (take j ys) + number_of (take j ys))) first ∙ saturated-front (number_of (take i xs)) (10 ^ length (take j ys)) (number_of (take j ys)) (ten_pow (length (take j ys))))
 
--- digits before a place, at it and behind it
+-- digits before a place, at it and after it
 pub digits_at : (ds : List ℕ) (k : ℕ) → k < length ds → ds ≡ take k ds ++ get_or ds k 0 ∷ drop (suc k) ds
 digits_at ds k h = sym (take-append-drop k ds) ∙ ap (λ w. take k ds ++ w) (drop-cons ds k 0 h)
 
@@ -194,7 +194,7 @@ nearest-digits_down ds xs c ys k e f h high =
     let back = back_digits xs (c ∷ ys) ds e h in
     rw (e, f, length-append xs (c ∷ ys)) (nearest-split-down xs c ys back high)
 
--- the point behind the first k digits: where the next one rounds up, where it does not, and behind all
+-- the point after the first k digits: where the next one rounds up, where it does not, and after all
 pub moved-up : (ds : List ℕ) (k front : ℕ) → k < length ds → list_all is_ascii_digit ds ≡ true → 53 ≤ get_or ds k 0 → front ≡ saturated (number_of (take k ds))
     → min (front + 1) past ≡ saturated (nearest (number_of ds * 10 ^ k) (10 ^ length ds))
 moved-up ds k front h digits low e =
@@ -225,6 +225,6 @@ list_all-leading_digits (c ∷ cs) = elim (cases_Bool (is_ascii_digit c)) [
   | inr other ↦ rw other refl
 ]
 
--- digits behind digits are digits
+-- digits after digits are digits
 pub list_all_both : (xs ys : List ℕ) → list_all is_ascii_digit xs ≡ true → list_all is_ascii_digit ys ≡ true → list_all is_ascii_digit (xs ++ ys) ≡ true
 list_all_both xs ys h k = list_all-append is_ascii_digit xs ys ∙ and_from (list_all is_ascii_digit xs) (list_all is_ascii_digit ys) h k

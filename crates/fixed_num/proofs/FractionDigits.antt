@@ -7,7 +7,7 @@ use Rattle.std.proofs.lemmas.Nat.{div-mul-add, mod_below, div-add-mod'}
 use Rattle.std.proofs.Math.Nat.{pow-suc, one-le-pow, zero-div, zero-mod}
 use Rattle.fixed_num.specs.NumberText.{last_digits, without_end_zeros, fraction_text}
 
--- the last k digits of n, the first of them first, up to the place behind which all are zero
+-- the last k digits of n, the highest first, up to the place after which all are zero
 unfoldable pub fraction : ℕ → ℕ → List ℕ
 fraction zero n = []
 fraction (suc k) n = if nat_eq n 0 then [] else (48 + n / 10 ^ k) ∷ fraction k (n % 10 ^ k)

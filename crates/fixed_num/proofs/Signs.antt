@@ -66,7 +66,7 @@ number_text_is (negsuc n) = refl
 pub front_length : (n : ℕ) (out text : List ℕ) → n ≤ length out → take n out ≡ text → n ≡ length text
 front_length n out text h e = sym (length-take-le n out h) ∙ ap length e
 
--- the text of a negative number, behind its sign
+-- the text of a negative number, after its sign
 pub negative_text : (out shown text : List ℕ) (negative : Bool) → 0 < length out → negative ≡ true → shown ≡ take 1 (set out 0 45) ++ text → shown ≡ (if negative then 45 ∷ text else text)
 negative_text out shown text negative h e f = rw e (f ∙ rw (take_more_set out 0 45 h) refl)
 

@@ -1,4 +1,4 @@
--- What a JSON number text means. Source: RFC 8259 section 6 for the grammar, own for the rounding.
+-- What a JSON number text means. Source: RFC 8259 §6 for the grammar, own for the rounding.
 --
 --   number = [ minus ] int [ frac ] [ exp ]
 --   int    = zero / ( digit1-9 *DIGIT )

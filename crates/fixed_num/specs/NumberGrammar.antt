@@ -1,4 +1,4 @@
--- The texts of JSON numbers as a grammar. Source: RFC 8259 section 6, whose rules are quoted.
+-- The texts of JSON numbers as a grammar. Source: RFC 8259 §6, whose rules are quoted.
 use Rattle.std.specs.Prelude.{◌≡◌, ℕ, ◌<◌, List, [], ◌∷◌, ◌++◌, ◌⊎◌, length, slice_index, Bool, true, false}
 use Rattle.std.specs.Char.{is_ascii_digit}
 use Rattle.std.specs.List.{list_all}

@@ -15,8 +15,8 @@ pub enum NumFault {
     Range,
 }
 
-/// Reads a whole text by the JSON number grammar (RFC 8259 section 6) and rounds its value once to
-/// the nearest millionth, halves away from zero. Texts and exponents may have any length.
+/// Reads a whole text by the JSON number grammar and rounds its value once to the nearest millionth, halves
+/// away from zero. Texts and exponents may have any length. Source: RFC 8259 §6.
 #[tactic(auto, unfolding(crate::specs::Decimal::read_text))]
 pub fn read_decimal(bytes: &[u8]) -> Result<Fixed, NumFault>
     ensures { result ≡ read_text bytes.now }
@@ -84,7 +84,7 @@ fn exponent_from(
     Err(NumFault::NotNumber)
 }
 
-// The number that goes on behind the mark of its exponent.
+// The number that goes on after the mark of its exponent.
 #[tactic(auto, unfolding(crate::specs::Decimal::read_exponent_sign))]
 fn exponent_sign_from(
     negative: bool,

@@ -70,7 +70,7 @@ pub(crate) fn magnitude(whole: &[u8], fraction: &[u8], is_down: bool, exponent: 
     moved(whole, fraction, before_point - size)
 }
 
-// The digits with the point behind the first `kept` of them, rounded. What is dropped counts by its
+// The digits with the point after the first `kept` of them, rounded. What is dropped counts by its
 // first digit alone.
 fn moved(whole: &[u8], fraction: &[u8], kept: u128) -> u128
     requires { IsTrue (list_all is_ascii_digit (whole.now ++ fraction.now)) }
@@ -102,7 +102,7 @@ fn first_digits(whole: &[u8], fraction: &[u8], kept: u128) -> u128
     )
 }
 
-// The number that the digits write behind those of `front`, saturated.
+// The number that the digits write after those of `front`, saturated.
 fn extended(front: u128, digits: &[u8]) -> u128
     requires { front ≤ past }
     ensures { result ≡ saturated (front * 10 ^ length digits.now + number_of digits.now) }
@@ -114,7 +114,7 @@ fn extended(front: u128, digits: &[u8]) -> u128
     number
 }
 
-// The number with zeros behind its digits, saturated.
+// The number with zeros after its digits, saturated.
 fn with_zeros(front: u128, zeros: u128) -> u128
     requires { front ≤ past }
     ensures { result ≡ saturated (front * 10 ^ zeros) }

@@ -10,7 +10,6 @@ use std::marker::Model;
 pub enum Arith {
     /// The result is past the bound.
     Overflow,
-    /// The divisor is zero.
     DivideByZero,
 }
 
@@ -69,7 +68,6 @@ impl Fixed {
         Some(Fixed { value: millionths })
     }
 
-    /// The count of millionths.
     pub fn millionths(self) -> i128
         ensures value { result ≡ self }
         ensures within { unsigned_abs self ≤ bound }
@@ -136,7 +134,6 @@ impl Fixed {
         Fixed { value: -self.value }
     }
 
-    /// The magnitude.
     pub fn abs(self) -> Fixed
         ensures { result ≡ absolute self }
     {
@@ -180,8 +177,8 @@ impl Fixed {
         }
     }
 
-    /// Puts the number's text, a JSON number, at the front of `out` and answers its length in bytes,
-    /// at most 48. What stands after the text may be anything.
+    /// Writes the number's text, a JSON number, at the front of `out` and answers its length in bytes, at
+    /// most 48. The bytes of `out` after the text may be anything.
     pub fn write(self, out: &mut [u8; 48]) -> usize
         ensures text { take result out.new ≡ number_text self }
         ensures length { result ≡ length (number_text self) }

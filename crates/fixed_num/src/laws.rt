@@ -9,7 +9,7 @@ ghost use Rattle.fixed_num.specs.NumberText.{number_text};
 ghost use Rattle.json_tokens.specs.Number.{is_number};
 ghost use Rattle.fixed_num.specs.declared.decimal.NumFault.TheVariants.{NotNumber};
 
-/// The texts that are read are those of the grammar of RFC 8259 section 6, each as the number of
+/// The texts that are read are those of the grammar of RFC 8259 §6, each as the number of
 /// its parts.
 pub fn number_texts_are_the_grammar()
     ensures read { (bs : List ℕ) (negative : Bool) (whole fraction : List ℕ)

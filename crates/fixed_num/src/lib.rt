@@ -8,11 +8,11 @@
 //! // out[..length] is "0.666667"
 //! ```
 //!
-//! What is promised: each answer of the arithmetic is the exact rational result, rounded once to the nearest millionth
-//! with halves away from zero. It is a fault exactly where that is past 10^20 units or the divisor
-//! is zero. The texts that are read are exactly the JSON numbers, of any length and any exponent,
-//! each as its exact value rounded once. A written text is a JSON number too, and reads as the number
-//! that it is of. No call takes memory, and each takes time linear in its text.
+//! What is promised: each answer of the arithmetic is the exact rational result, rounded once to the nearest
+//! millionth with halves away from zero. It is a fault exactly where that is past 10^20 units or the divisor
+//! is zero. The texts that are read are exactly the JSON numbers, of any length and any exponent, each as its
+//! exact value rounded once. A written text is a JSON number too, and reads as the number that it is of. No
+//! call takes memory, and each takes time linear in its text.
 //!
 //! The text to believe is in `specs/`: `Rounding`, `Number`, `NumberText`, `Decimal`, `ColorRange`. Laws of
 //! it: `NumberGrammar`.

@@ -53,7 +53,7 @@ color_again c range =
     let a : is_part (pos 1000000) c.a ≡ true = range_part _ _ range.opacity_from range.opacity_to in
     rw (r, g, b, a) refl
 
--- ---- a mark behind bytes that are none
+-- ---- a mark after bytes that are none
 
 other_byte : (b mark : ℕ) → is_number_byte b ≡ true → is_number_byte mark ≡ false → nat_eq b mark ≡ false
 other_byte b mark here there = elim (cases_eq b mark) [

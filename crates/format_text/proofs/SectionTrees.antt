@@ -332,7 +332,7 @@ module _ (written : (z : ℤ) → unsigned_abs z ≤ bound → read_text (number
         ap sections_of_json (ap json_data (sym same) ∙ sections_meant ss h) ∙ sections_again ss h;
   }
 
-  -- No text stands for two lists of sections.
+  -- No text represents two lists of sections.
   pub one_list : EachWrittenTreeIsSpelled → EachSpellsOneTree → EachTextIsOfOneList
   one_list spelled one ss ts h k e =
       let first = subst (λ bs. Spells all_rules bs (tree_of_sections ss)) e (sections_spelled spelled ss h) in

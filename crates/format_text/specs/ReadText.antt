@@ -17,7 +17,8 @@ abbrev pub IsFont : Data → Type 0
 IsFont (list ds) = AreTexts ds
 IsFont _ = ⊥
 
--- Sections as programs have them, each font a list of texts: texts are UTF-8, numbers within the bound and colors in range.
+-- Sections as programs have them, each font a list of texts: texts are UTF-8, numbers within the bound and
+-- colors in range.
 pub record IsSection (s : Section) : Type 0 where
   pub content : IsUtf8 s.content
   pub scale : IfSome s.scale (λ z. unsigned_abs z ≤ bound)
@@ -33,6 +34,6 @@ abbrev pub ReadsSections : List ℕ → Option (List Section) → Type 0
 ReadsSections bytes (Some ss) = (bytes ≡ sections_text ss) × HaveFonts ss
 ReadsSections bytes None = (ss : List Section) → AreSections ss → bytes ≡ sections_text ss → ⊥
 
--- No text stands for two lists of sections.
+-- No text represents two lists of sections.
 abbrev pub EachTextIsOfOneList : Type 0
 EachTextIsOfOneList = (ss ts : List Section) → AreSections ss → AreSections ts → sections_text ss ≡ sections_text ts → ss ≡ ts

@@ -1,5 +1,5 @@
--- What a value that was read from a text says as sections. The text of the sections is compared with that text, so that more than the
--- texts of sections may say something here.
+-- What a value that was read from a text says as sections. The text of the sections is compared with that
+-- text, so that more than the texts of sections may say something here.
 use Rattle.std.specs.Prelude.{◌≡◌, ℕ, ◌+◌, ℤ, pos, List, [], ◌∷◌, ◌++◌, take, drop, Bool, ◌&&◌, nat_eq, int_le, codes, Option, Some, None, Result, Ok, Err, if◌then◌else◌}
 use Rattle.fixed_num.specs.Decimal.{read_text}
 use Rattle.fixed_num.specs.declared.color.Color.{Color}
@@ -14,7 +14,7 @@ use Rattle.format_text.specs.declared.formatted.Section.{Section}
 
 -- ---- the text of a color
 
--- where a mark stands first, or the length where it does not
+-- the first place of a mark, or the length where there is none
 abbrev pub place_of : ℕ → List ℕ → ℕ
 place_of mark [] = 0
 place_of mark (b ∷ bs) = if nat_eq b mark then 0 else 1 + place_of mark bs
@@ -47,7 +47,7 @@ color_parts bs =
     let opacity = behind 44 blue in
     color_by (read_text (before 44 bs)) (read_text (before 44 green)) (read_text (before 44 blue)) (read_text (before 41 opacity))
 
--- behind the five bytes of `rgba(`
+-- after the five bytes of `rgba(`
 abbrev pub color_in : List ℕ → Option Color
 color_in bs = color_parts (drop 5 bs)
 

@@ -1,5 +1,5 @@
--- Sections of formatted texts, as values and as texts. Source: MapLibre style specification, version 8, expressions, `format`; the form
--- of the value is own.
+-- Sections of formatted texts, as values and as texts. Source: MapLibre style specification, version 8,
+-- expressions, `format`; the form of the value is own.
 use Rattle.std.specs.Prelude.{ℕ, List, [], ◌∷◌, ◌++◌, Bool, true, false, ◌&&◌, codes, Option, Some, None, option_map, IfSome, IsTrue}
 use Rattle.prop_values.specs.Data.{Data, number, text, color, list, map, Items, no_items, item, items_of, Pairs, no_pairs, pair}
 use Rattle.prop_values.specs.View.{data_of}

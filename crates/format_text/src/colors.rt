@@ -6,8 +6,8 @@ ghost use Rattle.format_text.specs.Reading.{place_of, before, behind, is_part, a
 use fixed_num::{Color, Fixed, NumFault, read_decimal};
 use prop_values::PackedColor;
 
-/// The color whose text this is, where it is that of one: behind the five bytes of `rgba(` three numbers up to a comma each, and one up
-/// to a bracket.
+/// The color whose text this is, where it is that of one: after the five bytes of `rgba(` three numbers up to
+/// a comma each, and one up to a bracket.
 pub(crate) fn color_in(text: &str) -> Option<PackedColor>
     ensures { result ≡ color_in text.now }
 {
@@ -93,7 +93,7 @@ fn after(bytes: &[u8], count: usize) -> &[u8]
     }
 }
 
-// Where a mark stands first, or the length where it does not.
+// The first place of a mark, or the length where there is none.
 fn place_of(bytes: &[u8], mark: u8) -> usize
     ensures place { result ≡ place_of mark bytes.now }
     ensures within { result ≤ length bytes.now }

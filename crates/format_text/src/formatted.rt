@@ -20,7 +20,6 @@ pub struct Section {
     pub color: Option<PackedColor>,
 }
 
-/// Sections in order.
 #[derive(Drop)]
 pub struct Sections {
     sections: Vec<Section>,

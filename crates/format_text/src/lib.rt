@@ -1,4 +1,5 @@
-//! Sections of formatted texts (MapLibre style specification, version 8, `format`) as values and as texts.
+//! Sections of formatted texts as values and as texts. Source: MapLibre style specification, version 8,
+//! `format`.
 //!
 //! ```text
 //! // ["format", "a", {"font-scale": 0.8}, "b"]
@@ -8,9 +9,11 @@
 //! ```
 //!
 //! What is promised, for all values:
-//! - A section is the list of its content and of the map of its options, in the order `font-scale`, `text-font`, `text-color`.
-//! - `read_sections` gives sections exactly where the text is the text of their list and each font is a list of texts, and `None` where
-//!   it is the text of no such list. No text is that of two lists (`texts_are_of_one_list`).
+//! - A section is the list of its content and of the map of its options, in the order `font-scale`,
+//!   `text-font`, `text-color`.
+//! - `read_sections` gives sections exactly where the text is the text of their list and each font is a list
+//!   of texts, and `None` where it is the text of no such list. No text is that of two lists
+//!   (`texts_are_of_one_list`).
 //! - `plain` joins the contents.
 //!
 //! The text to believe is in `specs/`: `Sections`, `ReadText`.

@@ -18,8 +18,8 @@ use fixed_num::{Fixed, json_numbers_are_read, written_numbers_are_read};
 use prop_values::{Entries, PackedColor, Value, Values, copy, from_json, to_text};
 use std::alloc::{AllocError, Global};
 
-/// The sections whose text this is, each font a list of texts, or `None` where it is the text of no such sections. Takes time and memory
-/// linear in the text.
+/// The sections whose text this is, each font a list of texts, or `None` where it is the text of no such
+/// sections. Takes time and memory linear in the text.
 pub fn read_sections(alloc: Global, text: &str) -> Result<Option<Sections>, AllocError>
     ensures { IfOk result (ReadsSections text.now) }
 {
@@ -55,7 +55,6 @@ fn sections_in_tree(alloc: Global, json: &Json) -> Result<Option<Sections>, Allo
     }
 }
 
-// Whether this is the text of the sections.
 fn is_text_of(alloc: Global, text: &str, sections: &[Section]) -> Result<bool, AllocError>
     ensures { IfOk result (λ same. same ≡ true ↔ text.now ≡ sections_text sections.now) }
 {

@@ -11,7 +11,8 @@ use fixed_num::Fixed;
 use prop_values::{Entries, PackedColor, SharedEntries, Value, Values};
 use std::alloc::{AllocError, Global};
 
-/// The value of a section: the list of its content and of the map of its options, in the order `font-scale`, `text-font`, `text-color`.
+/// The value of a section: the list of its content and of the map of its options, in the order `font-scale`,
+/// `text-font`, `text-color`.
 #[tactic(auto, using(crate::proofs::Options::options_in_order))]
 pub fn section(
     alloc: Global,

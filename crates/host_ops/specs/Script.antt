@@ -1,5 +1,5 @@
--- Which texts the test of scripts lets through. Own: the range holds the scripts from Hebrew to Arabic Extended-A, which
--- are written from right to left.
+-- Which texts the test of scripts lets through: the range has the scripts from Hebrew to Arabic Extended-A,
+-- which are written from right to left. Source: own.
 use Rattle.std.specs.Prelude.{ℕ, List, Bool, ◌&&◌, nat_le, not}
 use Rattle.std.specs.List.{list_any}
 use Rattle.std.specs.Str.{chars}

@@ -3,12 +3,12 @@ ghost use Rattle.host_ops.specs.Change.{ChangesAt, IsSameTest};
 
 use std::alloc::Global;
 
-/// Why a test did not take what it was told.
+/// Why a test was not changed.
 #[derive(Clone, Copy, Debug, PartialEq, Eq)]
 pub enum TellFault {
     /// The test cannot change.
     Fixed,
-    /// Memory lacked.
+    /// An allocation failed.
     NoMemory,
 }
 
@@ -28,7 +28,8 @@ pub trait HostOp: Drop {
     fn can_change(&self) -> bool
         ensures { result ≡ changes self.now };
 
-    /// Lets the text pass from now on, where it is `present`, or not pass. After a fault the test is as before.
+    /// Lets the text pass from now on, where it is `present`, or not pass. After a fault the test is as
+    /// before.
     fn tell(&mut self, alloc: Global, text: &str, present: bool) -> Result<(), TellFault>
         ensures fixed { IsErrOf result TellFault.Fixed ↔ (changes self.old ≡ false) }
         ensures kind { changes self.new ≡ changes self.old }

@@ -5,7 +5,7 @@ use crate::host_op::{HostOp, TellFault};
 use indexmap::IndexSet;
 use std::alloc::Global;
 
-/// The test of images: it lets the names pass that it was told. It can change.
+/// The test of images: it lets the names pass that are present. It can change.
 #[derive(Drop)]
 pub struct ImageSet {
     names: IndexSet<String>,

@@ -1,4 +1,5 @@
-//! Tests on texts that are handed in by whoever runs a style: which images there are, and which scripts can be shown.
+//! Tests on texts that are handed in by whoever runs a style: which images there are, and which scripts can
+//! be shown.
 //!
 //! ```
 //! fn shown(scripts: &dyn HostOp, text: &str) -> bool {
@@ -10,9 +11,10 @@
 //!
 //! What is promised:
 //! - The meaning of a [`HostOp`] is a test on texts, and `answer` gives it.
-//! - `tell` changes the test at the one text that it names, or refuses and changes nothing. It answers `Fixed` exactly
-//!   where the test cannot change, and no call changes whether it can.
-//! - [`ImageSet`] lets no name pass when it is made, and then those that it was told last that they are there.
+//! - `tell` changes the test at the text that it names, or refuses and changes nothing. It answers `Fixed`
+//!   exactly where the test cannot change, and no call changes whether it can.
+//! - [`ImageSet`] lets no name pass when it is made, and then those that the last `tell` of each made
+//! present.
 //! - [`ScriptTest`] answers false exactly where a text has a scalar value from U+0590 to U+08FF.
 //!
 //! The text to believe is in `specs/`: `Change`, `Script`, `Images`.

@@ -9,7 +9,6 @@ use std::alloc::Global;
 pub struct ScriptTest;
 
 impl ScriptTest {
-    /// The test.
     pub fn new() -> ScriptTest
         ensures test { ⟦<ScriptTest as HostOp>⟧.test result ≡ is_plain }
         ensures fixed { ⟦<ScriptTest as HostOp>⟧.changes result ≡ false }

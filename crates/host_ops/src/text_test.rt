@@ -2,8 +2,8 @@ ghost use Rattle.std.specs.Prelude.{◌≡◌, ℕ, List, Bool};
 
 use crate::host_op::HostOp;
 
-/// A test on texts, as a bound. Functions that call each other take their tests by this bound, since a trait object may
-/// not stand in their signatures; `&dyn HostOp` implements it.
+/// A test on texts, as a bound. Functions that call each other take their tests by this bound, since a trait
+/// object may not be in their signatures; `&dyn HostOp` implements it.
 pub trait TextTest {
     /// What is answered for each text, given by its bytes.
     ghost holds: { Self → List ℕ → Bool };

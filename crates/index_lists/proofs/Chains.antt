@@ -6,7 +6,7 @@ use Rattle.index_lists.specs.SlotLists.{times_in, without, placed}
 use Rattle.index_lists.proofs.Comparing.{same_value, other_value, is_true, is_false, by_test}
 use Rattle.index_lists.proofs.Times.{one_same, one_other, miss_first, miss_rest, without_first, without_other, without_missing, placed_first, placed_other, placed_missing}
 
--- no slot stands twice in the list
+-- no slot occurs twice in the list
 abbrev pub IsOnce : List ℕ → Type 0
 IsOnce xs = (y : ℕ) → times_in y xs ≤ 1
 

@@ -1,4 +1,4 @@
--- How often a slot stands in lists that changed.
+-- How often a slot is in lists that changed.
 use Rattle.std.proofs.Common.{◌≡◌, ◌≢◌, ℕ, ◌+◌, ◌<◌, not, cond, List, [], ◌∷◌, ◌++◌, map, length, nat_eq, if◌then◌else◌, refl, sym, ap, ◌∙◌, arith, zero, suc}
 use Rattle.std.specs.Prelude.{replicate, Some, slice_get}
 use Rattle.std.specs.List.{slice_set, slice_index_or}
@@ -15,7 +15,7 @@ one_same x y e = ap (λ b. if b then 1 else 0) (is_true x y e)
 pub one_other : (x y : ℕ) → x ≢ y → one_if x y ≡ 0
 one_other x y d = ap (λ b. if b then 1 else 0) (is_false x y d)
 
--- a slot that does not stand in a list differs from each of its slots
+-- a slot that is not in a list differs from each of its slots
 pub miss_first : (y w : ℕ) (ws : List ℕ) → times_in y (w ∷ ws) ≡ 0 → w ≢ y
 miss_first y w ws t e = absurd (omega (arith, t, one_same w y e))
 
@@ -70,7 +70,7 @@ pub placed_missing : (y b : ℕ) (xs : List ℕ) → times_in b xs ≡ 0 → pla
 placed_missing y b [] t = refl
 placed_missing y b (x ∷ xs) t = placed_other y b x xs (miss_first b x xs t) ∙ ap (λ rest. x ∷ rest) (placed_missing y b xs (miss_rest b x xs t))
 
--- the slot that is put stands there as often more as the other stands there
+-- the slot that is put occurs as often more as the other occurs
 pub times_in-placed_same : (y b : ℕ) (xs : List ℕ) → times_in y (placed y b xs) ≡ times_in y xs + times_in b xs
 times_in-placed_same y b [] = refl
 times_in-placed_same y b (x ∷ xs) = by_test x b
@@ -109,7 +109,7 @@ pub times-append : (z : ℕ) (xs ys : List (List ℕ)) → times z (xs ++ ys) �
 times-append z [] ys = omega arith
 times-append z (x ∷ xs) ys = omega (arith, times-append z xs ys)
 
--- what is first in a list, and what follows a slot, stands there
+-- what is first in a list, and what follows a slot, occurs in the list
 
 pub first_stands : (xs : List ℕ) (y : ℕ) → slice_get xs 0 ≡ Some y → 0 < times_in y xs
 first_stands [] y e = absurd (cc)

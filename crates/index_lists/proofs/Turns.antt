@@ -64,7 +64,7 @@ rounds_next P n p x list (xs ∷ lists) r ph py t = by_test (times_in x xs) 0
     (λ e. rounds_next P n p x (suc list) lists r.1 (λ m h. ph m (omega (arith, h))) (λ y u. py y (omega (arith, u))) (omega (arith, t, e)))
     (λ d. next_holds P n p x (head list) xs (head list) r.0 (ph list (omega arith)) (λ y u. py y (omega (arith, u))) (omega (arith, d)))
 
--- where each slot that is listed is below a bound, a number past it stands in no list
+-- where each slot that is listed is below a bound, a number past it is in no list
 none_past : (slots h : ℕ) → slots ≤ h → (xs : List ℕ) → (0 < times_in h xs → h < slots) → times_in h xs ≡ 0
 none_past slots h k xs w = by_test (times_in h xs) 0 (λ e. e) (λ d. let u : h < slots = w (omega (arith, d)) in absurd (omega (arith, k, u)))
 

@@ -1,4 +1,5 @@
--- The nodes of the rounds that keep the lists: a slot is the node of its own number, and list l has the node 4294967295 - l.
+-- The nodes of the rounds that keep the lists: a slot is the node of its own number, and list l has the node
+-- 4294967295 - l.
 use Rattle.std.specs.Prelude.{◌≡◌, ℕ, ◌+◌, ◌-◌, ◌<◌, ◌≤◌, List, length, slice_index, nat_eq, nat_lt, nat_le, if◌then◌else◌}
 use Rattle.index_lists.specs.declared.nodes.Nodes.{Nodes}
 

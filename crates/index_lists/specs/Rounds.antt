@@ -1,5 +1,5 @@
--- How rounds of nodes keep lists of slots. The node of a list, its slots in order, and the node of the list again stand in
--- a round, each the next of the one before. A free slot is a round of its own.
+-- How rounds of nodes keep lists of slots. The node of a list, its slots in order, and the node of the list
+-- again are in a round, each the next of the one before. A free slot is a round of its own.
 use Rattle.std.specs.Prelude.{◌≡◌, ℕ, ◌+◌, ◌-◌, ◌<◌, ◌≤◌, List, [], ◌∷◌, length, nat_eq, if◌then◌else◌, zero, suc}
 use Rattle.index_lists.specs.SlotLists.{SlotLists, times}
 use Rattle.index_lists.specs.declared.nodes.Nodes.{Nodes}

@@ -1,4 +1,4 @@
--- What contracts see of `Links`: lists of slots, in which no slot stands twice.
+-- What contracts see of `Links`: lists of slots, in which no slot occurs twice.
 use Rattle.std.specs.Prelude.{◌≡◌, ℕ, ◌+◌, ◌-◌, ◌<◌, ◌≤◌, not, List, [], ◌∷◌, ◌++◌, Option, None, length, map, filter, replicate, nat_eq, if◌then◌else◌, slice_get}
 use Rattle.std.specs.List.{slice_index_or, slice_set}
 
@@ -7,12 +7,12 @@ pub record SlotLists : Type 0 where
   pub slots : ℕ
   pub lists : List (List ℕ)
 
--- how often a slot stands in a list
+-- how often a slot is in a list
 abbrev pub times_in : ℕ → List ℕ → ℕ
 times_in slot [] = 0
 times_in slot (x ∷ xs) = (if nat_eq x slot then 1 else 0) + times_in slot xs
 
--- how often it stands in all lists together
+-- how often it is in all lists together
 abbrev pub times : ℕ → List (List ℕ) → ℕ
 times slot [] = 0
 times slot (xs ∷ lists) = times_in slot xs + times slot lists
@@ -25,7 +25,7 @@ IsListed s slot = 0 < times slot s.lists
 abbrev pub IsFree : SlotLists → ℕ → Type 0
 IsFree s slot = times slot s.lists ≡ 0
 
--- the lists are disjoint: no slot stands twice in them, and only slots that there are stand there
+-- the lists are disjoint: no slot occurs twice in them, and each slot in them exists
 pub record AreDisjoint (s : SlotLists) : Type 0 where
   pub once : (slot : ℕ) → times slot s.lists ≤ 1
   pub within : (slot : ℕ) → IsListed s slot → slot < s.slots
@@ -38,7 +38,7 @@ list_at s list = slice_index_or s.lists list []
 abbrev pub without : ℕ → List ℕ → List ℕ
 without slot xs = filter (λ x. not (nat_eq x slot)) xs
 
--- a list with a slot put just before another, where that other stands in it
+-- a list with a slot put just before another, where that other is in it
 abbrev pub placed : ℕ → ℕ → List ℕ → List ℕ
 placed slot before [] = []
 placed slot before (x ∷ xs) = if nat_eq x before then slot ∷ x ∷ placed slot before xs else x ∷ placed slot before xs

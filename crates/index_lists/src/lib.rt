@@ -1,6 +1,7 @@
 //! Disjoint lists of slots, in which a slot is put, moved and taken out in constant time.
 //!
-//! Whoever keeps values in slots, numbered from 0, can keep the slots in lists besides: each slot is in one list or in none.
+//! Whoever keeps values in slots, numbered from 0, can keep the slots in lists besides: each slot is in one
+//! list or in none.
 //!
 //! ```
 //! let mut links = Links::new(alloc, 5, 2)?;    // five slots, two empty lists
@@ -12,11 +13,13 @@
 //! ```
 //!
 //! What is promised:
-//! - Contracts see the lists, as lists of slots by the numbers of the lists. Each call says exactly which lists it leaves;
-//!   a list that it does not name stays.
-//! - The lists are disjoint: no slot stands twice in them (`are_disjoint`).
-//! - `first` and `next` answer `None` exactly where the list is empty, and where the slot is the last of its list or in none.
-//! - Only `new` and `grow` take memory. Each other call takes constant time: it reads and writes at most four links.
+//! - Contracts see the lists, as lists of slots by the numbers of the lists. Each call says exactly which
+//!   lists it leaves; a list that it does not name stays.
+//! - The lists are disjoint: no slot occurs twice in them (`are_disjoint`).
+//! - `first` and `next` answer `None` exactly where the list is empty, and where the slot is the last of its
+//!   list or in none.
+//! - Only `new` and `grow` take memory. Each other call takes constant time: it reads and writes at most four
+//!   links.
 //!
 //! The text to believe is in `specs/`: `SlotLists`.
 #![tactic(auto)]

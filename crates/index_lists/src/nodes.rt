@@ -4,8 +4,8 @@ use std::alloc::{AllocError, Global};
 
 /// Rounds of nodes: for each node the next and the previous one.
 ///
-/// A slot is the node of its own number, and list `l` has the node `u32::MAX - l`. So slots and lists can both become more
-/// and no node changes its number. There are at most 2^32 of both together.
+/// A slot is the node of its own number, and list `l` has the node `u32::MAX - l`. So slots and lists can
+/// both become more and no node changes its number. There are at most 2^32 of both together.
 #[derive(Drop)]
 pub struct Nodes {
     next: Vec<u32>,
@@ -34,14 +34,12 @@ impl Nodes {
         }
     }
 
-    /// Whether a node is that of a slot.
     pub fn is_slot(&self, node: u32) -> bool
         ensures { IsTrue result ↔ (node < slot_count self.now) }
     {
         (node as usize) < self.next.len()
     }
 
-    /// The node after a node.
     pub fn after(&self, node: u32) -> u32
         requires { IsNode (slot_count self.now) (list_count self.now) node }
         ensures { result ≡ after_of self.now node }
@@ -53,7 +51,6 @@ impl Nodes {
         }
     }
 
-    /// The node before a node.
     pub fn before(&self, node: u32) -> u32
         requires { IsNode (slot_count self.now) (list_count self.now) node }
         ensures { result ≡ before_of self.now node }
@@ -106,8 +103,8 @@ impl Nodes {
         self.set_before(node, node);
     }
 
-    /// More slots and more lists, each a round of its own. There can be at most 2^32 of both together; for more, memory
-    /// lacks.
+    /// More slots and more lists, each a round of its own. There can be at most 2^32 of both together; for
+    /// more, memory lacks.
     pub fn grow(&mut self, slots: u32, lists: u32) -> Result<(), AllocError>
         requires slots { slot_count self.old ≤ slots }
         requires lists { list_count self.old ≤ lists }

@@ -7,8 +7,8 @@ use std::marker::Model;
 
 /// Disjoint lists of slots. Slots and lists go by their numbers, from 0.
 ///
-/// Every call but `new` and `grow` takes constant time and no memory, however long the lists are. A slot takes 8 bytes, and
-/// so does a list.
+/// Every call but `new` and `grow` takes constant time and no memory, however long the lists are. A slot
+/// takes 8 bytes, and so does a list.
 #[derive(Drop)]
 pub struct Links {
     nodes: Nodes,
@@ -26,8 +26,8 @@ impl Model for Links {
 }
 
 impl Links {
-    /// So many slots, each in no list, and so many empty lists. There can be at most 2^32 of both together; for more, memory
-    /// lacks.
+    /// So many slots, each in no list, and so many empty lists. There can be at most 2^32 of both together;
+    /// for more, memory lacks.
     pub fn new(alloc: Global, slots: u32, lists: u32) -> Result<Links, AllocError>
         ensures { IfOk result (λ links. links ≡ record { slots = slots; lists = replicate lists [] }) }
     {

@@ -40,7 +40,7 @@ count_at p xs i within front back =
     let all : i + (length xs - i) ≡ length xs = omega arith in
     sym (ap (count_by p) (ap (λ n. take n xs) all ∙ take_all (length xs) xs (omega arith))) ∙ count_back p xs i (length xs - i) (count_front p xs i i front (omega arith) within) back (omega arith)
 
--- as many inputs are not above x as stand up to the one from which it is
+-- as many inputs are not above x as there are up to the one from which x is
 pub count_is : (inputs : List ℤ) (x : ℤ) (i : ℕ) → IsAscending inputs → IsBetween inputs x i → i + 1 ≡ count_not_above x inputs
 unfolding count_not_above
 count_is inputs x i rising at = sym (count_at (λ input. int_le input x) inputs (i + 1) (omega (arith, at.within)) front back)
@@ -94,7 +94,7 @@ between_some inputs x (suc n) h from below = by_lt_z x (input_at inputs n)
 past_test : (a b : ℤ) → int_le a b ≡ false → b <ℤ a
 past_test a b h = grind (arith, ints)
 
--- between the ends, the count tells that input
+-- between the ends, the count gives that input
 pub counted_between : (inputs : List ℤ) (x : ℤ) → IsAscending inputs → 0 < length inputs → first_of inputs <ℤ x → x <ℤ last_of inputs → (0 < count_not_above x inputs) × IsBetween inputs x (count_not_above x inputs - 1)
 counted_between inputs x rising some up down =
     let (j, at) = between_some inputs x (length inputs - 1) (omega arith) (omega (arith, ints)) down in

@@ -23,7 +23,7 @@ last_of inputs = input_at inputs (length inputs - 1)
 unfoldable pub count_not_above : ℤ → List ℤ → ℕ
 count_not_above x inputs = count_by (λ input. int_le input x) inputs
 
--- where x stands among inputs that ascend: at or below the first, else at or above the last, else from the
+-- the place of x among inputs that ascend: at or below the first, else at or above the last, else from the
 -- greatest input that is not above it, which is the last of those that are not above it
 abbrev pub place_of : List ℤ → ℤ → StopPlace
 place_of inputs x =
@@ -31,7 +31,7 @@ place_of inputs x =
     (if int_le (last_of inputs) x then Last else
     Between (count_not_above x inputs - 1))
 
--- x stands from input i to below the next
+-- x is at or above input i and below the next
 pub record IsBetween (inputs : List ℤ) (x : ℤ) (i : ℕ) : Type 0 where
   pub within : i + 1 < length inputs
   pub not_below : input_at inputs i ≤ℤ x

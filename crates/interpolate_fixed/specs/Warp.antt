@@ -16,7 +16,7 @@ abbrev pub and_then : Result ℤ Arith → (ℤ → Result ℤ Arith) → Result
 and_then (Ok z) next = next z
 and_then (Err fault) next = Err fault
 
--- z held to the numbers from low to high
+-- z clamped to the numbers from low to high
 abbrev pub held : ℤ → ℤ → ℤ → ℤ
 held low high z = int_max low (int_min z high)
 
@@ -24,13 +24,13 @@ held low high z = int_max low (int_min z high)
 abbrev pub growth_of : ℤ → ℤ → ℤ → Result ℤ Arith
 growth_of base x0 x = and_then (difference x x0) (λ way. and_then (power_of base way) (λ grown. difference grown one))
 
--- x0 + (x1 - x0) * (n / m), held to x0 and x1
+-- x0 + (x1 - x0) * (n / m), clamped to x0 and x1
 abbrev pub moved_by : ℤ → ℤ → ℤ → ℤ → Result ℤ Arith
 moved_by x0 x1 n m =
     and_then (quotient n m) (λ share. and_then (difference x1 x0) (λ width. and_then (product width share) (λ step. and_then (sum x0 step) (λ z. Ok (held x0 x1 z)))))
 
--- x from x0 to below x1, with n = power(base, x - x0) - 1 and m = power(base, x1 - x0) - 1: x itself at x0 and
--- where m is 0
+-- x from x0 to below x1, with n = power(base, x - x0) - 1 and m = power(base, x1 - x0) - 1: x itself at x0
+-- and where m is 0
 unfoldable pub moved_between : ℤ → ℤ → ℤ → ℤ → Result ℤ Arith
 moved_between base x0 x1 x =
     if nat_eq (unsigned_abs (x -ℤ x0)) 0 then Ok x else

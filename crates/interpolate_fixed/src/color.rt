@@ -5,9 +5,9 @@ ghost use Rattle.interpolate_fixed.specs.Linear.{component_of, color_of};
 use crate::line::linear;
 use fixed_num::{Color, Fixed};
 
-/// The color at `x` on the line from `a` at `x0` to `b` at `x1`, component by component. The components of two colors are
-/// too near to each other for an Overflow; where they are none, that of `a` stands for one. Between two colors in range it
-/// is in range.
+/// The color at `x` on the line from `a` at `x0` to `b` at `x1`, component by component. The components of
+/// two colors are too near to each other for an Overflow; in the arm for it the component of `a` is taken.
+/// Between two colors in range it is in range.
 pub fn linear_color(x: Fixed, x0: Fixed, a: Color, x1: Fixed, b: Color) -> Color
     requires from { x0 ≤ℤ x }
     requires to { x ≤ℤ x1 }

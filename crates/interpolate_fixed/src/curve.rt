@@ -7,9 +7,9 @@ use fixed_num::{Arith, Fixed};
 use power_fixed::{power, unit};
 use prop_values::Curve;
 
-/// The input at which a line through the stops has the value of the curve at `x`: `x` itself for a line, and for an
-/// exponential curve of a base above 0 a number from the input before `x` to the one behind. It is Overflow exactly where
-/// a step of that arithmetic is.
+/// The input at which a line through the stops has the value of the curve at `x`: `x` itself for a line, and
+/// for an exponential curve of a base above 0 a number from the input before `x` to the one after. It is
+/// Overflow exactly where a step of that arithmetic is.
 pub fn warp(curve: &Curve, inputs: &[Fixed], x: Fixed) -> Result<Fixed, Arith>
     requires some { 0 < length inputs.now }
     requires ascending { IsAscending inputs.now }
@@ -69,7 +69,7 @@ fn growth(base: Fixed, x0: Fixed, x: Fixed) -> Result<Fixed, Arith>
     power(base, x.sub(x0)?)?.sub(unit())
 }
 
-// That share of the way from `x0` to `x1`, held to its ends.
+// That share of the way from `x0` to `x1`, clamped to its ends.
 fn moved(x0: Fixed, x1: Fixed, grown: Fixed, whole: Fixed) -> Result<Fixed, Arith>
     ensures { result ≡ moved_by x0 x1 grown whole }
 {
@@ -78,7 +78,7 @@ fn moved(x0: Fixed, x1: Fixed, grown: Fixed, whole: Fixed) -> Result<Fixed, Arit
     Ok(hold(x0, x1, x0.add(step)?))
 }
 
-// The number held to those from `low` to `high`.
+// The number clamped to those from `low` to `high`.
 fn hold(low: Fixed, high: Fixed, number: Fixed) -> Fixed
     ensures { result ≡ held low high number }
 {

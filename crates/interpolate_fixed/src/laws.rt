@@ -1,5 +1,5 @@
-//! Laws of the definitions that the contracts cite. Each is a function with an empty body, which is proved and never needs
-//! a call.
+//! Laws of the definitions that the contracts cite. Each is a function with an empty body, which is proved
+//! and never needs a call.
 
 ghost use Rattle.std.specs.Prelude.{◌≡◌, ℕ, ◌+◌, ◌<◌, ◌≤◌, ℤ, pos, ◌≤ℤ◌, ◌<ℤ◌, List, length, unsigned_abs, Ok};
 ghost use Rattle.fixed_num.specs.Number.{bound};
@@ -36,7 +36,8 @@ pub fn colors_never_overflow()
         linear_of x x0 a x1 b ≡ Ok (component_of x x0 a x1 b) }
 {}
 
-/// A moved input lies between its neighbours, each input stays where it is, and with base 1 every number does.
+/// A moved input lies between its neighbours, each input stays where it is, and with base 1 every number
+/// does.
 pub fn moved_inputs_stay_between()
     ensures between { (curve : Curve) (inputs : List ℤ) (x : ℤ) (i : ℕ) (r : ℤ) →
         IsAscending inputs → IsBetween inputs x i → warp_of curve inputs x ≡ Ok r →

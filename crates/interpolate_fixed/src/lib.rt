@@ -6,10 +6,11 @@
 //! linear(x, inputs[0], one, inputs[1], two)        // Ok(1.45)
 //! ```
 //!
-//! What is promised: a number is a whole count of millionths. Each interpolation is the one formula `a + (b - a) * (x - x0) / (x1 - x0)`, whose
-//! fraction is rounded once to the nearest millionth, halves away from zero, and is Overflow exactly where
-//! `(b - a) * (x - x0)` is past 10^38. A result never is past the bound of numbers, since it lies between a and b. An
-//! exponential curve is the line at a moved input: `warp` gives it.
+//! What is promised: a number is a whole count of millionths. Each interpolation is the one formula
+//! `a + (b - a) * (x - x0) / (x1 - x0)`, whose fraction is rounded once to the nearest millionth, halves away
+//! from zero, and is Overflow exactly where `(b - a) * (x - x0)` is past 10^38. A result never is past the
+//! bound of numbers, since it lies between a and b. An exponential curve is the line at a moved input: `warp`
+//! gives it.
 //!
 //! Only `linear_list` takes memory.
 //!

@@ -6,8 +6,8 @@ use crate::line::linear;
 use fixed_num::{Arith, Fixed};
 use std::alloc::{AllocError, Global};
 
-/// The list at `x` on the line from `a` at `x0` to `b` at `x1`, which are equally long, item by item. Its fault is that of
-/// the first item that has one.
+/// The list at `x` on the line from `a` at `x0` to `b` at `x1`, which are equally long, item by item. Its
+/// fault is that of the first item that has one.
 pub fn linear_list(
     alloc: Global,
     x: Fixed,

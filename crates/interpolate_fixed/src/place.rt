@@ -3,7 +3,7 @@ ghost use Rattle.interpolate_fixed.specs.Places.{IsAscending, first_of, last_of,
 
 use fixed_num::Fixed;
 
-/// Where a value stands among the inputs of stops.
+/// The place of a value among the inputs of stops.
 #[derive(Clone, Copy, Debug, PartialEq, Eq)]
 pub enum StopPlace {
     /// At or below the first input.
@@ -14,7 +14,8 @@ pub enum StopPlace {
     Between(usize),
 }
 
-/// Where the value stands among inputs of which each is below the next. Takes time by the logarithm of their number.
+/// The place of the value among inputs of which each is below the next. Takes time by the logarithm of their
+/// number.
 pub fn stop_place(inputs: &[Fixed], value: Fixed) -> StopPlace
     requires some { 0 < length inputs.now }
     requires ascending { IsAscending inputs.now }
@@ -42,7 +43,8 @@ fn greatest_not_above(inputs: &[Fixed], value: Fixed) -> usize
     step_place(inputs, value) - 1
 }
 
-/// How many inputs are not above the value, where each is below the next. Takes time by the logarithm of their number.
+/// How many inputs are not above the value, where each is below the next. Takes time by the logarithm of
+/// their number.
 pub fn step_place(inputs: &[Fixed], value: Fixed) -> usize
     requires ascending { IsAscending inputs.now }
     ensures { result ≡ count_not_above value inputs.now }

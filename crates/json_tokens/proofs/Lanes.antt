@@ -21,7 +21,8 @@ each_lane : (f : ℕ → ℕ) (p : ℕ → Bool) → agree_below (λ x. top 7 (f
 each_lane f p all [] fits = refl
 each_lane f p all (x ∷ xs) fits = ap₂ (λ a b. a ∷ b) (agree_below_at (λ y. top 7 (f y)) p 256 x all fits.0.fits) (each_lane f p all xs fits.1)
 
--- The mask of lanes that are computed from v by f, where that agrees with the test p at each of the 256 bytes.
+-- The mask of lanes that are computed from v by f, where that agrees with the test p at each of the 256
+-- bytes.
 pub mask_of : (f : ℕ → ℕ) (p : ℕ → Bool) → agree_below (λ x. top 7 (f x)) p 256 ≡ true → (v z : List ℕ) → length v ≤ 64 → Each1 (Fits w8) v → z ≡ map f v
     → mask_l (map (top 7) z) % 2 ^ 64 ≡ mask_l (map p v)
 mask_of f p all v z few fits e =

@@ -91,7 +91,7 @@ impl<'a> Cursor<'a> {
         }
     }
 
-    /// Passes the white space that stands here.
+    /// Passes the white space at the cursor.
     #[inline(always)]
     pub fn skip_spaces(&mut self)
         ensures skipped { IsSkipped self.old self.new }
@@ -102,7 +102,7 @@ impl<'a> Cursor<'a> {
         }
     }
 
-    /// Takes so many bytes.
+    /// Takes `count` bytes.
     pub fn take_front(&mut self, count: usize) -> &'a [u8]
         requires { count ≤ length self.old }
         ensures split { self.old ≡ result.now ++ self.new }
@@ -116,7 +116,7 @@ impl<'a> Cursor<'a> {
     }
 }
 
-// Whether white space may stand at the front. Most often another byte does, and nothing is to be passed.
+// Whether white space may be at the front. Most often there is another byte, and nothing to be passed.
 fn may_be_space(bytes: &[u8]) -> bool
     ensures { OnFalse result (IsSkipped bytes.now bytes.now) }
 {

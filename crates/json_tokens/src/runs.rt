@@ -9,12 +9,10 @@ use std::simd::prelude::*;
 /// How many bytes are tested at once.
 const LANES: usize = 16;
 
-/// A class of bytes.
 pub trait ByteClass {
     /// Whether a byte is of the class.
     ghost has: { ℕ → Bool };
 
-    /// Whether the byte is of the class.
     fn has(byte: u8) -> bool
         ensures { result ≡ has byte };
 
@@ -49,7 +47,7 @@ fn pass_blocks<C: ByteClass>(bytes: &[u8]) -> usize
     pass_singly::<C>(bytes, at)
 }
 
-// The same behind the blocks.
+// The same after the blocks.
 fn pass_singly<C: ByteClass>(bytes: &[u8], from: usize) -> usize
     requires { from ≤ length bytes.now }
     ensures { result ≡ from + prefix_len C.has (drop from bytes.now) }
@@ -61,7 +59,6 @@ fn pass_singly<C: ByteClass>(bytes: &[u8], from: usize) -> usize
     at
 }
 
-/// White space.
 pub(crate) struct Spaces;
 
 impl ByteClass for Spaces {

@@ -1,4 +1,4 @@
--- Keys that ascend, and where a key stands among them.
+-- Ascending keys, and the place of a key among them.
 use Rattle.std.proofs.Common.{◌≡◌, ◌≢◌, ℕ, zero, suc, ◌+◌, ◌<◌, List, [], ◌∷◌, ◌++◌, length, take, drop, get_or, refl, ap, sym, ◌∙◌, arith, true, nat_cmp, Ordering}
 use Rattle.std.specs.Prelude.{Some}
 use Rattle.std.specs.Cmp.Lexicographic.{slice_cmp}
@@ -42,7 +42,7 @@ below_last : (key : List ℕ) (ks : List (List ℕ)) (k : List ℕ) → IsBelow 
 below_last key [] k h = h.0
 below_last key (x ∷ ks) k h = below_last key ks k h.1
 
--- a key above the last of keys that ascend may stand behind them
+-- a key above the last of ascending keys may follow them
 pub ascending_push : (ks : List (List ℕ)) (n : ℕ) (k d : List ℕ) → IsAscending ks → length ks ≡ n + 1 → slice_cmp nat_cmp (get_or ks n d) k ≡ Less → IsAscending (ks ++ k ∷ [])
 ascending_push [] n k d a e l = (tt, tt)
 ascending_push (x ∷ []) zero k d a e l = ((l, tt), (tt, tt))
@@ -72,12 +72,12 @@ lacks_both zero key ks h l = l
 lacks_both (suc n) key [] h l = tt
 lacks_both (suc n) key (k ∷ ks) h l = (h.0, lacks_both n key ks h.1 l)
 
--- a key behind keys that ascend is none of them
+-- a key after ascending keys is none of them
 pub ascending_lacks : (ks : List (List ℕ)) (k : List ℕ) → IsAscending (ks ++ k ∷ []) → LacksKey k ks
 ascending_lacks [] k a = tt
 ascending_lacks (x ∷ ks) k a = (below_differs x k (below_last x ks k a.0), ascending_lacks ks k a.1)
 
--- the place of a key is where it stands
+-- a search in ascending keys gives the place of the key
 pub ascending_at : (i : ℕ) (ks : List (List ℕ)) (n : ℕ) (key d : List ℕ) → IsAscending ks → n < length ks → get_or ks n d ≡ key → place_from i key ks ≡ Some (i + n)
 ascending_at i [] n key d a h e = absurd (omega arith)
 ascending_at i (k ∷ ks) zero key d a h e = cond-true (bytes_eq k key) (Some i) (place_from (i + 1) key ks) (bytes_same k key e) ∙ ap Some (omega arith)

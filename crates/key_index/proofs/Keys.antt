@@ -37,7 +37,7 @@ place_push i q [] k h = ap (λ n. if bytes_eq k q then Some n else None) (omega 
 place_push i q (x ∷ ks) k h =
     ap (λ r. if bytes_eq x q then Some i else r) (place_push (i + 1) q ks k h.1) ∙ place_step i q x k (length ks) (place_from (i + 1) q ks) (bytes_eq x q) (bytes_eq k q) refl refl h.0
 
--- one more key behind the first 16
+-- one more key after the first 16
 pub place_more : (q : List ℕ) (ks : List (List ℕ)) (k : List ℕ) → LacksKey k ks → 16 ≤ length ks → place_from 16 q (drop 16 (ks ++ k ∷ [])) ≡ (if bytes_eq k q then Some (length ks) else place_from 16 q (drop 16 ks))
 place_more q ks k h long =
     ap (place_from 16 q) (drop-append-le 16 ks (k ∷ []) long) ∙ (place_push 16 q (drop 16 ks) k (lacks-drop k 16 ks h) ∙ ap (λ n. if bytes_eq k q then Some n else place_from 16 q (drop 16 ks)) (simp length-drop (omega arith)))
@@ -52,7 +52,7 @@ pub is_at-last : (q : List ℕ) (ks : List (List ℕ)) (k : List ℕ) → is_at 
 is_at-last q [] k = refl
 is_at-last q (x ∷ ks) k = is_at-last q ks k
 
--- what stands at a place of entries that have keys
+-- what is at a place of entries that have keys
 pub is_at-within : {T : Type 0} (key : T → List ℕ) (q : List ℕ) (es : List T) (p : ℕ) (e : T) → p < length es → e ≡ get_or es p e → is_at q (map key es) p ≡ bytes_eq (key e) q
 is_at-within key q [] p e h r = absurd (omega arith)
 is_at-within key q (x ∷ es) zero e h r = ap (λ y. bytes_eq (key y) q) (sym r)
@@ -88,7 +88,7 @@ pub not_below : (i n : ℕ) (q : List ℕ) (ks : List (List ℕ)) → n < i → 
 not_below i n q [] l e = absurd (cc)
 not_below i n q (k ∷ ks) l e = not_below (i + 1) n q ks (omega arith) (below_first i n (place_from (i + 1) q ks) (bytes_eq k q) l e)
 
--- a key that is not among the first n stands among the others
+-- a key that is not among the first n is among the others
 pub place_later : (i n : ℕ) (q : List ℕ) (ks : List (List ℕ)) → place_from i q (take n ks) ≡ None → n ≤ length ks → place_from i q ks ≡ place_from (i + n) q (drop n ks)
 place_later i zero q ks e h = ap (λ m. place_from m q ks) (omega arith)
 place_later i (suc n) q [] e h = absurd (omega arith)
@@ -100,7 +100,7 @@ some_first : (i j : ℕ) (rest later : Option ℕ) (same : Bool) → (if same th
 some_first i j rest later true e h = e
 some_first i j rest later false e h = h e
 
--- and a key among the first n stands there
+-- and a key among the first n is found there
 pub place_earlier : (i n : ℕ) (q : List ℕ) (ks : List (List ℕ)) (j : ℕ) → place_from i q (take n ks) ≡ Some j → place_from i q ks ≡ Some j
 place_earlier i zero q ks j e = absurd (cc)
 place_earlier i (suc n) q [] j e = e

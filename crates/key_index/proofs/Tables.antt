@@ -31,7 +31,7 @@ no_slot t ks k h l = first_none (slot_place (hash_of k) k ks (slots_at t.buckets
 abbrev pub FindsMore : Table → Table → List (List ℕ) → List ℕ → Type 0
 FindsMore t u ks k = (q : List ℕ) → later_place u (ks ++ k ∷ []) q ≡ (if bytes_eq k q then Some (length ks) else later_place t ks q)
 
--- a table that finds one key more stands for the keys and this one
+-- a table that finds one key more represents the keys and this one
 pub table_more : (t u : Table) (ks : List (List ℕ)) (k : List ℕ) → IsTable t ks → LacksKey k ks → 0 < length u.buckets.items → AllBelow (length ks + 1) u.buckets.items → FindsMore t u ks k → IsTable u (ks ++ k ∷ [])
 table_more t u ks k h l some below more = record {
   some = some;
@@ -89,7 +89,7 @@ table_crowd t u ks k h l buckets notes =
     table_more t u ks k h l (subst (λ v. 0 < length v.items) (sym buckets) h.some)
     (subst (λ v. AllBelow (length ks + 1) v.items) (sym buckets) (all_more (length ks) (length ks + 1) t.buckets.items (omega arith) h.below)) (λ q. crowd_finds t u ks k q (bytes_eq k q) refl h l buckets (notes q))
 
--- A table in which nothing changed stands for the same keys.
+-- A table in which nothing changed represents the same keys.
 pub table_same : (t u : Table) (ks : List (List ℕ)) → IsTable t ks → u.buckets ≡ t.buckets → ((q : List ℕ) → noted u.crowded q ≡ noted t.crowded q) → IsTable u ks
 table_same t u ks h buckets notes = record {
   some = subst (λ v. 0 < length v.items) (sym buckets) h.some;
@@ -105,7 +105,7 @@ bucket_read bs hash n b k h e l r = ap (λ (x : Bucket). x.slots) r ∙ (slots_r
 none_noted : (m : BTreeMap (String Global) ℕ) (q : List ℕ) → m.entries ≡ [] → noted m q ≡ None
 none_noted m q e = ap (λ es. lookup (is_at (λ k. slice_cmp nat_cmp q (string_bytes k))) es) e
 
--- A table whose slots are free stands for 16 keys.
+-- A table whose slots are free represents 16 keys.
 pub new_table : (t : Table) (n : ℕ) (b : Bucket) (ks : List (List ℕ)) → 0 < n → t.buckets.items ≡ replicate n b → AreFree b.slots → t.crowded.entries ≡ [] → length ks ≡ 16 → IsTable t ks
 new_table t n b ks l items free none few = record {
   some = subst (λ bs. 0 < length bs) (sym items) (omega (arith, length-replicate n b));

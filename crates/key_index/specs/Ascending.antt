@@ -9,7 +9,7 @@ abbrev pub IsBelow : List ℕ → List (List ℕ) → Type 0
 IsBelow key [] = Unit {0}
 IsBelow key (k ∷ ks) = (slice_cmp nat_cmp key k ≡ Less) × IsBelow key ks
 
--- Each key is below those behind it.
+-- Each key is below those after it.
 abbrev pub IsAscending : List (List ℕ) → Type 0
 IsAscending [] = Unit {0}
 IsAscending (k ∷ ks) = IsBelow k ks × IsAscending ks

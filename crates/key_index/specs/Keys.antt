@@ -12,7 +12,7 @@ abbrev pub LacksKey : List ℕ → List (List ℕ) → Type 0
 LacksKey key [] = Unit {0}
 LacksKey key (k ∷ ks) = (k ≢ key) × LacksKey key ks
 
--- No key stands twice.
+-- No key occurs twice.
 abbrev pub HasDistinctKeys : List (List ℕ) → Type 0
 HasDistinctKeys [] = Unit {0}
 HasDistinctKeys (k ∷ ks) = LacksKey k ks × HasDistinctKeys ks

@@ -1,4 +1,4 @@
--- A table of places, and the keys that it stands for.
+-- A table of places, and the keys that it represents.
 use Rattle.std.specs.Prelude.{◌≡◌, ℕ, zero, suc, ◌%◌, ◌<◌, List, [], ◌∷◌, length, drop, Bool, ◌&&◌, not, nat_eq, Option, Some, None, if◌then◌else◌}
 use Rattle.std.specs.BTreeMap.{BTreeMap, get_by_text}
 use Rattle.std.specs.Option.{option_or}
@@ -10,7 +10,7 @@ use Rattle.key_index.specs.declared.table.Slot.{Slot}
 use Rattle.key_index.specs.declared.table.Bucket.{Bucket}
 use Rattle.key_index.specs.declared.table.Table.{Table}
 
--- The slot has the hash, is not free, and at its place stands the key.
+-- The slot has the hash, is not free, and at its place is the key.
 abbrev pub is_slot_of : ℕ → List ℕ → List (List ℕ) → Slot → Bool
 is_slot_of hash key keys slot = nat_eq slot.hash hash && (not (nat_eq slot.place 0) && is_at key keys slot.place)
 
@@ -48,7 +48,7 @@ IsFree i [] = ⊥
 IsFree zero (s ∷ ss) = s.place ≡ 0
 IsFree (suc i) (s ∷ ss) = IsFree i ss
 
--- The table finds each key behind the first 16 at its place, and no other.
+-- The table finds each key after the first 16 at its place, and no other.
 pub record IsTable (t : Table) (keys : List (List ℕ)) : Type 0 where
   pub some : 0 < length t.buckets.items
   pub many : 15 < length keys

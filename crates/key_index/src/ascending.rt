@@ -5,10 +5,11 @@ ghost use Rattle.key_index.specs.Keys.{place_from};
 use crate::keyed::Keyed;
 use std::cmp::Ordering;
 
-/// How long a key may be that is compared with others for its order, so that a comparison takes constant time.
+/// How long a key may be that is compared with others for its order, so that a comparison takes constant
+/// time.
 const LONGEST: usize = 64;
 
-/// Whether a key that is not long comes behind the last of these, if there is one, in the order of bytes.
+/// Whether a key that is not long comes after the last of these, if there is one, in the order of bytes.
 pub(crate) fn is_above<T: Keyed>(entries: &[T], key: &str) -> bool
     ensures { result ≡ true → IsAscending (map T.key entries.now) → IsAscending (map T.key entries.now ++ key.now ∷ []) }
 {

@@ -7,8 +7,8 @@ const FACTOR: u64 = 11_400_714_819_323_198_485;
 // How many bytes of a long key count from its front, and from its end.
 const COUNTED: usize = 32;
 
-/// The hash of a key: 32 bits that depend on each of its bytes, and of one longer than 64 bytes on the first and on the last 32. So a
-/// hash takes constant time, whatever keys a stranger chooses.
+/// The hash of a key: 32 bits that depend on each of its bytes, and of one longer than 64 bytes on the first
+/// and on the last 32. So a hash takes constant time, whatever keys a stranger chooses.
 #[tactic(auto, unfolding(crate::specs::Hash::hash_of))]
 pub(crate) fn key_hash(key: &str) -> u32
     ensures { result ≡ hash_of key.now }

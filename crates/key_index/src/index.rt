@@ -10,10 +10,10 @@ use crate::keyed::{Keyed, first_place};
 use crate::table::Table;
 use std::alloc::{AllocError, Global};
 
-/// How many entries are looked through one by one, and stand in no table.
+/// How many entries are compared one by one, and are in no table.
 pub(crate) const FIRST: usize = 16;
 
-/// Where the keys of a list stand. The list is its caller's.
+/// The places of the keys of a list. The list is its caller's.
 #[derive(Drop)]
 pub struct KeyIndex {
     search: Search,
@@ -51,8 +51,8 @@ impl KeyIndex {
         }
     }
 
-    /// Notes the key of the entry that is added behind these next. No entry may have the key. It takes no memory, and
-    /// can't fail, while the entries are fewer than sixteen.
+    /// Notes the key of the entry that is added after these next. No entry may have the key. It takes no
+    /// memory, and can't fail, while the entries are fewer than sixteen.
     pub fn note_next<T: Keyed>(
         &mut self,
         alloc: Global,
@@ -82,8 +82,8 @@ impl KeyIndex {
         }
     }
 
-    /// Makes the index stand for these entries, whatever it stood for. When allocation fails, entries are looked through
-    /// one by one until the next key is noted.
+    /// Makes the index represent these entries, whatever it represented. When allocation fails, entries are
+    /// looked through one by one until the next key is noted.
     pub fn renew<T: Keyed>(&mut self, alloc: Global, entries: &[T])
         requires { HasDistinctKeys (map T.key entries.now) }
         ensures { IsIndexed self.new (map T.key entries.now) }
@@ -95,7 +95,8 @@ impl KeyIndex {
     }
 }
 
-// The place of a key among keys that ascend. A key that comes behind them, as where keys come in order, is not among them.
+// The place of a key among keys that ascend. A key that comes after them, as where keys come in order, is not
+// among them.
 fn find_ascending<T: Keyed>(entries: &[T], key: &str) -> Option<usize>
     requires { IsAscending (map T.key entries.now) }
     ensures { result ≡ place_from 0 key.now (map T.key entries.now) }

@@ -1,12 +1,10 @@
 ghost use Rattle.std.specs.Prelude.{◌≡◌, ℕ, List, map};
 ghost use Rattle.key_index.specs.Keys.{is_at, place_from};
 
-/// What has a key.
 pub trait Keyed {
     /// The bytes of the key.
     ghost key: { Self → List ℕ };
 
-    /// The key.
     fn key(&self) -> &str
         ensures { result.now ≡ key self.now };
 }

@@ -1,11 +1,13 @@
-//! Where keys stand in a list whose keys differ: an index for the members of objects and the entries of maps.
+//! An index from each key of a list of distinct keys to its place, for the members of objects and the entries
+//! of maps.
 //!
-//! The list and its keys are the caller's: the index keeps places alone. Up to sixteen keys are compared one by one. More
-//! keys that ascend are looked for by halves, and take no memory; a key above the last is seen to be new at once. Once a
-//! key comes that is not above the one before, or is longer than 64 bytes, the keys behind the first sixteen stand in buckets by
-//! a hash of their bytes, and a key whose bucket is full stands in an ordered map. So a look-up takes constant time, or time
-//! logarithmic in the keys where these ascend or were chosen so that their hashes agree. Of a long key the hash takes the ends
-//! alone, so that noting it takes constant time too.
+//! The list and its keys are the caller's: the index keeps places alone. Up to sixteen keys are compared one
+//! by one. More keys that ascend are looked for by halves, and take no memory; a key above the last is seen
+//! to be new at once. Once a key comes that is not above the one before, or is longer than 64 bytes, the keys
+//! after the first sixteen are in buckets by a hash of their bytes, and a key whose bucket is full is in an
+//! ordered map. So a look-up takes constant time, or time logarithmic in the keys where these ascend or were
+//! chosen so that their hashes agree. Of a long key the hash takes the ends alone, so that noting it takes
+//! constant time too.
 //!
 //! ```text
 //! let mut index = KeyIndex::new();
@@ -14,10 +16,11 @@
 //! index.renew(alloc, entries.as_slice());                 // entries of which some were taken out
 //! ```
 //!
-//! What is promised: an index that stands for a list of keys (`IsIndexed`) finds each of them at its place, and no
-//! other key. `note_next` gives the index that stands for the longer list, or one that still stands for the list as it is:
-//! never while the list has fewer than sixteen keys, and else when allocation fails. `renew` gives one that stands for any
-//! entries, and looks through them one by one when allocation fails.
+//! What is promised: an index that represents a list of keys (`IsIndexed`) finds each of them at its place,
+//! and no other key. `note_next` gives the index that represents the longer list, or one that still
+//! represents the list as it is: never while the list has fewer than sixteen keys, and else when allocation
+//! fails. `renew` gives one that represents any entries, and looks through them one by one when allocation
+//! fails.
 //!
 //! The text to believe is in `specs/`: `Keys`, `Index`.
 #![tactic(auto)]

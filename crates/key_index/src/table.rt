@@ -12,7 +12,8 @@ use std::collections::BTreeMap;
 // How many keys a bucket has room for.
 const SLOTS: usize = 8;
 
-/// Where one key stands, with its hash. The place 0 says that the slot is free, since the first entries are in no table.
+/// The place of one key, with its hash. The place 0 says that the slot is free, since the first entries are
+/// in no table.
 #[derive(Clone, Copy)]
 pub(crate) struct Slot {
     pub(crate) hash: u32,
@@ -73,7 +74,7 @@ impl Table {
         count / 2 >= self.buckets.len()
     }
 
-    /// Notes a key that is not there, at the place behind the others.
+    /// Notes a key that is not there, at the place after the others.
     pub(crate) fn note(&mut self, alloc: Global, key: &str, place: usize) -> Result<(), AllocError>
         requires { 0 < length self.old.buckets.items }
         ensures ok { OnOk result ((keys : List (List ℕ)) → IsTable self.old keys → LacksKey key.now keys → length keys ≡ place → IsTable self.new (keys ++ key.now ∷ [])) }
@@ -93,7 +94,7 @@ impl Table {
         }
     }
 
-    /// The place of a key behind the first `FIRST`.
+    /// The place of a key after the first `FIRST`.
     pub(crate) fn find<T: Keyed>(&self, entries: &[T], key: &str) -> Option<usize>
         requires { 0 < length self.now.buckets.items }
         ensures { result ≡ later_place self.now (map T.key entries.now) key.now }

@@ -1,4 +1,4 @@
--- What is too short or too long behind a name or a key.
+-- What is too short or too long after a name or a key.
 use Rattle.std.proofs.Common.{◌≡◌, ◌<◌, ◌≤◌, List, [], ◌∷◌, refl, length, arith, true, false}
 use Rattle.decimal_json.specs.View.{trees}
 use Rattle.decimal_json.specs.declared.tree.Json.{Json}

@@ -46,7 +46,7 @@ after_filter fs f (Err fault) = refl
 pub after_last : (fs : List Filter) → after_filters fs (Ok no_filters) ≡ Ok (filters_of fs)
 after_last fs = ap Ok (joined_none fs)
 
--- the elements from a place on are that element and those behind it
+-- the elements from a place on are that element and those after it
 elements_from : (es : List Json) (i : ℕ) (e : Json) → i < length es → e ≡ get_or es i e → trees (drop i es) ≡ tree (tree_of e) (trees (drop (suc i) es))
 elements_from [] i e h p = absurd (omega arith)
 elements_from (d ∷ es) zero e h p = ap (λ x. tree (tree_of x) (trees es)) (sym p)

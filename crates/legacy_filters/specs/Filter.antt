@@ -4,7 +4,8 @@ use Rattle.legacy_filters.specs.declared.filter.Group.{Group}
 use Rattle.legacy_filters.specs.declared.filter.Key.{Key}
 use Rattle.legacy_filters.specs.declared.filter.Test.{Test}
 
--- The forms of a filter: a boolean; a test of the value of a key; or an all, any or none of filters. Source: own.
+-- The forms of a filter: a boolean; a test of the value of a key; or an all, any or none of filters.
+-- Source: own.
 mutual
   pub data Filter : Type 0 where
     flag : Bool → Filter

@@ -72,7 +72,7 @@ abbrev pub one_scalar : Key → Trees → Option Scalar
 one_scalar key (tree t no_trees) = scalar_form key t
 one_scalar key _ = None
 
--- one value, and no order stands with `$type`
+-- one value, and `$type` has no order
 abbrev pub ordered_scalar : Key → Trees → Option Scalar
 ordered_scalar keys.Shape ts = None
 ordered_scalar keys.Id ts = one_scalar keys.Id ts
@@ -143,7 +143,7 @@ most_open = 24
 abbrev pub group_form : Group → List Reader → Reader
 group_form g rs count path = if nat_lt count most_open then grouped g (parts_form 1 rs (count + 1) path) else ill_formed path
 
--- an array that begins with a name, by the elements behind it and what these read as
+-- an array that begins with a name, by the elements after it and what these read as
 abbrev pub unless_group : Option Group → List ℕ → Trees → List Reader → Reader
 unless_group (Some g) name ts rs count path = group_form g rs count path
 unless_group None name ts rs count path = or_ill_formed (keyed_form name ts) path

@@ -19,6 +19,6 @@ indexed index (number z) = contains int_cmp index.numbers z
 indexed index (text s) = is_some (at_key s (pairs_of index.texts))
 indexed index _ = false
 
--- The index says of each value whether it stands in the list.
+-- The index says of each value whether it is in the list.
 abbrev pub IsIndexed : ScalarIndex → List Scalar → Type 0
 IsIndexed index scalars = (d : Data) → indexed index d ≡ is_one_of scalars d

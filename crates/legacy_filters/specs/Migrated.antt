@@ -9,6 +9,7 @@ abbrev pub expression_or_itself : Read → Tree → Tree
 expression_or_itself (Ok f) t = expression f
 expression_or_itself (Err fault) t = t
 
--- The expression of a legacy filter. A filter that is an expression stays, and so does one that is ill-formed.
+-- The expression of a legacy filter. A filter that is an expression stays, and so does one that is
+-- ill-formed.
 abbrev pub migrated_filter : Tree → Tree
 migrated_filter t = if is_legacy t then expression_or_itself (reading t) t else t

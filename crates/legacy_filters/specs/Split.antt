@@ -1,4 +1,4 @@
--- Which filters are legacy and which are expressions. Own.
+-- Which filters are legacy and which are expressions. Source: own.
 use Rattle.std.specs.Prelude.{ℕ, List, [], ◌∷◌, Bool, true, false, not, ◌&&◌, ◌||◌, codes, if◌then◌else◌}
 use Rattle.std.specs.List.{list_any}
 use Rattle.std.specs.Str.{bytes_eq}
@@ -21,17 +21,19 @@ abbrev pub has_is_legacy : Trees → Bool
 has_is_legacy no_trees = true
 has_is_legacy (tree key ts) = is_special_key key
 
--- `in` of an expression: at least two elements behind the name, of which the first is no text or the second is an array
+-- `in` of an expression: at least two elements after the name, of which the first is no text or the second is
+-- an array
 abbrev pub in_is_legacy : Trees → Bool
 in_is_legacy (tree needle (tree place ts)) = is_text needle && not (is_array place)
 in_is_legacy _ = true
 
--- a comparison of a key and a value: two elements behind the name, neither an array
+-- a comparison of a key and a value: two elements after the name, neither an array
 abbrev pub comparison_is_legacy : Trees → Bool
 comparison_is_legacy (tree a (tree b no_trees)) = not (is_array a) && not (is_array b)
 comparison_is_legacy _ = false
 
--- The split, of an array by its name and the elements behind it, where `any_legacy` tells whether one of these is a legacy filter.
+-- The split, of an array by its name and the elements after it, where `any_legacy` says whether one of these
+-- is a legacy filter.
 abbrev pub named_is_legacy : List ℕ → Trees → Bool → Bool
 named_is_legacy name ts any_legacy =
     if bytes_eq name (codes "has") then has_is_legacy ts else
@@ -41,8 +43,8 @@ named_is_legacy name ts any_legacy =
     if is_named name (codes "all" ∷ codes "any" ∷ []) then any_legacy else
     false
 
--- A truth value is an expression; what is no array, and an empty array, is legacy; an array whose first element is no text is an
--- expression.
+-- A truth value is an expression; what is no array, and an empty array, is legacy; an array whose first
+-- element is no text is an expression.
 abbrev mutual
   pub is_legacy : Tree → Bool
   is_legacy (boolean b) = false

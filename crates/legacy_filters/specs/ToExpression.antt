@@ -26,7 +26,7 @@ value_expression keys.Shape = call (codes "geometry-type") []
 value_expression keys.Id = call (codes "id") []
 value_expression (keys.Property name) = call (codes "get") (text name ∷ [])
 
--- a value, a number as it stood
+-- a value, a number as it was
 abbrev pub scalar_tree : Scalar → Tree
 scalar_tree (scalars.Flag b) = boolean b
 scalar_tree (scalars.Number n z) = number n

@@ -12,7 +12,7 @@ use decimal_json::{Items, Json, Text};
 use std::alloc::{AllocError, Global};
 
 impl LegacyFilter {
-    /// The expression that means the same, in which texts and numbers stand as they stood.
+    /// The expression that means the same, in which texts and numbers are as they were.
     pub fn to_expr(&self, alloc: Global) -> Result<Json, AllocError>
         ensures { IfOk result (λ made. tree_of made ≡ expression (filter_of self.now)) }
     {

@@ -3,7 +3,8 @@
 use crate::scalars::{Scalar, Scalars};
 use decimal_json::{Path, Text};
 
-/// What a test looks at: the shape of a feature, which `$type` names; its id, which `$id` names; or the property of a key.
+/// What a test looks at: the shape of a feature, which `$type` names; its id, which `$id` names; or the
+/// property of a key.
 #[derive(Drop)]
 pub enum Key {
     Shape,
@@ -11,7 +12,6 @@ pub enum Key {
     Property(Text),
 }
 
-/// The four orders.
 #[derive(Clone, Copy, Debug, PartialEq, Eq)]
 pub enum Order {
     Below,

@@ -1,4 +1,4 @@
-//! What stands at the key of a test.
+//! What is at the key of a test.
 
 ghost use Rattle.std.specs.Prelude.{◌≡◌, option_map};
 ghost use Rattle.prop_values.specs.Data.{number};

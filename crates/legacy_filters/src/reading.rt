@@ -16,8 +16,8 @@ use std::alloc::{AllocError, Global};
 // How many groups may be open at a place.
 const MOST_OPEN: u32 = 24;
 
-/// The legacy filter that a tree is, or the fault of its innermost ill-formed part, the first in order. Texts are shared with the
-/// tree.
+/// The legacy filter that a tree is, or the fault of its innermost ill-formed part, the first in order. Texts
+/// are shared with the tree.
 pub fn read(alloc: Global, filter: &Json) -> Result<Result<LegacyFilter, FilterFault>, AllocError>
     ensures { IfOk result (λ read. read_of read ≡ reading (tree_of filter.now)) }
 {
@@ -62,7 +62,7 @@ fn read_array(
     }
 }
 
-// An array that begins with a name, by the elements behind it.
+// An array that begins with a name, by the elements after it.
 #[tactic(auto, using(decimal_json::specs::Falls::item_weight))]
 #[cycle(reading)]
 fn read_named(

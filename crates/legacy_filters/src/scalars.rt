@@ -1,4 +1,4 @@
-//! The values that tests compare with, and which of them stand in a list.
+//! The values that tests compare with, and which of them are in a list.
 
 ghost use Rattle.std.specs.Prelude.{◌≡◌, ◌||◌, ℕ, ℤ, List, IfOk, OnOk, is_some};
 ghost use Rattle.std.specs.BTreeSet.{contains};
@@ -26,7 +26,7 @@ pub enum Scalar {
     Text(Text),
 }
 
-// Which values stand in a list. The texts are keys, whose values do not count; the numbers are in millionths.
+// Which values are in a list. The texts are keys, whose values do not count; the numbers are in millionths.
 #[derive(Drop)]
 pub(crate) struct ScalarIndex {
     texts: Entries,
@@ -35,8 +35,8 @@ pub(crate) struct ScalarIndex {
     has_false: bool,
 }
 
-/// The values of an `in` or `!in` in order, which clauses see as a list. Whether a value stands among them is found in time
-/// logarithmic in their number.
+/// The values of an `in` or `!in` in order, which clauses see as a list. Whether a value is among them is
+/// found in time logarithmic in their number.
 #[derive(Drop)]
 pub struct Scalars {
     scalars: Vec<Scalar>,
@@ -71,7 +71,7 @@ impl Scalars {
         self.scalars.as_slice()
     }
 
-    /// Whether one of the values is equal to what stands at a key.
+    /// Whether one of the values is equal to what is at a key.
     pub(crate) fn has(&self, found: &Found<'_>) -> bool
         ensures { result ≡ is_one_of self.now (found_data found.now) }
     {

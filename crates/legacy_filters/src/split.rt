@@ -4,8 +4,8 @@ ghost use Rattle.legacy_filters.specs.Split.{is_array, is_special_key, has_is_le
 
 use decimal_json::Json;
 
-/// Whether a filter is a legacy one; else it is an expression. Own: the forms of both overlap, and the split decides by the name
-/// that an array begins with and by which of its elements are arrays.
+/// Whether a filter is a legacy one; else it is an expression. The forms of both overlap, and the split
+/// decides by the name that an array begins with and by which of its elements are arrays. Source: own.
 #[tactic(auto, using(decimal_json::specs::Falls::item_weight))]
 #[cycle(split)]
 pub fn is_legacy(filter: &Json) -> bool
@@ -30,7 +30,7 @@ fn array_is_legacy(items: &[Json]) -> bool
     }
 }
 
-// An array that begins with a name, by the elements behind it.
+// An array that begins with a name, by the elements after it.
 #[tactic(auto, using(decimal_json::specs::Falls::item_weight))]
 #[cycle(split)]
 fn named_is_legacy(name: &str, others: &[Json]) -> bool

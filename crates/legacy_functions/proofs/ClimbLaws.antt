@@ -25,7 +25,7 @@ abbrev pub Climbs : Option ℤ → List ℤ → Type 0
 Climbs before [] = Unit {0}
 Climbs before (z ∷ zs) = IsAbove before z × Climbs (Some z) zs
 
--- each is above what stands before them
+-- each is above those before it
 all_above : (y : ℤ) (zs : List ℤ) → Climbs (Some y) zs → (k : ℕ) (d : ℤ) → k < length zs → y <ℤ get_or zs k d
 all_above y [] c k d h = absurd (omega arith)
 all_above y (z ∷ zs) c zero d h = c.0

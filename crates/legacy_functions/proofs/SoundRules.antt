@@ -1,5 +1,5 @@
--- What holds of the stops and rules of each function that was read: texts of numbers are those of their numbers, outputs are literals of
--- the row or token texts, and inputs ascend.
+-- What holds of the stops and rules of each function that was read: texts of numbers are those of their
+-- numbers, outputs are literals of the row or token texts, and inputs ascend.
 use Rattle.std.proofs.Common.{◌≡◌, ℕ, ℤ, pos, List, [], ◌∷◌, refl, sym, subst, true, false}
 use Rattle.std.specs.Prelude.{Bool, ◌&&◌, codes, int_lt, Option, Some, None, is_none, option_map, option_and_then, Result, Ok, Err, if◌then◌else◌}
 use Rattle.std.specs.Ordering.{int_eq}
@@ -45,7 +45,8 @@ IsInput (flag b) = Unit {0}
 IsInput (number n) = IsSpelled n
 IsInput (word s) = Unit {0}
 
--- from stop to stop it goes otherwise than by steps only where the row ramps, and by a base only where that is above 0
+-- from stop to stop it goes otherwise than by steps only where the row ramps, and by a base only where that
+-- is above 0
 abbrev pub IsWayOf : RowData → Way → Type 0
 IsWayOf row even = row.reads.ramps ≡ true
 IsWayOf row (curved base) = (row.reads.ramps ≡ true) × (IsSpelled base × (int_lt (pos 0) base.value ≡ true))

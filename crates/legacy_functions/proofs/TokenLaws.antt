@@ -37,17 +37,17 @@ any_after [] i h = absurd (omega arith)
 any_after (b ∷ bs) zero h = refl
 any_after (b ∷ bs) (suc i) h = any_after bs i (omega arith)
 
--- from a place on: there, or behind it
+-- from a place on: at it, or after it
 pub any_from : (bs : List ℕ) (i : ℕ) → i < length bs → any_token (drop i bs) ≡ (begins_token (drop i bs) || any_token (drop (i + 1) bs))
 any_from bs i h = any_after bs i h ∙ ap (λ n. begins_token (drop i bs) || any_token (drop n bs)) (sym (add-one i))
 
--- where none begins, it is one behind
+-- where none begins, it is one after
 pub any_kept : (bs : List ℕ) (i : ℕ) (whole : Bool) → i < length bs → begins_token (drop i bs) ≡ false → any_token (drop i bs) ≡ whole → any_token (drop (i + 1) bs) ≡ whole
 any_kept bs i whole h none kept = ap (λ b. b || any_token (drop (i + 1) bs)) (sym none) ∙ (sym (any_from bs i h) ∙ kept)
 
 -- ---- the first piece of a text
 
--- behind the rest of a token the pieces begin anew
+-- after the rest of a token the pieces begin anew
 behind : (k : ℕ) (bs : List ℕ) → pieces_behind k bs ≡ pieces_behind 0 (drop k bs)
 behind zero bs = refl
 behind (suc k) [] = refl
@@ -135,7 +135,7 @@ pub record BeginsPlain (bs : List ℕ) (size : ℕ) : Type 0 where
   pub opens : size < length bs → get_or bs size 0 ≡ 123
   pub first : pieces bs ≡ Plain (take size bs) ∷ pieces (drop size bs)
 
--- where a token begins no byte stands before it, and the first piece is none of bytes
+-- where a token begins there is no byte before it, and the first piece is none of bytes
 plain_some : (b : ℕ) (bs : List ℕ) (t : Bool) → is_some (token_at b bs) ≡ t → 0 < (if t then 0 else plain_size bs + 1) → t ≡ false
 plain_some b bs true e h = absurd (omega arith)
 plain_some b bs false e h = refl
@@ -210,7 +210,7 @@ plain_after [] i h = absurd (omega arith)
 plain_after (b ∷ bs) zero h = refl
 plain_after (b ∷ bs) (suc i) h = plain_after bs i (omega arith)
 
--- from a place on: no byte where a token begins there, else one more than behind it
+-- from a place on: no byte where a token begins there, else one more than after it
 pub plain_from : (bs : List ℕ) (i : ℕ) → i < length bs → plain_size (drop i bs) ≡ (if begins_token (drop i bs) then 0 else plain_size (drop (i + 1) bs) + 1)
 plain_from bs i h = plain_after bs i h ∙ ap (λ n. if begins_token (drop i bs) then 0 else plain_size (drop n bs) + 1) (sym (add-one i))
 

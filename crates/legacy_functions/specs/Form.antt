@@ -83,7 +83,8 @@ abbrev pub number_form : Tree → Option Spelled
 number_form (json.number n) = spelled_number n (read_text n)
 number_form _ = None
 
--- ---- outputs and the default are literals of the row; where the row takes tokens a text with tokens is a token text
+-- ---- outputs and the default are literals of the row; where the row takes tokens a text with tokens is a
+-- token text
 
 abbrev pub literal_form : Tree → Option Data → Option Output
 literal_form t (Some d) = Some (literal t d)
@@ -307,7 +308,8 @@ kind_body Interval row ms = stops_body row ms
 kind_body Categorical row ms = where_true (is_some ms.property) (stops_body row ms)
 kind_body Identity row ms = where_true (is_some ms.property && is_none ms.stops) (Some identity)
 
--- ---- what is outside: a color space; and of exponential functions a base that is not above 0, and one other than 1 over zooms
+-- ---- what is outside: a color space; and of exponential functions a base that is not above 0, and one other
+-- than 1 over zooms
 
 abbrev pub is_zoomed : Body → Bool
 is_zoomed (zoomed rules) = true

@@ -8,7 +8,7 @@ use Rattle.legacy_functions.specs.Function.{Spelled, Way, stepped}
 use Rattle.legacy_functions.specs.Form.{Members, way_by, is_outside_way}
 use Rattle.legacy_functions.specs.Parts.{spelled_seen, output_seen}
 
--- the members, of which two stand in the object alone
+-- the members, of which two are in the object alone
 abbrev pub members_seen : Fields → Found → Members
 members_seen fs found = record {
   kind = found.kind;

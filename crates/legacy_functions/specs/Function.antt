@@ -14,12 +14,13 @@ pub data Input : Type 0 where
   number : Spelled → Input
   word : List ℕ → Input
 
--- the output of a stop, or a default: a literal as it stands, with its value; or a token text
+-- the output of a stop, or a default: a literal as it is, with its value; or a token text
 pub data Output : Type 0 where
   literal : Tree → Data → Output
   tokens : List ℕ → Output
 
--- how a function goes from stop to stop: evenly; by powers of a base that is above 0 and is not 1; or not at all until the next
+-- how a function goes from stop to stop: evenly; by powers of a base that is above 0 and is not 1; or not at
+-- all until the next
 pub data Way : Type 0 where
   even : Way
   curved : Spelled → Way

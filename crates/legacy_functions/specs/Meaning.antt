@@ -24,7 +24,7 @@ use Rattle.operator_values.specs.Ramps.{between_of}
 use Rattle.legacy_functions.specs.Function.{Spelled, Input, flag, number, word, Output, literal, tokens, Way, even, curved, stepped, Rule, numeric, categorical, Body, plain, zoomed, identity, Function}
 use Rattle.legacy_functions.specs.Tokens.{token_text}
 
--- ---- outputs, and what stands where no stop does
+-- ---- outputs, and the output where there is no stop
 
 abbrev pub output_data : Feature → Output → Data
 output_data feature (literal t d) = d
@@ -48,7 +48,8 @@ between_results x x0 x1 (Ok d) (Ok e) = between_of x x0 d x1 e
 between_results x x0 x1 (Ok d) (Err fault) = Err fault
 between_results x x0 x1 (Err fault) later = Err fault
 
--- at or below the first input and at or above the last one result; else the lower result, then the upper, then what is between
+-- at or below the first input and at or above the last one result; else the lower result, then the upper,
+-- then what is between
 abbrev pub ramp_result : List ℤ → List Evaluated → ℤ → StopPlace → Evaluated
 ramp_result inputs results x First = result_at results 0
 ramp_result inputs results x Last = result_at results (length inputs - 1)

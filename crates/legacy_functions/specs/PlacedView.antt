@@ -1,4 +1,4 @@
--- What clauses see of stops as they stand.
+-- What clauses see of stops as they are.
 use Rattle.std.specs.Prelude.{Option, option_map}
 use Rattle.legacy_functions.specs.declared.function.Input.{Input as InputValue}
 use Rattle.legacy_functions.specs.declared.function.Spelled.{Spelled as SpelledValue}

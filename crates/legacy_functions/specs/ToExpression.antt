@@ -10,7 +10,7 @@ use Rattle.legacy_functions.specs.Function.{Spelled, Input, flag, number, word, 
 use Rattle.legacy_functions.specs.Meaning.{zoom_way}
 use Rattle.legacy_functions.specs.Tokens.{call, property_expression, token_expression}
 
--- an array stands in `literal`
+-- an array is in `literal`
 abbrev pub as_literal : Tree → Tree
 as_literal (json.list ts) = call (codes "literal") (json.list ts ∷ [])
 as_literal t = t
@@ -46,7 +46,7 @@ curve_expression _ = call (codes "linear") []
 abbrev pub ramp_expression : Way → Tree → Branches → Tree
 ramp_expression way x bs = call (codes "interpolate") (curve_expression way ∷ x ∷ branch_elements bs)
 
--- the first output has no input, and stands alone where it is the only one
+-- the first output has no input, and is alone where it is the only one
 abbrev pub step_expression : Tree → Branches → Tree
 step_expression x [] = json.null
 step_expression x (b ∷ []) = b.1

@@ -21,7 +21,7 @@ abbrev pub any_token : List ℕ → Bool
 any_token [] = false
 any_token (b ∷ bs) = is_some (token_at b bs) || any_token bs
 
--- how many bytes stand before the first token
+-- how many bytes are before the first token
 abbrev pub plain_size : List ℕ → ℕ
 plain_size [] = 0
 plain_size (b ∷ bs) = if is_some (token_at b bs) then 0 else plain_size bs + 1

@@ -1,4 +1,4 @@
--- Token texts, whose tokens stand for properties. Source: own.
+-- Token texts, whose tokens represent properties. Source: own.
 use Rattle.std.specs.Prelude.{ℕ, ◌+◌, ◌-◌, List, [], ◌∷◌, length, drop, flat_map, map, Bool, true, false, ◌||◌, nat_eq, codes, Option, Some, None, option_map, unwrap_or, if◌then◌else◌}
 use Rattle.std.specs.List.{list_any}
 use Rattle.decimal_json.specs.Tree.{Tree, text, list, tree, trees_of}
@@ -26,7 +26,8 @@ abbrev pub closed_name : List ℕ → List ℕ → Option (List ℕ)
 closed_name [] later = None
 closed_name (b ∷ bs) later = if closes later then Some (b ∷ bs) else None
 
--- The name of the token that a '{' begins, by what stands behind it: one or more bytes other than braces, and then a '}'.
+-- The name of the token that a '{' begins, by what follows it: one or more bytes other than braces, and then
+-- a '}'.
 abbrev pub token_name : List ℕ → Option (List ℕ)
 token_name bs = closed_name (before_brace bs) (drop (length (before_brace bs)) bs)
 
@@ -34,23 +35,23 @@ token_name bs = closed_name (before_brace bs) (drop (length (before_brace bs)) b
 abbrev pub token_at : ℕ → List ℕ → Option (List ℕ)
 token_at b bs = if nat_eq b 123 then token_name bs else None
 
--- a byte of no token, before the pieces behind it
+-- a byte of no token, before the pieces after it
 abbrev pub with_byte : ℕ → List Piece → List Piece
 with_byte b (Plain s ∷ ps) = Plain (b ∷ s) ∷ ps
 with_byte b (Token name ∷ ps) = Plain (b ∷ []) ∷ Token name ∷ ps
 with_byte b [] = Plain (b ∷ []) ∷ []
 
--- a token, or a byte, before the pieces behind it
+-- a token, or a byte, before the pieces after it
 abbrev pub with_piece : ℕ → Option (List ℕ) → List Piece → List Piece
 with_piece b (Some name) ps = Token name ∷ ps
 with_piece b None ps = with_byte b ps
 
--- how many bytes of a token stand behind its '{'
+-- how many bytes of a token follow its '{'
 abbrev pub rest_of_token : Option (List ℕ) → ℕ
 rest_of_token (Some name) = length name + 1
 rest_of_token None = 0
 
--- The pieces of a text from the left, behind so many bytes of a token that was found.
+-- The pieces of a text from the left, after `passed` bytes of a token that was found.
 abbrev pub pieces_behind : ℕ → List ℕ → List Piece
 pieces_behind k [] = []
 pieces_behind k (b ∷ bs) =
@@ -66,7 +67,8 @@ is_token (Token name) = true
 abbrev pub has_tokens : List ℕ → Bool
 has_tokens s = list_any is_token (pieces s)
 
--- ---- what a token text is on a feature: each token is replaced by the text of that property, which is empty where it is missing
+-- ---- what a token text is on a feature: each token is replaced by the text of that property, which is empty
+-- where it is missing
 
 abbrev pub property_text : List ℕ → Feature → List ℕ
 property_text name feature = unwrap_or (option_map shown_text (at_key name (pairs_of feature.properties))) []

@@ -27,8 +27,8 @@ pub(crate) struct CategoryIndex {
     on_false: Option<usize>,
 }
 
-/// The stops of categories in order. No two inputs are equal. The index finds the one that is equal to a value in time
-/// logarithmic in their number. Clauses see the list of stops.
+/// The stops of categories in order. No two inputs are equal. The index finds the one that is equal to a
+/// value in time logarithmic in their number. Clauses see the list of stops.
 #[derive(Drop)]
 pub(crate) struct Categories {
     stops: Vec<Category>,

@@ -26,8 +26,8 @@ use property_tables::Fallback;
 use std::alloc::{AllocError, Global};
 
 impl Function {
-    /// The expression that means the same. Texts and numbers stand in it as they stood, and the row's default as the table writes
-    /// it.
+    /// The expression that means the same. Texts and numbers are in it as they were, and the row's default as
+    /// the table writes it.
     pub fn to_expr(&self, alloc: Global) -> Result<Json, AllocError>
         ensures { IfOk result (λ made. tree_of made ≡ function_expression (row_of self.now) (function_of self.now)) }
     {
@@ -83,7 +83,7 @@ fn zoom_json(alloc: Global) -> Result<Json, AllocError>
 
 // ---- outputs and defaults
 
-// An array stands in `literal`.
+// An array is in `literal`.
 fn as_literal(alloc: Global, json: Json) -> Result<Json, AllocError>
     ensures { IfOk result (λ made. tree_of made ≡ as_literal (tree_of json)) }
 {
@@ -215,7 +215,7 @@ fn ramp_expression(
     Ok(Json::List(items))
 }
 
-// The first output has no input, and stands alone where it is the only one.
+// The first output has no input, and is alone where it is the only one.
 #[tactic(auto, using(crate::proofs::ExpressionLaws::step_one, crate::proofs::ExpressionLaws::step_more))]
 fn step_expression(alloc: Global, input: Json, stops: &[NumberStop]) -> Result<Json, AllocError>
     requires { 0 < length stops.now }

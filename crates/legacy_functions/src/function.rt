@@ -35,7 +35,7 @@ pub(crate) enum Input {
     Word(Text),
 }
 
-// The output of a stop, or a default: a literal as it stands, with its value; or a token text.
+// The output of a stop, or a default: a literal as it is, with its value; or a token text.
 #[derive(Drop)]
 pub(crate) enum Output {
     Literal(Json, Value),
@@ -54,7 +54,8 @@ pub(crate) struct Category {
     pub(crate) output: Output,
 }
 
-// How a function goes over numbers from stop to stop. It does not matter where there are no stops over numbers.
+// How a function goes over numbers from stop to stop. It does not matter where there are no stops over
+// numbers.
 #[derive(Drop)]
 pub(crate) enum Way {
     Even,

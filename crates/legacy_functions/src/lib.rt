@@ -1,4 +1,5 @@
-//! Legacy functions and token texts of MapLibre styles: what they give on a feature, and the expressions that give the same.
+//! Legacy functions and token texts of MapLibre styles: what they give on a feature, and the expressions that
+//! give the same.
 //!
 //! ```text
 //! let json = parse(alloc, b"{\"property\":\"rank\",\"stops\":[[0,1],[10,11]]}")?;
@@ -14,15 +15,17 @@
 //! token_text(alloc, "{name} ({rank})", &feature)?; // "Rhine (3)"
 //! ```
 //!
-//! What is promised, for all JSON trees, rows and features: `read` gives the function that the tree is by `specs/Form.antt`, or says that
-//! it is outside, or that it is none. `value` is the meaning of `specs/Meaning.antt`, faults included, which goes by the list of stops and
-//! names no expression. `to_expr` gives the expression of `specs/ToExpression.antt`; texts and numbers stand in it as they stood in the
+//! What is promised, for all JSON trees, rows and features: `read` gives the function that the tree is by
+//! `specs/Form.antt`, or says that it is outside, or that it is none. `value` is the meaning of
+//! `specs/Meaning.antt`, faults included, which goes by the list of stops and names no expression. `to_expr`
+//! gives the expression of `specs/ToExpression.antt`; texts and numbers are in it as they were in the
 //! function. `has_tokens`, `token_text` and `token_expr` go by the pieces of `specs/Tokens.antt`.
 //!
-//! A function is read in n log n of its stops. Its stops are found by halving, and its categories by an ordered index, so that a feature
-//! takes time logarithmic in their number. No list of stops is copied.
+//! A function is read in n log n of its stops. Its stops are found by halving, and its categories by an
+//! ordered index, so that a feature takes time logarithmic in their number. No list of stops is copied.
 //!
-//! The text to believe is in `specs/`: `Tokens`, `Function`, `Form`, `Meaning`, `ToExpression`, `Parts`, `View`.
+//! The text to believe is in `specs/`: `Tokens`, `Function`, `Form`, `Meaning`, `ToExpression`, `Parts`,
+//! `View`.
 #![tactic(auto)]
 
 mod categories;

@@ -1,4 +1,4 @@
-//! The stops of a legacy function as they stand.
+//! The stops of a legacy function as they are.
 
 ghost use Rattle.std.specs.Prelude.{◌≡◌, map, codes, option_map, IfOk};
 ghost use Rattle.decimal_json.specs.Tree.{field_at, fields_of, list, tree, no_trees};
@@ -13,7 +13,7 @@ use decimal_json::{Json, Members};
 use property_tables::Row;
 use std::alloc::{AllocError, Global};
 
-/// A stop as it stands, with the zoom of an input that has one.
+/// A stop as it is, with the zoom of an input that has one.
 #[derive(Drop)]
 pub(crate) struct PlacedStop {
     pub(crate) zoom: Option<Spelled>,

@@ -22,8 +22,8 @@ use decimal_json::{Json, Members};
 use property_tables::Row;
 use std::alloc::{AllocError, Global};
 
-/// The legacy function that an object is on a row, or that it is outside: it has a color space, or its base is one that is not
-/// evaluated.
+/// The legacy function that an object is on a row, or that it is outside: it has a color space, or its base
+/// is one that is not evaluated.
 pub fn read(
     alloc: Global,
     json: &Json,
@@ -167,7 +167,8 @@ fn is_zoomed(body: &Body) -> bool
     }
 }
 
-// The way of a function, or none where it is outside: where its base is not above 0, or is not 1 and its inputs have zooms.
+// The way of a function, or none where it is outside: where its base is not above 0, or is not 1 and its
+// inputs have zooms.
 fn way_inside(kind: Kind, base: Option<Spelled>, over_zooms: bool) -> Option<Way>
     ensures { option_map way_seen result ≡ way_inside kind (option_map spelled_seen base) over_zooms }
 {

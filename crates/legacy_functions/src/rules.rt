@@ -109,7 +109,8 @@ fn kept_stops(alloc: Global, stops: Vec<Category>) -> Result<Vec<NumberStop>, Al
     Ok(kept)
 }
 
-// Keeps a stop over a number, unless its input is the one before. Gives the number that is then before the next.
+// Keeps a stop over a number, unless its input is the one before. Gives the number that is then before the
+// next.
 fn keep_stop(
     kept: &mut Vec<NumberStop>,
     before: Option<Fixed>,

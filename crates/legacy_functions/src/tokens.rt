@@ -1,4 +1,4 @@
-//! Token texts, whose tokens stand for properties.
+//! Token texts, whose tokens represent properties.
 
 ghost use Rattle.std.specs.Prelude.{◌≡◌, ◌++◌, ◌∷◌, ◌+◌, ◌<◌, ◌≤◌, List, length, IfOk, OnOk};
 ghost use Rattle.std.specs.String.{string_bytes};
@@ -11,7 +11,7 @@ use prop_values::to_text;
 use std::alloc::{AllocError, Global};
 use tile_reader::Feature;
 
-/// A part of a token text: text that stands for itself, or the name of the property that a token stands for.
+/// A part of a token text: a literal text, or the name of the property that a token represents.
 #[derive(Drop)]
 pub(crate) enum Piece {
     Plain(Text),
@@ -38,7 +38,8 @@ fn any_token(bytes: &[u8]) -> bool
     false
 }
 
-/// The text on a feature: each token is replaced by the text of that property, which is empty where it is missing.
+/// The text on a feature: each token is replaced by the text of that property, which is empty where it is
+/// missing.
 pub fn token_text(alloc: Global, text: &str, feature: &Feature) -> Result<Text, AllocError>
     ensures { IfOk result (λ made. made ≡ token_text text.now feature.now) }
 {
@@ -156,7 +157,7 @@ fn push_piece<'a>(
     }
 }
 
-// How many bytes stand before the first token.
+// How many bytes are before the first token.
 #[tactic(auto, using(crate::proofs::TokenLaws::plain_from))]
 fn plain_length(bytes: &[u8]) -> usize
     ensures count { result ≡ plain_size bytes.now }
@@ -188,7 +189,7 @@ fn token_length(bytes: &[u8]) -> usize
     }
 }
 
-// How many bytes the token has whose `{` stands before these.
+// How many bytes the token has whose `{` is before these.
 fn closed_length(later: &[u8]) -> usize
     ensures size { result ≡ size_of (token_name later.now) }
     ensures within { result ≤ length later.now + 1 }
@@ -201,7 +202,7 @@ fn closed_length(later: &[u8]) -> usize
     }
 }
 
-// How many bytes stand before the first brace.
+// How many bytes are before the first brace.
 fn name_length(bytes: &[u8]) -> usize
     ensures count { result ≡ length (before_brace bytes.now) }
     ensures within { result ≤ length bytes.now }

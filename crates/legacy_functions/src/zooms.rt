@@ -16,7 +16,6 @@ use crate::stops::ZoomRules;
 use fixed_num::Fixed;
 use std::alloc::{AllocError, Global};
 
-// A stop with its zoom.
 #[derive(Drop)]
 pub(crate) struct ZoomedStop {
     zoom: Spelled,

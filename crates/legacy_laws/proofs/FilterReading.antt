@@ -1,4 +1,5 @@
--- How the expressions of legacy filters read: a lemma for each call that stands in one, then by the form of the filter.
+-- How the expressions of legacy filters read: a lemma for each call that occurs in one, then by the form of
+-- the filter.
 use Rattle.std.proofs.Common.{◌≡◌, ◌∙◌, ℕ, suc, ◌+◌, ◌-◌, ◌<◌, List, [], ◌∷◌, length, refl, ap, arith, true, false}
 use Rattle.std.proofs.Math.Dec.{leb-zero}
 use Rattle.std.proofs.lemmas.Bool.{ne_eqb}
@@ -39,8 +40,7 @@ use Rattle.legacy_laws.proofs.FilterTerms.{one_term, two_terms, value_term, has_
 use Rattle.legacy_laws.proofs.FilterTerms.{among_term, test_term, filter_term, filter_terms}
 use Rattle.legacy_laws.proofs.SoundFilters.{IsReadScalar, IsScalarOf, AreScalarsOf, IsTestOf, IsSound, AreSound}
 
--- ---- trees that read as a term in all scopes and at all paths, and where no outside node and none of the global state
--- ---- stands
+-- ---- trees that read as a term in all scopes and at all paths, without outside nodes and global state
 
 abbrev pub nowhere : Walker
 nowhere sought format = false
@@ -63,7 +63,7 @@ and_false : (b : Bool) → (b && false) ≡ false
 and_false true = refl
 and_false false = refl
 
--- where a node of no global state stands, and such arguments
+-- where there is a node of the global state, and such arguments
 abbrev pub sought_in : Bool → Bool → Bool
 sought_in is_global others = if is_global then true else others
 
@@ -264,7 +264,7 @@ pub same_scope : (b : Bool) (scope : Scope) → (if b then scope else scope) ≡
 same_scope true scope = refl
 same_scope false scope = refl
 
--- an element behind the name is an argument
+-- an element after the name is an argument
 abbrev ReadAll : Type 0
 ReadAll = Result (List Term) SynFault
 

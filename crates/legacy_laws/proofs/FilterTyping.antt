@@ -100,7 +100,7 @@ different_typed (Property name) (Flag b) h scope path = (refl, refl)
 different_typed (Property name) (Number n z) h scope path = (refl, refl)
 different_typed (Property name) (Text s) h scope path = (refl, refl)
 
--- a key that orders stand with
+-- a key that an order may have
 abbrev IsOrderedKey : Key → Type 0
 IsOrderedKey Shape = ⊥
 IsOrderedKey Id = Unit {0}
@@ -327,7 +327,7 @@ none_unread allows (v ∷ vs) ws h k =
     still_none (allows v.reads) (first_unread allows vs) (first_unread allows (vs ++ ws)) v.path
     (λ p. none_unread allows vs ws p k) h
 
--- wherever it stands
+-- at every place
 abbrev IsAllowed : {S : Type 0} → (S → List PathPart → List Visit) → Type 0
 IsAllowed {S} visiting =
     (standing : S) (path : List PathPart) → first_unread filter_allows (visiting standing path) ≡ None

@@ -1,4 +1,4 @@
--- What the nodes of the terms of legacy functions read, and where the zoom stands in them.
+-- What the nodes of the terms of legacy functions read, and the place of the zoom in them.
 use Rattle.std.proofs.Common.{◌≡◌, ◌∙◌, ℕ, ◌+◌, List, [], ◌∷◌, ◌++◌, refl, ap, true, false}
 use Rattle.std.specs.Prelude.{Bool, ◌&&◌, ◌||◌, codes, map, Option, Some, None, is_some, is_none, unwrap_or, if◌then◌else◌}
 use Rattle.decimal_json.specs.declared.paths.PathPart.{PathPart}
@@ -32,7 +32,7 @@ use Rattle.legacy_laws.proofs.FunctionTerms.{ramp_term, step_term, way_term, sto
 use Rattle.legacy_laws.proofs.FunctionTerms.{category_terms, rule_term, zoom_term, rule_terms, identity_term}
 use Rattle.legacy_laws.proofs.FunctionTerms.{named_term, plain_term, body_term}
 
--- ---- no node reads what the row does not allow, wherever it stands
+-- ---- no node reads what the row does not allow, at any place
 
 abbrev pub KeepsInputs : RowData → Term → Type 0
 KeepsInputs row e =
@@ -60,7 +60,7 @@ none_zoom [] ws h k = k
 none_zoom (v ∷ vs) ws h k =
     none_later v.reads.zoom (first_zoom_after vs) (first_zoom_after (vs ++ ws)) v.path (λ p. none_zoom vs ws p k) h
 
--- where no zoom stands, none is astray
+-- where there is no zoom, none is astray
 stray_if : (b : Bool) (x y z : Option (List PathPart)) (path : List PathPart) → (x ≡ None → z ≡ None)
     → (if b then Some path else x) ≡ None → (if b then y else z) ≡ None
 stray_if true x y z path step h = absurd (cc)
@@ -189,7 +189,7 @@ module _ (row : RowData) where
 
   -- ---- by the zoom, at the root
 
-  -- the zoom is an input that the row allows, and stands as the input of the root
+  -- the zoom is an input that the row allows, and is the input of the root
   pub record IsAtRoot (e : Term) : Type 0 where
     pub keeps : KeepsInputs row e
     pub stray : (path : List PathPart) → first_stray_zoom (visits e Reached path) ≡ None

@@ -1,4 +1,5 @@
--- What the terms of legacy functions mean: from stop to stop, by a property, and then by the form of the function.
+-- What the terms of legacy functions mean: from stop to stop, by a property, and then by the form of the
+-- function.
 use Rattle.std.proofs.Common.{◌≡◌, ◌∙◌, ℕ, ℤ, List, [], ◌∷◌, refl, ap, sym, subst, true, false}
 use Rattle.std.specs.Prelude.{Bool, codes, Option, Some, None, option_map, unwrap_or, Ok, Err, if◌then◌else◌}
 use Rattle.prop_values.specs.Data.{Data, null, boolean, number as number_data, text, color, list, map as map_of}

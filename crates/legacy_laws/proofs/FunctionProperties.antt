@@ -16,7 +16,7 @@ IsOverNumbers (plain (categorical stops)) = ⊥
 IsOverNumbers (zoomed rules) = ⊥
 IsOverNumbers identity = ⊥
 
--- with a property each body may stand
+-- with a property each body is possible
 abbrev pub GoesBy : Option (List ℕ) → Body → Type 0
 GoesBy (Some name) body = Unit {0}
 GoesBy None body = IsOverNumbers body

@@ -1,4 +1,5 @@
--- How the expressions of legacy functions and token texts read: a lemma for each form of node, then by the form of the function.
+-- How the expressions of legacy functions and token texts read: a lemma for each form of node, then by the
+-- form of the function.
 use Rattle.std.proofs.Common.{◌≡◌, ◌∙◌, ℕ, suc, ◌+◌, ◌-◌, ◌<◌, List, [], ◌∷◌, length, refl, ap, arith, true, false}
 use Rattle.std.proofs.Math.Dec.{leb-zero}
 use Rattle.std.proofs.lemmas.Bool.{ne_eqb}
@@ -26,7 +27,7 @@ use Rattle.legacy_laws.proofs.FilterReading.{nowhere, IsReadAs, node_with, walk_
 use Rattle.legacy_laws.proofs.FilterReading.{read_value, same_scope, AreReadAs, walks, readers, unless_few}
 use Rattle.legacy_laws.proofs.FunctionTerms.{property_term, zoom_term}
 
--- ---- walkers: nothing stands among elements where it stands in none
+-- ---- walkers: nothing is among elements where it is in none
 
 abbrev pub AllNowhere : List (Element Walker) → Type 0
 AllNowhere [] = Unit {0}

@@ -84,7 +84,7 @@ number_output : (row : RowData) (n : List ℕ) (r : Result ℤ NumFault) (d : Da
 number_output row n (Ok z) d is h = record { inside = refl; reads = λ scope path i. number_read (is i) path }
 number_output row n (Err past) d is h = absurd (cc)
 
--- a list stands in `literal`
+-- a list is in `literal`
 abbrev list_literal : Trees → Tree
 list_literal ts = call (codes "literal") (json.list ts ∷ [])
 

@@ -83,7 +83,7 @@ module _ (row : RowData) (regular : IsRegular row) where
     abbrev default : Term
     default = default_term o row
 
-    -- conditions at even places, and outputs behind them and at the end
+    -- conditions at even places, and outputs after them and at the end
     abbrev case_want : Bool → Bool → Want
     case_want last even_place = want_of (if last || not even_place then OfNode else Own wants.Boolean) row.want
 

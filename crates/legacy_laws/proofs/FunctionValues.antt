@@ -1,5 +1,5 @@
--- What stands between the values of terms and those of legacy functions: literals, results of stops, counts of inputs, forms and inputs of
--- categories.
+-- What joins the values of terms and those of legacy functions: literals, results of stops, counts of inputs,
+-- forms and inputs of categories.
 use Rattle.std.proofs.Common.{◌≡◌, ◌∙◌, ℕ, zero, suc, ◌+◌, ◌-◌, ℤ, List, [], ◌∷◌, length, refl, ap, sym, arith, true, false}
 use Rattle.std.proofs.lemmas.Bool.Decides.{Decides-int_eq}
 use Rattle.std.proofs.lemmas.Int.{ints, by_lt_z}

@@ -1,4 +1,5 @@
--- The types of the nodes that stand in the terms of legacy functions: none has a type fault where its arguments have none.
+-- The types of the nodes that are in the terms of legacy functions: none has a type fault where its arguments
+-- have none.
 use Rattle.std.proofs.Common.{◌≡◌, ℕ, ◌+◌, ◌<◌, ℤ, List, [], ◌∷◌, length, refl, ap, sym, subst, arith, true, false}
 use Rattle.std.proofs.lemmas.Bool.{ne_eqb}
 use Rattle.std.specs.Prelude.{nat_eq, map, Option, Some, None, Result, Ok, Err, if◌then◌else◌}
@@ -205,7 +206,7 @@ behind_first : (k : ℕ) → 0 < k → nat_eq k 0 ≡ false
 behind_first k some = ne_eqb k 0 (λ p. omega (arith, some, p))
 
 module _ (want : Want) (scope : Scope) (path : List PathPart) where
-  -- what is found of an argument, and of those behind it
+  -- what is found of an argument, and of those after it
   abbrev and_later : Operator → ℕ → ℕ → Term → Founds → Founds
   and_later op m k e later =
       let inner = argument_path op m k path in

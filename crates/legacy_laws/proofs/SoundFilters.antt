@@ -1,4 +1,5 @@
--- What holds of each filter that was read: its numbers are those of their texts, and values beside `$type` are texts.
+-- What holds of each filter that was read: its numbers are those of their texts, and values beside `$type`
+-- are texts.
 use Rattle.std.proofs.Common.{◌≡◌, ℕ, ◌+◌, ℤ, List, [], ◌∷◌, ◌++◌, refl, subst, true, false}
 use Rattle.std.specs.Prelude.{Bool, codes, Option, Some, None, option_map, Result, Ok, Err, nat_lt, if◌then◌else◌}
 use Rattle.std.specs.Str.{bytes_eq}
@@ -43,7 +44,7 @@ abbrev pub AreScalarsOf : Key → List Scalar → Type 0
 AreScalarsOf key [] = Unit {0}
 AreScalarsOf key (v ∷ vs) = IsScalarOf key v × AreScalarsOf key vs
 
--- no order stands with `$type`
+-- `$type` has no order
 abbrev pub IsOrderedOf : Key → Scalar → Type 0
 IsOrderedOf Shape v = ⊥
 IsOrderedOf Id v = IsReadScalar v

@@ -1,4 +1,5 @@
--- What holds of each row of the table of properties: what its values are wanted as, and that its default fits.
+-- What holds of each row of the table of properties: what its values are wanted as, and that its default
+-- fits.
 use Rattle.std.proofs.Common.{◌≡◌, ◌≢◌, ℕ, ◌+◌, List, [], ◌∷◌, refl, ap, subst, true, false}
 use Rattle.std.proofs.lemmas.List.Elements.{All-head, All-tail}
 use Rattle.std.specs.Prelude.{Bool, not, ◌&&◌, ◌||◌, nat_le, unsigned_abs, All, Option, Some, None, Result, Ok, Err, if◌then◌else◌}

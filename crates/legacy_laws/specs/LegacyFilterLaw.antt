@@ -24,16 +24,16 @@ use Rattle.legacy_filters.specs.Split.{is_legacy}
 use Rattle.legacy_filters.specs.Migrated.{migrated_filter}
 use Rattle.legacy_filters.specs.ToExpression.{expression}
 
--- Whatever the zoom, the state and the two tests are, an expression gives of every feature under Boolean whether it passes
--- a filter.
+-- Whatever the zoom, the state and the two tests are, an expression gives of every feature under Boolean
+-- whether it passes a filter.
 abbrev pub SaysTheSame : Term → Filter → Type 0
 SaysTheSame e f =
     (zoom : ℤ) (feature : Feature) (state : List (List ℕ × Data)) (images scripts : List ℕ → Bool) →
     mean e wants.Boolean [] (feature_world zoom feature state images scripts)
     ≡ Ok (boolean (passes f feature))
 
--- The expression of a filter that was read is inside and reads without a fault, whatever the values of the global state
--- are, and says the same as the filter. So it never ends with a fault.
+-- The expression of a filter that was read is inside and reads without a fault, whatever the values of the
+-- global state are, and says the same as the filter. So it never ends with a fault.
 abbrev pub ExpressionsMeanTheirFilters : Type 0
 ExpressionsMeanTheirFilters =
     (t : Tree) (f : Filter) → legacy.reading t ≡ Ok f →
@@ -52,7 +52,7 @@ abbrev pub is_order : Test → Bool
 is_order (Ordered order v) = is_order_of v
 is_order t = false
 
--- whether such an order stands in a filter
+-- whether a filter contains such an order
 abbrev mutual
   pub has_order : Filter → Bool
   has_order (flag b) = false
@@ -63,9 +63,10 @@ abbrev mutual
   some_order no_filters = false
   some_order (filter f fs) = has_order f || some_order fs
 
--- The expression of a filter that was read is well typed as a filter: there is no type fault, and no node reads what a
--- filter may not read. Its kind is Boolean. The only fault that may be listed is NotOrdered, and it is listed exactly
--- where the filter has an order: `typeof` stands before the order, so that the fault never comes, but kinds do not tell.
+-- The expression of a filter that was read is well typed as a filter: there is no type fault, and no node
+-- reads what a filter may not read. Its kind is Boolean. The only fault that may be listed is NotOrdered, and
+-- it is listed exactly where the filter has an order: `typeof` is before the order, so that the fault never
+-- comes, but kinds do not show it.
 abbrev pub MigratedFiltersAreTyped : Type 0
 MigratedFiltersAreTyped =
     (t : Tree) (f : Filter) → legacy.reading t ≡ Ok f →

@@ -33,8 +33,8 @@ IsTableRow row =
     (t : LayerType) × (place : Place) × (name : List ℕ) × (number : ℕ)
     × (row_of t place name ≡ Some (number, row))
 
--- Whatever the zoom, the state and the two tests are, an expression gives of every feature under a want what is
--- said of the zoom and the feature: a value, or a fault.
+-- Whatever the zoom, the state and the two tests are, an expression gives of every feature under a want what
+-- is said of the zoom and the feature: a value, or a fault.
 abbrev pub GivesAlways : Term → Want → (ℤ → Feature → Evaluated) → Type 0
 GivesAlways e want said =
     (zoom : ℤ) (feature : Feature) (state : List (List ℕ × Data)) (images scripts : List ℕ → Bool) →
@@ -67,8 +67,8 @@ pub record IsAllowedOn (row : RowData) (f : Function) : Type 0 where
   pub zoom : has_zooms f ≡ true → row.reads.zoom ≡ true
   pub feature : is_some f.property ≡ true → row.reads.feature ≡ true
 
--- The expression of a function that was read, and is allowed on its row, is well typed as a value of the row: there
--- is no type fault, each node reads what it may, and the zoom stands where it may.
+-- The expression of a function that was read, and is allowed on its row, is well typed as a value of the row:
+-- there is no type fault, each node reads what it may, and the zoom is where it may be.
 abbrev pub MigratedFunctionsAreTyped : Type 0
 MigratedFunctionsAreTyped =
     (row : RowData) (t : Tree) (f : Function) → IsTableRow row →
@@ -112,7 +112,8 @@ abbrev pub output_asks_feature : Output → Bool
 output_asks_feature (literal t d) = false
 output_asks_feature (tokens s) = has_tokens s
 
--- a function without a property has one rule over numbers, which gives what its outputs say, never the default
+-- a function without a property has one rule over numbers, which gives what its outputs say, never the
+-- default
 abbrev pub outputs_ask_feature : Body → Bool
 outputs_ask_feature (plain (numeric way stops)) =
     list_any (λ (s : Spelled × Output). output_asks_feature s.1) stops

@@ -1,3 +1,3 @@
--- Laws. The statements are to be believed; their proofs stand in proofs/.
+-- Laws. The statements are to be believed; their proofs are in proofs/.
 pub mod LegacyFilterLaw
 pub mod LegacyFunctionLaw

@@ -6,15 +6,15 @@ ghost use Rattle.legacy_laws.specs.LegacyFunctionLaw.{MigratedFunctionsMentionTh
 
 use legacy_filters::expressions_are_not_legacy;
 
-/// The expression of a filter that was read reads without a fault, and gives of every feature under Boolean whether
-/// it passes the filter.
+/// The expression of a filter that was read reads without a fault, and gives of every feature under Boolean
+/// whether it passes the filter.
 #[tactic(auto, using(crate::proofs::LegacyFilterLaws::expressions_mean))]
 pub fn expressions_mean_their_filters()
     ensures { ExpressionsMeanTheirFilters }
 {}
 
-/// The expression of a filter that was read is well typed as a filter, and lists the fault of an order where the
-/// filter has one, else no fault.
+/// The expression of a filter that was read is well typed as a filter, and lists the fault of an order where
+/// the filter has one, else no fault.
 #[tactic(auto, using(crate::proofs::LegacyFilterLaws::migrated_filters))]
 pub fn migrated_filters_are_typed()
     ensures { MigratedFiltersAreTyped }
@@ -27,15 +27,15 @@ pub fn migrated_filters_stay()
     expressions_are_not_legacy();
 }
 
-/// The expression of a token text reads without a fault, and gives of every feature under every want the text,
-/// fitted to the want.
+/// The expression of a token text reads without a fault, and gives of every feature under every want the
+/// text, fitted to the want.
 #[tactic(auto, using(crate::proofs::TokenLaws::token_texts))]
 pub fn token_expressions_mean_their_texts()
     ensures { TokenExpressionsMeanTheirTexts }
 {}
 
-/// The expression of a legacy function of a row reads without a fault, and gives of every feature, at every zoom,
-/// the value of the function or its fault.
+/// The expression of a legacy function of a row reads without a fault, and gives of every feature, at every
+/// zoom, the value of the function or its fault.
 #[tactic(auto, using(crate::proofs::LegacyFunctionLaws::expressions_mean))]
 pub fn expressions_mean_their_functions()
     ensures { ExpressionsMeanTheirFunctions }
@@ -51,8 +51,8 @@ pub fn migrated_token_texts_are_typed()
     ensures { MigratedTokenTextsAreTyped }
 {}
 
-/// The expression of a legacy function mentions of the world what the function mentions: the zoom where its stops
-/// ask for it, the feature where it has a property or an output with tokens, and nothing else.
+/// The expression of a legacy function mentions of the world what the function mentions: the zoom where its
+/// stops ask for it, the feature where it has a property or an output with tokens, and nothing else.
 #[tactic(auto, using(crate::proofs::LegacyFunctionLaws::functions_mention))]
 pub fn migrated_functions_mention_the_same()
     ensures { MigratedFunctionsMentionTheSame }

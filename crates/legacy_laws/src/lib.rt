@@ -1,5 +1,5 @@
-//! Laws of legacy forms: a legacy filter, a legacy function or a token text and the expression that it is migrated to
-//! say the same.
+//! Laws of legacy forms: a legacy filter, a legacy function or a token text and the expression that it is
+//! migrated to say the same.
 //!
 //! ```text
 //! ["<=","rank",4]        // of a feature whose rank is "low", or is not there: false
@@ -10,25 +10,28 @@
 //!                        // the same
 //! ```
 //!
-//! What is promised of filters, for each tree that `legacy_filters::read` takes: its expression is inside, reads without a fault,
-//! and gives under Boolean what `passes` says, for every feature, zoom and state, and for all tests of images and scripts
-//! (`expressions_mean_their_filters`). It is well typed as a filter, and lists the fault NotOrdered exactly where the filter has
-//! an order with a number or a text, else no fault (`migrated_filters_are_typed`). For each tree: migrating a filter that was
-//! migrated changes nothing (`migrated_filters_stay`).
+//! What is promised of filters, for each tree that `legacy_filters::read` takes: its expression is inside,
+//! reads without a fault, and gives under Boolean what `passes` says, for every feature, zoom and state, and
+//! for all tests of images and scripts (`expressions_mean_their_filters`). It is well typed as a filter, and
+//! lists the fault NotOrdered exactly where the filter has an order with a number or a text, else no fault
+//! (`migrated_filters_are_typed`). For each tree: migrating a filter that was migrated changes nothing
+//! (`migrated_filters_stay`).
 //!
 //! What is promised of functions, for each row of the table of properties and each tree that
-//! `legacy_functions::read` takes as a function that is not outside: its expression is inside, reads without a fault,
-//! and gives under the row's want the function's value, or its fault, again in every world
-//! (`expressions_mean_their_functions`). Where the row allows what the function goes by, it is well typed as a value
-//! of the row, and the zoom stands where it may (`migrated_functions_are_typed`). It mentions of the world what the
-//! function mentions (`migrated_functions_mention_the_same`).
+//! `legacy_functions::read` takes as a function that is not outside: its expression is inside, reads without
+//! a fault, and gives under the row's want the function's value, or its fault, again in every world
+//! (`expressions_mean_their_functions`). Where the row allows what the function goes by, it is well typed as
+//! a value of the row, and the zoom is where it may be (`migrated_functions_are_typed`). It mentions of the
+//! world what the function mentions (`migrated_functions_mention_the_same`).
 //!
-//! What is promised of each text, with tokens or without: its expression is inside, reads without a fault, and gives
-//! under every want the text of its tokens, fitted to the want (`token_expressions_mean_their_texts`). It is well
-//! typed on the rows that take token texts (`migrated_token_texts_are_typed`), and mentions the feature where the
-//! text has tokens, and nothing else (`migrated_token_texts_mention_the_feature`).
+//! What is promised of each text, with tokens or without: its expression is inside, reads without a fault,
+//! and gives under every want the text of its tokens, fitted to the want
+//! (`token_expressions_mean_their_texts`). It is well typed on the rows that take token texts
+//! (`migrated_token_texts_are_typed`), and mentions the feature where the text has tokens, and nothing else
+//! (`migrated_token_texts_mention_the_feature`).
 //!
-//! Each law is a definition, and a function without arguments ensures it: a caller that calls the function has the law.
+//! Each law is a definition, and a function without arguments ensures it: a caller that calls the function
+//! has the law.
 //!
 //! The text to believe is in `specs/`: `LegacyFilterLaw`, `LegacyFunctionLaw`.
 #![tactic(auto)]

@@ -19,7 +19,7 @@ prefix_first old new piece rest h = record {
   appended = h.appended;
 }
 
--- behind a piece
+-- after a piece
 prefix_behind : (old mid new piece rest : List ℕ) → mid ≡ old ++ piece → AppendsPrefix mid new rest → AppendsPrefix old new (piece ++ rest)
 prefix_behind old mid new piece rest e h = record {
   front = piece ++ h.front;
@@ -33,7 +33,7 @@ pub err_first : {A E : Type 0} (r : Result A E) (old new piece rest whole : List
 err_first r old new piece rest whole h cut =
     on_err (AppendsPrefix old new whole) r (subst (λ text. AppendsPrefix old new text) (sym cut) (prefix_first old new piece rest h))
 
--- refused within a piece behind others
+-- refused within a piece after others
 pub err_between : {A E : Type 0} (r : Result A E) (old mid new front piece rest whole : List ℕ) → mid ≡ old ++ front → AppendsPrefix mid new piece → whole ≡ front ++ (piece ++ rest) → OnErr r (AppendsPrefix old new whole)
 err_between r old mid new front piece rest whole e h cut =
     on_err (AppendsPrefix old new whole) r (subst (λ text. AppendsPrefix old new text) (sym cut) (prefix_behind old mid new front (piece ++ rest) e (prefix_first mid new piece rest h)))

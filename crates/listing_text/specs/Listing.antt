@@ -1,4 +1,4 @@
--- The listing of a layout, line by line. Own.
+-- The listing of a layout, line by line. Source: own.
 use Rattle.std.specs.Prelude.{ℕ, ℤ, List, [], ◌∷◌, ◌++◌, flat_map, codes, decimal, Option, Some, None}
 use Rattle.fixed_num.specs.NumberText.{number_text}
 use Rattle.decimal_json.specs.JsonText.{text_json}
@@ -40,13 +40,13 @@ show_mark OutsideFilter = codes " ?"
 abbrev pub layer_line : List ℕ → LayerType → Show → List ℕ
 layer_line id type show = line (codes "layer " ∷ text_json id ∷ codes " " ∷ type_name type ∷ show_mark show ∷ [])
 
--- What stands in for a value that faulted: the default of the property, and null where it has none.
+-- The text for a value that faulted: the default of the property, and null where it has none.
 abbrev pub stand_in_text : Option Value → List ℕ
 stand_in_text None = codes "null"
 stand_in_text (Some v) = listed_text (data_of v)
 
--- What a property is listed as: its value, what stands in for it with the name of the fault after `!`, or `?` where it
--- is outside of what is evaluated.
+-- What a property is listed as: its value, the text for a fault with the name of the fault after `!`, or `?`
+-- where it is outside of what is evaluated.
 abbrev pub outcome_text : Outcome → List ℕ
 outcome_text (Given v) = listed_text (data_of v)
 outcome_text (Faulted v fault) = stand_in_text v ++ (codes "!" ++ fault_name fault)
@@ -80,15 +80,15 @@ feature_line number shape id = line (codes "  feature " ∷ decimal number ∷ c
 abbrev pub feature_lines : FeatureOut → List ℕ
 feature_lines f = feature_line f.number f.shape f.id ++ value_lines feature_margin f.values
 
--- What stands below the line of a layer: the properties of the layer and its features. A hidden or unread layer has
--- neither, and where the filter is outside no features are listed.
+-- What is below the line of a layer: the properties of the layer and its features. A hidden or unread layer
+-- has neither, and where the filter is outside no features are listed.
 abbrev pub below_layer : Show → List ListedValue → List FeatureOut → List ℕ
 below_layer Plain values features = value_lines layer_margin values ++ flat_map feature_lines features
 below_layer Hidden values features = []
 below_layer Unread values features = []
 below_layer OutsideFilter values features = value_lines layer_margin values
 
--- A layer and what stands below it.
+-- A layer and what is below it.
 abbrev pub layer_lines : LayerOut → List ℕ
 layer_lines layer = layer_line layer.id layer.layer_type layer.show ++ below_layer layer.show layer.values layer.features
 

@@ -1,4 +1,4 @@
--- Parts of a text, one behind the other: the words of the private contracts.
+-- Parts of a text in order: the words of the private contracts.
 use Rattle.std.specs.Prelude.{ℕ, ℤ, List, [], ◌∷◌, flat_map, codes}
 use Rattle.std.specs.Borrow.{Bor}
 use Rattle.fixed_num.specs.NumberText.{number_text}

@@ -9,11 +9,13 @@
 //! write_end(&mut out)?;                                                // end
 //! ```
 //!
-//! What is promised: each call appends exactly its line of the listing that `specs/Listing.antt` defines, and where memory lacks a prefix
-//! of it. A property has its value; where its evaluation faulted, its default or `null`, then `!` and the name of the fault; and `?` where
-//! it is outside of what is evaluated. Whoever writes a whole layout goes by `listing`.
+//! What is promised: each call appends exactly its line of the listing that `specs/Listing.antt` defines, and
+//! when allocation fails a prefix of it. A property has its value; where its evaluation faulted, its default
+//! or `null`, then `!` and the name of the fault; and `?` where it is outside of what is evaluated. Whoever
+//! writes a whole layout goes by `listing`.
 //!
-//! Time is linear in the line. No memory is taken except that of `out`, and for each list or map a copy of its text.
+//! Time is linear in the line. No memory is taken except that of `out`, and for each list or map a copy of
+//! its text.
 //!
 //! The text to believe is in `specs/`: `Layout`, `Listing`.
 #![tactic(auto)]

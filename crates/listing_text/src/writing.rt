@@ -49,7 +49,7 @@ pub fn write_end(out: &mut Vec<u8>) -> Result<(), AllocError>
     write_parts(&[b"end\n"], out)
 }
 
-// What stands after the type of a layer.
+// What is after the type of a layer.
 fn show_mark(show: Show) -> &'static [u8]
     ensures { result.now ≡ show_mark show }
 {

@@ -42,7 +42,7 @@ kept_if : (b : Bool) (p q : Property) (ps qs : List Property) → IsListedAs p q
 kept_if true p q ps qs h k = (h, k)
 kept_if false p q ps qs h k = k
 
--- those that a test of the one field takes
+-- the properties that a test of the field takes
 abbrev those : (Bool → Bool) → List Property → List Property
 those test ps = filter (λ (p : Property). test p.is_per_feature) ps
 

@@ -1,4 +1,4 @@
--- Members that are replaced keep their names: what stands at a name, and the type of a layer.
+-- Members that are replaced keep their names: what is at a name, and the type of a layer.
 use Rattle.std.proofs.Common.{◌≡◌, ◌∙◌, ℕ, List, refl, ap, true, false}
 use Rattle.std.proofs.lemmas.Slice.Eq.{bytes_eq-Decides}
 use Rattle.std.specs.Prelude.{Bool, codes, Option, Some, None, is_some, option_map, if◌then◌else◌}
@@ -22,7 +22,7 @@ at_if : (change : List ℕ → Tree → Tree) (key k : List ℕ) (t : Tree) (lat
 at_if change key k t later true is = ap (λ n. Some (change n t)) ((bytes_eq-Decides k key).0 is)
 at_if change key k t later false is = refl
 
--- What stands at a name is replaced.
+-- What is at a name is replaced.
 pub mapped_at : (change : List ℕ → Tree → Tree) (key : List ℕ) (fs : Fields)
     → field_at key (mapped_fields change fs) ≡ option_map (change key) (field_at key fs)
 mapped_at change key no_fields = refl
@@ -34,7 +34,7 @@ pub map_kept : (f : Tree → Tree) (o : Option Tree) → ((t : Tree) → f t ≡
 map_kept f (Some t) keeps = ap Some (keeps t)
 map_kept f None keeps = refl
 
--- What stands at a name whose values are kept.
+-- What is at a name whose values are kept.
 pub kept_at : (change : List ℕ → Tree → Tree) (key : List ℕ) (fs : Fields)
     → ((t : Tree) → change key t ≡ t) → field_at key (mapped_fields change fs) ≡ field_at key fs
 kept_at change key fs keeps = mapped_at change key fs ∙ map_kept (change key) (field_at key fs) keeps

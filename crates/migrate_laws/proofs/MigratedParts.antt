@@ -1,4 +1,4 @@
--- What stands at the names of a migrated layer and of a migrated document.
+-- What is at the names of a migrated layer and of a migrated document.
 use Rattle.std.proofs.Common.{◌≡◌, ◌∙◌, ℕ, List, [], ◌∷◌, refl, ap, sym, false}
 use Rattle.std.specs.Prelude.{codes, Option, Some, None, option_map}
 use Rattle.std.specs.Str.{bytes_eq}

@@ -1,2 +1,2 @@
--- Laws. The statements are to be believed; their proofs stand in proofs/.
+-- Laws. The statements are to be believed; their proofs are in proofs/.
 pub mod MigratedLaw

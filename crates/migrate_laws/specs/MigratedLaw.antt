@@ -37,9 +37,9 @@ pub record HasTheSameValue (row : RowData) (globals : List (List ℕ × Data)) (
   pub mentions :
       source_mentions globals (source_of row globals new) ≡ source_mentions globals (source_of row globals old)
 
--- Each tree, well formed or not, has on each row of the table the value that it had before it was migrated. (A
--- row of no table may take objects as literals: a function with one stop may then become an object that is no
--- function.)
+-- Each tree, well formed or not, has on each row of the table the value that it had before it was migrated.
+-- (A row of no table may take objects as literals: a function with one stop may then become an object that is
+-- no function.)
 abbrev pub MigratedValuesAreTheSame : Type 0
 MigratedValuesAreTheSame =
     (row : RowData) (globals : List (List ℕ × Data)) (t : Tree) → IsTableRow row →
@@ -47,8 +47,8 @@ MigratedValuesAreTheSame =
 
 -- ---- filters
 
--- At every zoom, of every feature and state, and whatever the two tests are, two filters let the same features
--- pass; and either both are outside or none is.
+-- At every zoom, of every feature and state, and whatever the two tests are, two filters let the same
+-- features pass; and either both are outside or none is.
 pub record LetsTheSamePass (new old : FilterSource) : Type 0 where
   pub passes :
       (zoom : ℤ) (feature : Feature) (state : List (List ℕ × Data)) (images scripts : List ℕ → Bool) →

@@ -24,8 +24,8 @@ pub fn migrated_values_are_the_same()
     token_expressions_mean_their_texts();
 }
 
-/// Each migrated filter lets the same features pass as the filter, reads the same of the world, and is outside exactly where the
-/// filter is.
+/// Each migrated filter lets the same features pass as the filter, reads the same of the world, and is
+/// outside exactly where the filter is.
 pub fn migrated_filters_are_the_same()
     ensures { MigratedFiltersAreTheSame }
 {

@@ -323,7 +323,7 @@ module _ (laws : HaveSoundExpressions) where
       let layers = has_kept migrated_part (codes "layers") document in
       λ i. root_rules (form i) (version i) (sources i) (layers i)
 
-  -- what is told of a migrated document, by what is told of its members
+  -- what is reported of a migrated document, by what is reported of its members
   abbrev migrated_told : Tree → (List ℕ → Tree → ToldList) → ToldList
   migrated_told document tell =
       told_or (root_mark (migrated document)) [] (fields_told tell (fields_or_none (migrated document)))

@@ -1,4 +1,4 @@
--- What is told of a place before and after it was migrated.
+-- What is reported of a place before and after it was migrated.
 use Rattle.std.proofs.Common.{◌≡◌, ◌∙◌, ℕ, List, [], ◌∷◌, ◌++◌, refl, ap, sym, subst, true, false}
 use Rattle.std.proofs.lemmas.List.{append_assoc, append-nil}
 use Rattle.std.specs.Prelude.{Bool}
@@ -10,7 +10,7 @@ use Rattle.style_rules.specs.Places.{least_broken, root_mark}
 use Rattle.style_rules.proofs.ReportLaws.{findings_append, notes_append}
 use Rattle.style_migrate.specs.Migrated.{mapped_fields}
 
--- The types of marks and of what is told have no names outside of their crate.
+-- The types of marks and of what is reported have no names outside of their crate.
 
 abbrev type_of : {A : Type 0} → A → Type 0
 type_of {A} a = A
@@ -21,20 +21,20 @@ Mark = type_of (root_mark null)
 abbrev pub ToldList : Type 0
 ToldList = type_of (told null)
 
--- ---- what is told
+-- ---- what is reported
 
 pub record HasTheSameNotes (old new : ToldList) : Type 0 where
   pub findings : findings_in new ≡ []
   pub notes : notes_in new ≡ notes_in old
 
--- Where no finding is told of some places, none is after these were migrated, and the same is outside.
+-- Where no finding is reported of some places, none is after these were migrated, and the same is outside.
 abbrev pub IsToldAlike : ToldList → ToldList → Type 0
 IsToldAlike old new = findings_in old ≡ [] → HasTheSameNotes old new
 
 pub told_itself : (told : ToldList) → IsToldAlike told told
 told_itself told none = record { findings = none; notes = refl }
 
--- what is the same is told alike
+-- what is the same is reported alike
 pub told_same : (old new : ToldList) → new ≡ old → IsToldAlike old new
 told_same old new same = subst (IsToldAlike old) (sym same) (told_itself old)
 
@@ -71,7 +71,7 @@ both_alike a b c d first second none =
       notes = notes_of_both c d ∙ ((λ i. one.notes i ++ two.notes i) ∙ sym (notes_of_both a b));
     }
 
--- members, each of which is told alike
+-- members, each of which is reported alike
 pub fields_alike : (tell later : List ℕ → Tree → ToldList) (change : List ℕ → Tree → Tree)
     → ((k : List ℕ) (t : Tree) → IsToldAlike (tell k t) (later k (change k t)))
     → (fs : Fields) → IsToldAlike (fields_told tell fs) (fields_told later (mapped_fields change fs))

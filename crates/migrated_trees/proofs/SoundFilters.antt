@@ -1,5 +1,5 @@
--- A migrated filter is sound JSON where the filter is. Around it at most three arrays and objects are open. Each of
--- the at most 24 open groups makes at most two levels more, and a test at most four.
+-- A migrated filter is sound JSON where the filter is. Around it at most three arrays and objects are open.
+-- Each of the at most 24 open groups makes at most two levels more, and a test at most four.
 use Rattle.std.proofs.Common.{◌≡◌, ℕ, suc, ◌+◌, ◌*◌, ◌<◌, ◌≤◌, ℤ, List, [], ◌∷◌, ◌++◌, length, arith, refl}
 use Rattle.std.proofs.Common.{true, false}
 use Rattle.std.proofs.lemmas.Bool.{ltb-true}

@@ -1,5 +1,5 @@
--- Literals of the rows of the table, and their defaults, are sound inside of as many arrays as the expression of
--- a function puts around them: a literal is a scalar or an array of scalars.
+-- Literals of the rows of the table, and their defaults, are sound inside of as many arrays as the expression
+-- of a function puts around them: a literal is a scalar or an array of scalars.
 use Rattle.std.proofs.Common.{◌≡◌, ℕ, zero, suc, ◌+◌, ◌≤◌, List, [], ◌∷◌, length, refl, subst, arith, true}
 use Rattle.std.proofs.Common.{false}
 use Rattle.std.proofs.lemmas.Bool.{and_parts, leb-true}

@@ -1,4 +1,4 @@
--- Members and items that are replaced by sound trees are sound: keys stay, so they are UTF-8, and none stands
+-- Members and items that are replaced by sound trees are sound: keys stay, so they are UTF-8, and none occurs
 -- twice.
 use Rattle.std.proofs.Common.{ℕ, suc, List}
 use Rattle.decimal_json.specs.Sound.{members_of, IsSound, AreSound, HasSoundMembers}

@@ -1,4 +1,4 @@
--- A function that was read of a sound tree has sound parts: numbers and texts stand in it as they stood in the
+-- A function that was read of a sound tree has sound parts: numbers and texts are in it as they were in the
 -- tree.
 use Rattle.std.proofs.Common.{◌≡◌, ℕ, suc, ℤ, pos, List, [], ◌∷◌, refl, sym, subst, arith, true, false, ◌⊎◌}
 use Rattle.std.proofs.Common.{inl, inr}
@@ -84,7 +84,7 @@ pub record HasSoundParts (f : Function) : Type 0 where
   pub fallback : OfSome IsSoundOutput f.fallback
   pub body : IsSoundBody f.body
 
--- ---- what stands at a name
+-- ---- what is at a name
 
 found_if : (b : Bool) (k : ℕ) (t : Tree) (later : Option Tree) → IsSound k t → OfSome (IsSound k) later
     → OfSome (IsSound k) (if b then Some t else later)

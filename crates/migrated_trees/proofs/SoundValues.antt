@@ -1,5 +1,5 @@
--- The migrated value of a row of the table is sound where the value is: the expression of a function opens few
--- arrays, and an array of scalars inside of these. It is shown inside of at most 45 arrays and objects.
+-- The migrated value of a row of the table is sound where the value is: the expression of a function opens
+-- few arrays, and an array of scalars inside of these. It is shown inside of at most 45 arrays and objects.
 use Rattle.std.proofs.Common.{ℕ, suc, ◌≤◌, List, [], ◌∷◌, ◌++◌, refl, arith, true, false}
 use Rattle.std.specs.Prelude.{Bool, codes, IsUtf8, Option, Some, None, if◌then◌else◌}
 use Rattle.decimal_json.specs.Sound.{IsSound, AreSound}

@@ -1,4 +1,5 @@
--- Operators of numbers (MapLibre style specification, version 8, expressions, over numbers as whole millionths).
+-- Operators of numbers. Source: MapLibre style specification, version 8, expressions, over numbers as whole
+-- millionths.
 use Rattle.std.specs.Prelude.{ℤ, pos, neg_ℤ, List, [], ◌∷◌, Result, Ok, Err}
 use Rattle.std.specs.Int.{int_min, int_max}
 use Rattle.fixed_num.specs.Number.{sum, difference, product, quotient, remainder}

@@ -1,4 +1,4 @@
--- Operators of colors (MapLibre style specification, version 8, expressions).
+-- Operators of colors. Source: MapLibre style specification, version 8, expressions.
 use Rattle.std.specs.Prelude.{pos, List, [], ◌∷◌, Option, Some, None, Ok, Err}
 use Rattle.fixed_num.specs.declared.color.Color.{Color}
 use Rattle.prop_values.specs.Data.{Data, number, color, list, no_items, item}

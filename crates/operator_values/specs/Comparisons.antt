@@ -1,4 +1,4 @@
--- Operators that compare two values (MapLibre style specification, version 8, expressions).
+-- Operators that compare two values. Source: MapLibre style specification, version 8, expressions.
 use Rattle.std.specs.Prelude.{List, [], ◌∷◌, Bool, true, false, not, Option, Some, None, Result, Ok, Err}
 use Rattle.std.specs.declared.cmp.Ordering.{Ordering}
 use Rattle.std.specs.declared.cmp.Ordering.TheVariants.{Less, Equal, Greater}

@@ -1,5 +1,5 @@
--- Conversions of values (MapLibre style specification, version 8, expressions; the texts of numbers
--- are this project's own).
+-- Conversions of values. Source: MapLibre style specification, version 8, expressions; the texts of numbers
+-- are this project's own.
 use Rattle.std.specs.Prelude.{ℕ, ◌-◌, ℤ, pos, List, [], ◌∷◌, length, take, drop, Bool, true, false, not, ◌&&◌, ◌||◌, nat_eq, int_le, Option, Some, None, Result, Ok, Err, if◌then◌else◌, slice_index}
 use Rattle.std.specs.List.{prefix_len, suffix_len}
 use Rattle.fixed_num.specs.Decimal.{read_text}
@@ -49,7 +49,7 @@ abbrev pub value_of : Result ℤ NumFault → Option ℤ
 value_of (Ok z) = Some z
 value_of (Err fault) = None
 
--- whether a byte stands first
+-- whether a byte is the first
 abbrev pub begins : ℕ → List ℕ → Bool
 begins c bs = nat_eq (slice_index bs 0) c
 

@@ -12,7 +12,7 @@ use Rattle.halts.specs.declared.halt.Halt.TheVariants.{Fault, NoMemory}
 abbrev pub Evaluated : Type 0
 Evaluated = Result Data EvalFault
 
--- What the program gives is what is meant, unless it lacks memory.
+-- What the program gives is what is meant, unless allocation fails.
 abbrev pub Gives : Result Value (Halt EvalFault) → Evaluated → Type 0
 Gives (Ok v) meant = meant ≡ Ok (data_of v)
 Gives (Err (Fault fault)) meant = meant ≡ Err fault

@@ -1,4 +1,5 @@
--- The value between two outputs of an interpolation (MapLibre style specification, version 8, expressions).
+-- The value between two outputs of an interpolation. Source: MapLibre style specification, version 8,
+-- expressions.
 use Rattle.std.specs.Prelude.{ℤ, List, [], ◌∷◌, Result, Ok, Err}
 use Rattle.prop_values.specs.Data.{Data, number, color, list, Items, no_items, item}
 use Rattle.prop_values.specs.Faults.{fault_of}
@@ -37,7 +38,8 @@ abbrev pub list_between : ℤ → ℤ → ℤ → Result (List (ℤ × ℤ)) Eva
 list_between x x0 x1 (Ok pairs) = the_list (items_between x x0 x1 pairs)
 list_between x x0 x1 (Err fault) = Err fault
 
--- at x from the output d at x0 to the output e at x1: between two numbers, two colors or two lists of numbers of one length
+-- at x from the output d at x0 to the output e at x1: between two numbers, two colors or two lists of numbers
+-- of one length
 abbrev pub between_of : ℤ → ℤ → Data → ℤ → Data → Evaluated
 between_of x x0 (number a) x1 (number b) = the_number (linear_of x x0 a x1 b)
 between_of x x0 (color a) x1 (color b) = Ok (color (color_of x x0 a x1 b))

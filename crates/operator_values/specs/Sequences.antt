@@ -1,5 +1,5 @@
--- Operators of texts and lists (MapLibre style specification, version 8, expressions). Positions in a text are counted in
--- Unicode scalar values.
+-- Operators of texts and lists. Positions in a text are counted in Unicode scalar values. Source: MapLibre
+-- style specification, version 8, expressions.
 use Rattle.std.specs.Prelude.{ℕ, ◌+◌, ◌-◌, ℤ, pos, neg_ℤ, suc, List, [], ◌∷◌, length, take, drop, Bool, true, false, nat_le, Option, Some, None, is_some, option_map, Result, Ok, Err, if◌then◌else◌, encode_utf8_all}
 use Rattle.std.specs.List.{slice_get}
 use Rattle.std.specs.Str.{chars}
@@ -41,12 +41,12 @@ first_equal needle (d ∷ ds) = if equal needle d then Some 0 else option_map su
 abbrev pub equal_from : Data → List Data → ℕ → Option ℕ
 equal_from needle ds from = if nat_le from (length ds) then option_map (λ place. from + place) (first_equal needle (drop from ds)) else None
 
--- a needle that is no text stands in no text
+-- a needle that is no text is in no text
 abbrev pub part_from : Data → List ℕ → ℕ → Option ℕ
 part_from (text part) s from = place_from (chars s) (chars part) from
 part_from _ s from = None
 
--- where a value stands in a text or list, at or after a place; no other value is searched
+-- the place of a value in a text or list, at or after a place; no other value is searched
 abbrev pub found_from : Data → Data → ℕ → Result (Option ℕ) EvalFault
 found_from needle (text s) from = Ok (part_from needle s from)
 found_from needle (list ds) from = Ok (equal_from needle (list_of ds) from)
@@ -61,7 +61,7 @@ abbrev pub in_of : List Data → Evaluated
 in_of (needle ∷ sequence ∷ []) = whether_found (found_from needle sequence 0)
 in_of _ = Err WrongType
 
--- -1 where it stands nowhere
+-- -1 where it is nowhere
 abbrev pub place_value : Option ℕ → Data
 place_value (Some place) = count place
 place_value None = number (neg_ℤ (pos 1000000))
@@ -97,7 +97,7 @@ abbrev pub length_of : List Data → Evaluated
 length_of (sequence ∷ []) = the_count (size_of sequence)
 length_of _ = Err WrongType
 
--- from one place up to another, which is not among it; nothing where that stands before
+-- from one place up to another, which is not included; nothing where that is before
 abbrev pub stretch : {A : Type 0} → ℕ → ℕ → List A → List A
 stretch from to xs = take (to - from) (drop from xs)
 

@@ -19,7 +19,8 @@ count n = number (pos (n * 1000000))
 abbrev pub index_in : ℤ → Result ℕ EvalFault
 index_in z = if is_whole z then (if int_lt z (pos 0) then Err IndexOutside else Ok (units z)) else Err IndexNotWhole
 
--- A place in a sequence of `length` items, where a negative index counts from the end: held to 0 to the length.
+-- A place in a sequence of `length` items, where a negative index counts from the end: clamped to 0 to the
+-- length.
 abbrev pub held_place : ℕ → ℤ → ℕ
 held_place length z = if int_lt z (pos 0) then length - units z else min (units z) length
 

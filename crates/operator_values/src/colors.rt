@@ -13,7 +13,8 @@ use halts::Halt;
 use prop_values::{EvalFault, PackedColor, Value, Values};
 use std::alloc::Global;
 
-/// `rgb` and `rgba`: the color of three or four numbers, opaque without a fourth; `ColorRange` where one is out of range.
+/// `rgb` and `rgba`: the color of three or four numbers, opaque without a fourth; `ColorRange` where one is
+/// out of range.
 pub fn rgba(values: &[Value]) -> Result<Value, EvalFault>
     ensures { evaluated_of result ≡ rgba_of (values_view values.now) }
 {

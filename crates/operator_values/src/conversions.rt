@@ -55,9 +55,9 @@ pub fn negation(values: &[Value]) -> Result<Value, EvalFault>
     }
 }
 
-/// The number that a value is read as, or `None` where it is read as none (`to-number`). Null and false are 0, and true is 1. A
-/// text is read without the blanks around it (space, tab, line feed, carriage return): an empty one is 0, and any other an
-/// optional sign and a JSON number without a sign, within the bound.
+/// The number that a value is read as, or `None` where it is read as none (`to-number`). Null and false are
+/// 0, and true is 1. A text is read without the blanks around it (space, tab, line feed, carriage return): an
+/// empty one is 0, and any other an optional sign and a JSON number without a sign, within the bound.
 pub fn number_in(value: &Value) -> Option<Fixed>
     ensures { result ≡ number_in (data_of value.now) }
 {
@@ -154,8 +154,8 @@ fn is_blank(byte: u8) -> bool
     byte == b' ' || byte == b'\t' || byte == b'\n' || byte == b'\r'
 }
 
-/// The color that a value is read as, or `None` where it is read as none (`to-color`): a color, the text of one, or a list of
-/// three or four numbers, red, green and blue from 0 to 255 and the opacity from 0 to 1.
+/// The color that a value is read as, or `None` where it is read as none (`to-color`): a color, the text of
+/// one, or a list of three or four numbers, red, green and blue from 0 to 255 and the opacity from 0 to 1.
 pub fn color_in(value: &Value) -> Option<Color>
     ensures value { result ≡ color_in (data_of value.now) }
     ensures range { IfSome result (λ c. IsInRange c) }

@@ -9,9 +9,9 @@
 //! item(&[seven, list])                                // Err(Halt::Fault(EvalFault::IndexOutside))
 //! ```
 //!
-//! Each function takes the values of an operator's arguments in their order. A value of another form than the operator's, or
-//! another number of values, is `WrongType`: an expression that was read has neither, since its arguments are fitted to what the
-//! operator wants.
+//! Each function takes the values of an operator's arguments in their order. A value of another form than the
+//! operator's, or another number of values, is `WrongType`: an expression that was read has neither, since
+//! its arguments are fitted to what the operator wants.
 //!
 //! What is promised, for all values: each function gives exactly the value or the fault of the definition of its name in
 //! `specs/`; one that may lack memory gives that or `Halt::NoMemory`. Numbers, their rounding and their faults are those of
@@ -19,8 +19,8 @@
 //!
 //! Each call takes time linear in its values. Texts and lists that stay whole are shared and not copied.
 //!
-//! The text to believe is in `specs/`: `Evaluated`, `Whole`, `Conversions`, `Arithmetic`, `Comparisons`, `Sequences`, `Texts`,
-//! `Colors`, `Ramps`.
+//! The text to believe is in `specs/`: `Evaluated`, `Whole`, `Conversions`, `Arithmetic`, `Comparisons`,
+//! `Sequences`, `Texts`, `Colors`, `Ramps`.
 #![tactic(auto)]
 
 mod arithmetic;

@@ -13,8 +13,8 @@ use interpolate_fixed::{linear, linear_color};
 use prop_values::{EvalFault, PackedColor, Value, Values};
 use std::alloc::Global;
 
-/// The value at `x` on the line from `a` at `x0` to `b` at `x1`, of two numbers, two colors or two lists of numbers of one length;
-/// of any others it is `WrongType`.
+/// The value at `x` on the line from `a` at `x0` to `b` at `x1`, of two numbers, two colors or two lists of
+/// numbers of one length; of any others it is `WrongType`.
 pub fn value_between(
     alloc: Global,
     x: Fixed,

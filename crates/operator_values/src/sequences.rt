@@ -18,7 +18,8 @@ use halts::Halt;
 use prop_values::{EvalFault, Value, Values, copy, equals};
 use std::alloc::{AllocError, Global};
 
-/// `at`, of an index and a list: the item. `IndexNotWhole` where the index has a fraction, else `IndexOutside` where no item has it.
+/// `at`, of an index and a list: the item. `IndexNotWhole` where the index has a fraction, else
+/// `IndexOutside` where no item has it.
 pub fn item(values: &[Value]) -> Result<Value, Halt<EvalFault>>
     ensures { Gives result (at_of (values_view values.now)) }
 {
@@ -74,8 +75,8 @@ pub fn contains(values: &[Value]) -> Result<Value, EvalFault>
     Ok(Value::Bool(place.is_some()))
 }
 
-/// `index-of`, of a value, a text or list, and an index to begin at or none: the first place, or -1 where there is none. An index
-/// with a fraction is `IndexNotWhole`, and one below 0 `IndexOutside`.
+/// `index-of`, of a value, a text or list, and an index to begin at or none: the first place, or -1 where
+/// there is none. An index with a fraction is `IndexNotWhole`, and one below 0 `IndexOutside`.
 pub fn index_of(values: &[Value]) -> Result<Value, EvalFault>
     ensures { evaluated_of result ≡ index_of_of (values_view values.now) }
 {
@@ -98,7 +99,7 @@ fn place_value(place: Option<usize>) -> Value
     }
 }
 
-// Where a value stands in a text or list at or after a place.
+// The place of a value in a text or list at or after a place.
 #[tactic(auto, using(crate::proofs::Lists::list_again))]
 fn place_from(needle: &Value, sequence: &Value, from: u128) -> Result<Option<usize>, EvalFault>
     ensures { result ≡ found_from (data_of needle.now) (data_of sequence.now) from }
@@ -171,8 +172,8 @@ fn size_of(sequence: &Value) -> Result<usize, EvalFault>
     }
 }
 
-/// `slice`, of a text or list, an index to begin at, and one to end before or none. A negative index counts from the end, and each is
-/// held to the text or list. An index with a fraction is `IndexNotWhole`.
+/// `slice`, of a text or list, an index to begin at, and one to end before or none. A negative index counts
+/// from the end, and each is clamped to the text or list. An index with a fraction is `IndexNotWhole`.
 pub fn slice(alloc: Global, values: &[Value]) -> Result<Value, Halt<EvalFault>>
     ensures { Gives result (slice_of (values_view values.now)) }
 {

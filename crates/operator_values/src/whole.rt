@@ -17,7 +17,6 @@ pub(crate) fn whole(units: u64) -> Fixed
     }
 }
 
-/// A count of items as a value.
 pub(crate) fn count(items: usize) -> Value
     ensures { data_of result ≡ count items }
 {

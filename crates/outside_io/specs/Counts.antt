@@ -1,4 +1,4 @@
--- Counts that never fall. A counter of 64 bits stands still at its last value, 2^64 - 1.
+-- Counts that never fall. A counter of 64 bits remains at its last value, 2^64 - 1.
 use Rattle.std.specs.Prelude.{ℕ, ◌+◌, ◌<◌, ◌≤◌, min}
 
 -- the counter raised by n, or at its last value
@@ -9,14 +9,14 @@ raised_by n count = min (count + n) 18446744073709551615
 abbrev pub raised : ℕ → ℕ
 raised count = raised_by 1 count
 
--- the count rose by more than n, or stands at its counter's last value
+-- the count rose by more than n, or is at its counter's last value
 abbrev pub RoseBy : ℕ → ℕ → ℕ → Type 0
 RoseBy n old new = min (old + n) 18446744073709551614 < new
 
--- the count rose, or stands at its counter's last value, which counts as risen
+-- the count rose, or is at its counter's last value, which counts as risen
 abbrev pub Rose : ℕ → ℕ → Type 0
 Rose old new = min old 18446744073709551614 < new
 
--- the count did not rise, and does not stand at its counter's last value: the opposite of `Rose`
+-- the count did not rise, and is not at its counter's last value: the opposite of `Rose`
 abbrev pub Still : ℕ → ℕ → Type 0
 Still old new = new ≤ min old 18446744073709551614

@@ -14,7 +14,7 @@ pub record FilesState : Type 0 where
   pub files : Contents
   -- the numbers of the reads that fail, counted from 0
   pub fails : List ℕ
-  -- how many reads there were; one that lacked memory is no read
+  -- how many reads there were; one that failed to allocate is no read
   pub reads : ℕ
   pub faults : ℕ
   -- how many bytes were taken
@@ -44,26 +44,27 @@ abbrev pub end_at : Option (List ℕ) → ℕ → ReadAnswer
 end_at None at_most = Failed
 end_at (Some bytes) at_most = if nat_le (length bytes) at_most then Done else TooLong
 
--- how a read ends, where memory does not lack
+-- how a read ends, where no allocation fails
 abbrev pub read_end : FilesState → List ℕ → ℕ → ReadAnswer
 read_end s name at_most = if list_any (λ number. nat_eq number s.reads) s.fails then Failed else end_at (bytes_of s.files name) at_most
 
--- the files after a read of this name that ended so. A file that is done was taken whole, and one that is too long not at all
+-- the files after a read of this name that ended so. A file that is done was taken whole, and one that is too
+-- long not at all
 abbrev pub after_read : FilesState → List ℕ → ReadAnswer → FilesState
 after_read s name Done = record s { reads = raised s.reads; taken = raised_by (length (unwrap_or (bytes_of s.files name) [])) s.taken }
 after_read s name TooLong = record s { reads = raised s.reads }
 after_read s name Failed = record s { reads = raised s.reads; faults = raised s.faults; failed = Some name }
 after_read s name NoMemory = s
 
--- the bytes that sure files tell of a name: a name that is not there has none
+-- the bytes that sure files have of a name: a name that is not there has none
 abbrev pub sure_bytes_of : Contents → List ℕ → List ℕ
 sure_bytes_of files name = unwrap_or (bytes_of files name) []
 
--- what sure files tell of each name
+-- what sure files have of each name
 abbrev pub told_of : SureState → List ℕ → Option (List ℕ)
 told_of s name = Some (sure_bytes_of s.files name)
 
--- how a read of sure files ends, where memory does not lack
+-- how a read of sure files ends, where no allocation fails
 abbrev pub sure_read_end : SureState → List ℕ → ℕ → ReadAnswer
 sure_read_end s name at_most = end_at (told_of s name) at_most
 

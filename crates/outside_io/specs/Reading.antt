@@ -32,23 +32,23 @@ OnFailed TooLong P Q = Q
 OnFailed Failed P Q = P
 OnFailed NoMemory P Q = Q
 
--- what was read is what was told; of bytes that are not told nothing is said
+-- what was read is the known bytes of the file; of a file with unknown bytes nothing is said
 abbrev pub IsContent : Option (List ℕ) → List ℕ → Type 0
 IsContent None got = Unit {0}
 IsContent (Some told) got = got ≡ told
 
--- told bytes are within the limit
+-- known bytes are within the limit
 abbrev pub IsWithin : Option (List ℕ) → ℕ → Type 0
 IsWithin None at_most = Unit {0}
 IsWithin (Some told) at_most = length told ≤ at_most
 
--- told bytes are longer than the limit
+-- known bytes are longer than the limit
 abbrev pub IsLongerIfTold : Option (List ℕ) → ℕ → Type 0
 IsLongerIfTold None at_most = Unit {0}
 IsLongerIfTold (Some told) at_most = at_most < length told
 
--- told bytes are longer than the limit; where they are not told, more than the limit was taken, as the count of bytes
--- taken before and after shows
+-- known bytes are longer than the limit; where they are unknown, more than the limit was taken, as the count
+-- of bytes taken before and after shows
 abbrev pub IsLonger : Option (List ℕ) → ℕ → ℕ → ℕ → Type 0
 IsLonger None at_most old new = RoseBy at_most old new
 IsLonger (Some told) at_most old new = at_most < length told

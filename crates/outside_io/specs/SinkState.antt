@@ -14,7 +14,8 @@ pub record SinkState : Type 0 where
   pub writes : ℕ
   pub faults : ℕ
 
--- how many bytes the write of this number still takes, where it is listed as failing. The first entry of a number counts
+-- how many bytes the write of this number still takes, where it is listed as failing. The first entry of a
+-- number counts
 abbrev pub listed : List (ℕ × ℕ) → ℕ → Option ℕ
 listed fails number = option_map (λ entry. entry.1) (find (λ entry. nat_eq entry.0 number) fails)
 
@@ -26,8 +27,8 @@ room_left s = s.room - length s.bytes
 abbrev pub takes_all : SinkState → List ℕ → Bool
 takes_all s piece = is_none (listed s.fails s.writes) && nat_le (length piece) (room_left s)
 
--- what the next write takes of this piece: all where it succeeds, and else as many bytes as it still takes and as there is
--- room for, which is none where it is not listed
+-- what the next write takes of this piece: all where it succeeds, and else as many bytes as it still takes
+-- and as there is room for, which is none where it is not listed
 abbrev pub part_taken : SinkState → List ℕ → List ℕ
 part_taken s piece = if takes_all s piece then piece else take (min (unwrap_or (listed s.fails s.writes) 0) (room_left s)) piece
 

@@ -2,7 +2,7 @@
 use Rattle.std.specs.Prelude.{◌≡◌, ℕ, List, ◌++◌, take, Option}
 use Rattle.std.specs.Option.{option_map}
 
--- it holds what it held, and then this text; where nothing was told, nothing is told
+-- it holds what it held, and then this text; where its contents are unknown, they remain unknown
 abbrev pub Gains : Option (List ℕ) → Option (List ℕ) → List ℕ → Type 0
 Gains old new text = new ≡ option_map (λ bytes. bytes ++ text) old
 

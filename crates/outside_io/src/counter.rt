@@ -3,10 +3,11 @@ ghost use Rattle.std.specs.Prelude.{◌≡◌, ◌+◌, ◌<◌};
 use std::marker::Model;
 use std::sync::ledger::{Blank, Book, Ledger, Share};
 
-/// How many steps were taken. Contracts see the number; at run time it takes no bytes, and `tick` does nothing.
+/// How many steps were taken. Contracts see the number; at run time it takes no bytes, and `tick` does
+/// nothing.
 ///
-/// Only `tick` changes it, so a contract that bounds it bounds the calls of `tick`. The ledger `L` tells counters apart:
-/// whoever makes one takes a `Blank`, and picks the ledger of that blank.
+/// Only `tick` changes it, so a contract that bounds it bounds the calls of `tick`. The ledger `L`
+/// distinguishes counters: whoever makes one takes a `Blank`, and picks the ledger of that blank.
 #[derive(Drop)]
 pub struct Steps<L: Ledger> {
     book: Book<L>,

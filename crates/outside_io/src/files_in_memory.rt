@@ -9,8 +9,8 @@ use crate::reading::{Files, ReadAnswer};
 use std::alloc::{AllocError, Global};
 use std::marker::Model;
 
-/// Files that are held in memory and tell their bytes. A read of a name that is not held fails, and so do the reads whose
-/// numbers are listed. Each read looks through that list.
+/// Files that are held in memory, with known bytes. A read of a name that is not held fails, and so do the
+/// reads whose numbers are listed. Each read looks through that list.
 #[derive(Drop)]
 pub struct FilesInMemory {
     files: NamedFiles,
@@ -41,8 +41,8 @@ impl Model for FilesInMemory {
 }
 
 impl FilesInMemory {
-    /// No files, of which the reads with these numbers will fail. Reads are counted from 0; one that lacks memory is not
-    /// counted.
+    /// No files, of which the reads with these numbers will fail. Reads are counted from 0; one that fails to
+    /// allocate is not counted.
     pub fn new(alloc: Global, fails: &[u64]) -> Result<FilesInMemory, AllocError>
         ensures state { IfOk result (λ made. made ≡
             record { files = no_files; fails = fails.now; reads = 0; faults = 0; taken = 0; failed = None }) }
@@ -84,11 +84,11 @@ impl Files for FilesInMemory {
     fn read(&mut self, alloc: Global, name: &str, at_most: usize, into: &mut Vec<u8>) -> ReadAnswer
         requires { into.old.items ≡ [] }
 
-        // How it ends and what it leaves is exact. Want of memory leaves the files as they were.
+        // How it ends and what it leaves is exact. When allocation fails the files are as they were.
         ensures answer { result ≢ ReadAnswer.NoMemory → result ≡ read_end self.old name.now at_most }
         ensures after { self.new ≡ after_read self.old name.now result }
 
-        // The trait's clauses, on what is told here.
+        // The trait's clauses, on the known bytes.
         ensures told { bytes_of self.new.files ≡ bytes_of self.old.files }
         ensures taken { self.old.taken ≤ self.new.taken }
         ensures counted { OnDone result (self.new.taken ≡ raised_by (length into.new.items) self.old.taken) }
@@ -128,7 +128,7 @@ impl Files for FilesInMemory {
 }
 
 impl FilesInMemory {
-    /// A read of this name fails. Its name is copied first, so that want of memory changes nothing.
+    /// A read of this name fails. Its name is copied first, so that nothing changes when allocation fails.
     fn fail(&mut self, alloc: Global, name: &str) -> ReadAnswer
         ensures answer { result ≢ ReadAnswer.NoMemory → result ≡ ReadAnswer.Failed }
         ensures after { self.new ≡ after_read self.old name.now result }

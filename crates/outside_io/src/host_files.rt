@@ -10,10 +10,10 @@ use std::io::{self, Read};
 use std::marker::Model;
 use std::{fs, rt};
 
-/// The real files of a runtime, by their paths. They tell no bytes.
+/// The real files of a runtime, by their paths. Their bytes are unknown to contracts.
 ///
-/// An error of the runtime, at the opening or in the middle, is a failed read; an interruption counts as an error. A turn
-/// that gives nothing is the end of the file.
+/// An error of the runtime, at the opening or in the middle, is a failed read; an interruption counts as an
+/// error. A turn that gives nothing is the end of the file.
 #[derive(Drop)]
 pub struct HostFiles<'a, R: rt::Files> {
     rt: &'a R,
@@ -95,7 +95,8 @@ impl<R: rt::Files> HostFiles<'_, R> {
 /// How many bytes a turn of a read asks for.
 const TURN: usize = 65_536;
 
-/// Reads what a reader has left into an empty vector, if it is at most `at_most` bytes, and counts the bytes that it gave.
+/// Reads what a reader has left into an empty vector, if it is at most `at_most` bytes, and counts the bytes
+/// that it gave.
 #[tactic(auto, using(crate::proofs::KnownBytes::consumes_none, crate::proofs::KnownBytes::consumes_turn, crate::proofs::KnownBytes::content_at_end, crate::proofs::KnownBytes::longer_than))]
 fn read_rest<F: Read>(
     file: &mut F,
@@ -129,8 +130,8 @@ fn read_rest<F: Read>(
     }
 }
 
-/// One turn of a read, straight into the room after what the vector has. It appends what the reader gave and says how many bytes
-/// that are: none only at the reader's end. Else the read failed or memory lacked.
+/// One turn of a read, straight into the room after what the vector has. It appends what the reader gave and
+/// answers how many bytes these are: none only at the reader's end. Else the read or an allocation failed.
 fn read_turn<F: Read>(file: &mut F, into: &mut Vec<u8>) -> Result<usize, ReadAnswer>
     ensures longer { IfOk result (λ count. vec_len into.new ≡ vec_len into.old + count) }
     ensures appends { OnOk result (StartsWith into.new.items into.old.items) }

@@ -7,10 +7,10 @@ use crate::writing::{Sink, SinkFailed};
 use std::io::Write;
 use std::marker::Model;
 
-/// A sink over a writer of the runtime, as its standard output. It tells no bytes.
+/// A sink over a writer of the runtime, as its standard output. Its bytes are unknown to contracts.
 ///
-/// An error of the writer is a failed write, and so is a turn that takes nothing of what is left. The count of faults stands
-/// still at 2^64 - 1.
+/// An error of the writer is a failed write, and so is a turn that takes nothing of what is left. The count
+/// of faults remains at 2^64 - 1.
 #[derive(Drop)]
 pub struct HostSink<W: Write + Drop> {
     writer: W,

@@ -1,7 +1,8 @@
-//! The world outside a run: files that are read by name, sinks that are written piece by piece, and a counter of steps.
+//! The world outside a run: files that are read by name, sinks that are written piece by piece, and a counter
+//! of steps.
 //!
-//! A program takes its files and sinks as type parameters, so that the same proved code runs over real ones and over
-//! ones in memory:
+//! A program takes its files and sinks as type parameters, so that the same proved code runs over real ones
+//! and over ones in memory:
 //!
 //! ```
 //! fn show<F: Files, S: Sink>(alloc: Global, name: &str, files: &mut F, out: &mut S) -> Result<(), SinkFailed> {
@@ -14,12 +15,15 @@
 //! ```
 //!
 //! What is promised:
-//! - A read that is done gives the bytes that the files tell of that name, and none that is too long is given in part. A
-//!   write that is `Ok` leaves the sink with the piece more, and one that fails with a prefix of it more.
-//! - A read or a write that fails raises the count of faults by one, and no other does, so that whoever sees a failure can show
-//!   its cause, and a count that stands shows that nothing failed.
-//! - [`FilesInMemory`], [`SureFiles`] and [`SinkInMemory`] tell what they hold; what each call does to them is given exactly.
-//! - [`HostFiles`] and [`HostSink`] reach real files and streams. They tell no bytes: they are the edge that is trusted.
+//! - A read that is done gives the known bytes of the file of that name, and none that is too long is given
+//!   in part. A write that is `Ok` leaves the sink with the piece more, and one that fails with a prefix of
+//!   it more.
+//! - A read or a write that fails raises the count of faults by one, and no other does, so that whoever sees
+//!   a failure can show its cause, and a count that did not change shows that nothing failed.
+//! - [`FilesInMemory`], [`SureFiles`] and [`SinkInMemory`] have known bytes; what each call does to them is
+//!   given exactly.
+//! - [`HostFiles`] and [`HostSink`] reach real files and streams. Their bytes are unknown: they are the edge
+//!   that is trusted.
 //! - [`Steps`] counts in the contracts alone. It takes no bytes and no time.
 //!
 //! The text to believe is in `specs/`: `Counts`, `Reading`, `Writing`, `Contents`, `FilesState`,

@@ -47,7 +47,6 @@ impl NamedFiles {
         Ok(())
     }
 
-    /// The file of this name.
     pub fn get(&self, name: &str) -> Option<&Vec<u8>>
         ensures { option_map (λ file. file.now.items) result ≡ bytes_of self.now name.now }
     {

@@ -13,30 +13,30 @@ pub enum ReadAnswer {
     TooLong,
     /// The file could not be read.
     Failed,
-    /// Memory lacked.
+    /// An allocation failed.
     NoMemory,
 }
 
 /// Files that are read by name.
 pub trait Files {
-    /// The bytes of the file of each name, where they are told.
+    /// The bytes of the file of each name, where they are known.
     ghost told: { Self → List ℕ → Option (List ℕ) };
 
-    /// How many reads have failed. The count stands still at 2^64 - 1.
+    /// How many reads have failed. The count remains at 2^64 - 1.
     ghost faults: { Self → ℕ };
 
-    /// How many bytes were taken from files. The count stands still at 2^64 - 1.
+    /// How many bytes were taken from files. The count remains at 2^64 - 1.
     ghost taken: { Self → ℕ };
 
     /// The name of the last read that failed.
     ghost failed: { Self → Option (List ℕ) };
 
-    /// Reads the whole file of this name into an empty vector, if it has at most `at_most` bytes. The vector stays empty
-    /// after every answer but `Done`.
+    /// Reads the whole file of this name into an empty vector, if it has at most `at_most` bytes. The vector
+    /// stays empty after every answer but `Done`.
     fn read(&mut self, alloc: Global, name: &str, at_most: usize, into: &mut Vec<u8>) -> ReadAnswer
         requires { into.old.items ≡ [] }
 
-        // No read changes what is told. No file gives bytes back, and one that is done was taken whole.
+        // No read changes what is known. No file gives bytes back, and one that is done was taken whole.
         ensures told { told self.new ≡ told self.old }
         ensures taken { taken self.old ≤ taken self.new }
         ensures counted { OnDone result
@@ -46,7 +46,7 @@ pub trait Files {
         ensures length { length into.new.items ≤ at_most }
         ensures empty { OnNotDone result (into.new.items ≡ []) }
 
-        // Too long is told bytes' own length. Untold ones show it by the count of bytes taken.
+        // Too long is the length of the known bytes. For unknown ones the count of bytes taken shows it.
         ensures within { OnDone result (IsWithin (told self.old name.now) at_most) }
         ensures too_long { OnTooLong result
             (IsLonger (told self.old name.now) at_most (taken self.old) (taken self.new)) }

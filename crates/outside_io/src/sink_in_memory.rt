@@ -7,8 +7,9 @@ use crate::writing::{Sink, SinkFailed};
 use std::alloc::{AllocError, Global};
 use std::marker::Model;
 
-/// A sink that keeps and tells what it takes. It has its room from the start, so that no write takes memory. A write that
-/// passes the room fails, and so do the writes that are listed. Each write looks through that list.
+/// A sink that keeps what it takes, and whose bytes are known. It has its room from the start, so that no
+/// write takes memory. A write that passes the room fails, and so do the writes that are listed. Each write
+/// looks through that list.
 #[derive(Drop)]
 pub struct SinkInMemory {
     bytes: Vec<u8>,
@@ -36,9 +37,9 @@ impl Model for SinkInMemory {
 }
 
 impl SinkInMemory {
-    /// An empty sink with room for so many bytes. `fails` has the number of each write that will fail, counted from 0, and
-    /// how many bytes of its piece that write still takes, as far as the piece has them and there is room. The first entry
-    /// of a number counts.
+    /// An empty sink with room for `room` bytes. `fails` has the number of each write that will fail, counted
+    /// from 0, and how many bytes of its piece that write still takes, as far as the piece has them and there
+    /// is room. The first entry of a number counts.
     pub fn new(
         alloc: Global,
         room: usize,
@@ -58,7 +59,6 @@ impl SinkInMemory {
         })
     }
 
-    /// What it holds.
     pub fn bytes(&self) -> &[u8]
         ensures bytes { result.now ≡ self.now.bytes }
         ensures room { length result.now ≤ self.now.room }
@@ -77,7 +77,7 @@ impl Sink for SinkInMemory {
         ensures answer { IsOk result ↔ (takes_all self.old piece.now ≡ true) }
         ensures after { self.new ≡ after_write self.old piece.now }
 
-        // The trait's clauses, on what is told here.
+        // The trait's clauses, on the known bytes.
         ensures ok { OnOk result (Gains (Some self.old.bytes) (Some self.new.bytes) piece.now) }
         ensures err { OnErr result
             (GainsPrefix (Some self.old.bytes) (Some self.new.bytes) piece.now) }

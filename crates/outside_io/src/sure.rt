@@ -10,7 +10,7 @@ use crate::writing::{Sink, SinkFailed};
 use std::alloc::{AllocError, Global};
 use std::marker::Model;
 
-/// Files that are held in memory, tell their bytes and never fail. A name that is not held has no bytes.
+/// Files that are held in memory, with known bytes, and never fail. A name that is not held has no bytes.
 #[derive(Drop)]
 pub struct SureFiles {
     files: NamedFiles,
@@ -66,11 +66,11 @@ impl Files for SureFiles {
     fn read(&mut self, _alloc: Global, name: &str, at_most: usize, into: &mut Vec<u8>) -> ReadAnswer
         requires { into.old.items ≡ [] }
 
-        // How it ends and what it leaves is exact. Want of memory leaves the files as they were.
+        // How it ends and what it leaves is exact. When allocation fails the files are as they were.
         ensures answer { result ≢ ReadAnswer.NoMemory → result ≡ sure_read_end self.old name.now at_most }
         ensures after { self.new ≡ after_sure_read self.old name.now result }
 
-        // The trait's clauses, on what is told here. No read fails.
+        // The trait's clauses, on the known bytes. No read fails.
         ensures told { told_of self.new ≡ told_of self.old }
         ensures taken { self.old.taken ≤ self.new.taken }
         ensures counted { OnDone result (self.new.taken ≡ raised_by (length into.new.items) self.old.taken) }
@@ -97,7 +97,6 @@ impl Files for SureFiles {
 }
 
 impl SureFiles {
-    /// The bytes of this name.
     fn bytes(&self, name: &str) -> &[u8]
         ensures { result.now ≡ sure_bytes_of self.now.files name.now }
     {
@@ -108,12 +107,11 @@ impl SureFiles {
     }
 }
 
-/// A sink that takes every piece and never fails. It keeps no bytes and tells none.
+/// A sink that takes every piece and never fails. It keeps no bytes, and they are unknown to contracts.
 #[derive(Clone, Copy, Debug, PartialEq, Eq)]
 pub struct SureSink;
 
 impl SureSink {
-    /// The sink.
     pub fn new() -> SureSink
         ensures held { ⟦<SureSink as Sink>⟧.held result ≡ None }
         ensures faults { ⟦<SureSink as Sink>⟧.faults result ≡ 0 }

@@ -8,14 +8,14 @@ pub struct SinkFailed;
 
 /// What is written to, piece by piece.
 pub trait Sink {
-    /// What it holds, where that is told.
+    /// What it holds, where that is known.
     ghost held: { Self → Option (List ℕ) };
 
-    /// How many writes have failed. The count stands still at 2^64 - 1.
+    /// How many writes have failed. The count remains at 2^64 - 1.
     ghost faults: { Self → ℕ };
 
-    /// Writes a piece after what was written before. After a failure a prefix of the piece may have been taken. It takes
-    /// no memory.
+    /// Writes a piece after what was written before. After a failure a prefix of the piece may have been
+    /// taken. It takes no memory.
     fn write(&mut self, piece: &[u8]) -> Result<(), SinkFailed>
         ensures ok { OnOk result (Gains (held self.old) (held self.new) piece.now) }
         ensures err { OnErr result (GainsPrefix (held self.old) (held self.new) piece.now) }

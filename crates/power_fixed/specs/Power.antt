@@ -1,8 +1,7 @@
 -- Powers of numbers. A number is seen as its whole count of millionths. Source: own.
 --
--- The whole part of the exponent is taken by squaring, the fraction by its first twenty binary
--- digits, for which repeated square roots stand. Each product is rounded to millionths, and is a
--- fault where it is past the bound.
+-- The whole part of the exponent is taken by squaring, the fraction by its first twenty binary digits, each a
+-- repeated square root. Each product is rounded to millionths, and is a fault where it is past the bound.
 use Rattle.std.specs.Prelude.{ℕ, zero, suc, ◌-◌, ◌*◌, ◌/◌, ◌%◌, ℤ, pos, unsigned_abs, nat_eq, nat_le, Result, Ok, Err, if◌then◌else◌}
 use Rattle.fixed_num.specs.Number.{product}
 use Rattle.fixed_num.specs.declared.fixed.Arith.{Arith}
@@ -33,7 +32,7 @@ whole_within (suc steps) b n =
 unfoldable pub whole_of : ℤ → ℕ → Result ℤ Arith
 whole_of b n = whole_within n b n
 
--- what is left of the fraction f, in millionths, behind its first k binary digits: each is taken off by
+-- what is left of the fraction f, in millionths, after its first k binary digits: each is taken off by
 -- doubling, and by taking off 1 where that gives 1 or more
 unfoldable pub rest_after : ℕ → ℕ → ℕ
 rest_after f zero = f

@@ -1,5 +1,5 @@
-//! Laws of the definitions that the contracts cite. Each is a function with an empty body, which is proved and never needs
-//! a call.
+//! Laws of the definitions that the contracts cite. Each is a function with an empty body, which is proved
+//! and never needs a call.
 
 ghost use Rattle.std.specs.Prelude.{◌≡◌, ℕ, ◌+◌, ◌*◌, ◌<◌, ◌≤◌, ℤ, pos, ◌≤ℤ◌, Ok, unsigned_abs};
 ghost use Rattle.fixed_num.specs.Number.{bound};

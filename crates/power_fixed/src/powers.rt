@@ -9,8 +9,8 @@ const UNIT: u128 = 1_000_000;
 // How many binary digits of the exponent's fraction count.
 const FRACTION_DIGITS: u32 = 20;
 
-/// The base, which is above 0, to the power of the exponent, which is not negative. It is Overflow exactly where a product
-/// of the definition is.
+/// The base, which is above 0, to the power of the exponent, which is not negative. It is Overflow exactly
+/// where a product of the definition is.
 #[tactic(auto, unfolding(crate::specs::Power::power_of))]
 pub fn power(base: Fixed, exponent: Fixed) -> Result<Fixed, Arith>
     requires base { pos 0 <ℤ base }
@@ -37,7 +37,6 @@ fn product(left: Result<Fixed, Arith>, right: Result<Fixed, Arith>) -> Result<Fi
     left?.mul(right?)
 }
 
-// The square of an answer.
 fn square(root: Result<Fixed, Arith>) -> Result<Fixed, Arith>
     ensures { result ≡ times root root }
 {

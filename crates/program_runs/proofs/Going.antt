@@ -24,7 +24,8 @@ module _ (files : List ℕ → Option (List ℕ)) where
   halts_on run rest old mid new failed_old failed_mid failed_new (Refused answer) leads before halts =
       (none_on old mid new failed_old failed_mid failed_new before halts.0, leads.outcomes (outcome_of answer) halts.1)
 
--- A part after a part. The value of the first is x, which the code lends as y; files are told the same after it.
+-- A part after a part. The value of the first is x, which the code borrows as y; the known contents of files
+-- are the same after it.
 module _ {A B : Type 0} (files : List ℕ → Option (List ℕ)) (first : (B → Run) → Run) (rest : B → (A → Run) → Run) where
   abbrev pub both : (A → Run) → Run
   both k = first (λ x. rest x k)
@@ -45,7 +46,7 @@ module _ {A B : Type 0} (files : List ℕ → Option (List ℕ)) (first : (B →
     halts_second old mid new failed_old failed_mid failed_new (Err h) before halts =
         λ k. halts_on files (both k) (rest y k) old mid new failed_old failed_mid failed_new h (leads_rest k) before (subst (λ f. HaltsAt f (rest y k) mid new failed_mid failed_new h) same (halts k))
 
--- The rest of a run after a part whose value is x; files are told the same after it.
+-- The rest of a run after a part whose value is x; the known contents of files are the same after it.
 module _ {B : Type 0} (files : List ℕ → Option (List ℕ)) (part : (B → Run) → Run) (x : B) (goes : GoesOn files part x) (then_files : List ℕ → Option (List ℕ)) (same : then_files ≡ files) (k : B → Run) where
   pub outcome_after : {E : Type 0} (r : Result Answer E) → IfOk r (λ a. HasOutcome then_files (k x) (outcome_of a)) → IfOk r (λ a. HasOutcome files (part k) (outcome_of a))
   outcome_after (Ok a) d = (goes k).outcomes (outcome_of a) (subst (λ f. HasOutcome f (k x) (outcome_of a)) same d)

@@ -16,7 +16,7 @@ one_refusal what text kind other at place at_first first at_second second =
     let same = one_fault text at place kind other at_first at_second first second in
     ap (λ n. no_json what kind n) same.0 ∙ ap (λ k. no_json what k place) same.1
 
--- a told file is no longer than it may be and longer
+-- a file with known contents is not both within the limit and longer
 not_both : (file : Option (List ℕ)) (limit : ℕ) (bytes : List ℕ) → is_some file ≡ true → IsLongerIfTold file limit → IsContent file bytes → length bytes ≤ limit → ⊥
 not_both None limit bytes told longer is within = cc
 not_both (Some b) limit bytes told longer is within = let e = ap length is in omega arith

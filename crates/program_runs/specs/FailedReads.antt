@@ -7,7 +7,8 @@ use Rattle.program_runs.specs.Runs.{Run, IsReached}
 abbrev pub NoneFailed : (old new : ℕ) → (failed_old failed_new : Option (List ℕ)) → Type 0
 NoneFailed old new failed_old failed_new = (new ≡ old) × (failed_new ≡ failed_old)
 
--- One read failed: the count of faults was raised by one, the name of the read that failed is this, and the run came to read that file.
+-- One read failed: the count of faults was raised by one, the name of the read that failed is this, and the
+-- run came to read that file.
 pub record ReadFails (files : List ℕ → Option (List ℕ)) (run : Run) (old new : ℕ) (failed : Option (List ℕ)) (name : List ℕ) : Type 0 where
   pub counted : new ≡ raised old
   pub noted : failed ≡ Some name

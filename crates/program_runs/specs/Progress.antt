@@ -12,19 +12,21 @@ use Rattle.program_runs.specs.Runs.{Run, HasOutcome, IsReached}
 abbrev pub outcome_of : Answer → Outcome
 outcome_of a = record { out = a.out.items; err = a.err.items; ending = a.ending }
 
--- the run comes to the rest of it: the outcomes of the rest are outcomes of the run, and what the rest reads the run reads
+-- the run comes to the rest of it: the outcomes of the rest are outcomes of the run, and what the rest reads
+-- the run reads
 pub record LeadsTo (files : List ℕ → Option (List ℕ)) (run rest : Run) : Type 0 where
   pub outcomes : (o : Outcome) → HasOutcome files rest o → HasOutcome files run o
   pub reads : (name : List ℕ) → IsReached files rest name → IsReached files run name
 
--- Memory lacked; a read of the run's failed; or what was read is refused, and that is an outcome. The last four are the count of failed
--- reads before and after, and the name of the last of them before and after.
+-- An allocation failed; a read of the run's failed; or what was read is refused, and that is an outcome. The
+-- last four are the count of failed reads before and after, and the name of the last of them before and
+-- after.
 abbrev pub HaltsAt : (List ℕ → Option (List ℕ)) → Run → (old new : ℕ) → (failed_old failed_new : Option (List ℕ)) → Halt → Type 0
 HaltsAt files run old new failed_old failed_new NoMemory = NoneFailed old new failed_old failed_new
 HaltsAt files run old new failed_old failed_new (Unread name) = ReadFails files run old new failed_new name.now
 HaltsAt files run old new failed_old failed_new (Refused answer) = NoneFailed old new failed_old failed_new × HasOutcome files run (outcome_of answer)
 
--- no answer: memory lacked, or a read of the run's failed
+-- no answer: an allocation or a read of the run's failed
 abbrev pub IsStop : (List ℕ → Option (List ℕ)) → Run → (old new : ℕ) → (failed_old failed_new : Option (List ℕ)) → Stop → Type 0
 IsStop files run old new failed_old failed_new stops.NoMemory = NoneFailed old new failed_old failed_new
 IsStop files run old new failed_old failed_new (stops.Unread name) = ReadFails files run old new failed_new name.now

@@ -12,7 +12,7 @@ use Rattle.program_runs.specs.Refusals.{no_json}
 pub data Run : Type 0 where
   -- all is read, and this is the outcome
   ends : Outcome → Run
-  -- the file of this name is read, of so many bytes at most: a longer one is refused
+  -- the file of this name is read, of `count` bytes at most: a longer one is refused
   reads : (longer : Outcome) → (name : List ℕ) → (limit : ℕ) → (after : List ℕ → Run) → Run
   -- the bytes are a JSON text; a refusal says what it is
   parses : (what bytes : List ℕ) → (after : Tree → Run) → Run
@@ -20,12 +20,12 @@ pub data Run : Type 0 where
   may_parse : (bytes : List ℕ) → (after : Option Tree → Run) → Run
 
 module _ (files : List ℕ → Option (List ℕ)) where
-  -- what the file of this name may be read as: its bytes, and some bytes where it is not told
+  -- what the file of this name may be read as: its bytes, and any bytes where its contents are unknown
   abbrev pub IsFile : (name : List ℕ) (limit : ℕ) → List ℕ → Type 0
   IsFile name limit bytes = IsContent (files name) bytes × (length bytes ≤ limit)
 
-  -- An outcome of the run by what is told of files. Of a file that is not told some bytes serve. Bytes that are no JSON text have one
-  -- fault, which is told.
+  -- An outcome of the run by the known contents of files. Of a file whose contents are unknown some bytes
+  -- serve. Bytes that are no JSON text have one fault, which is reported.
   abbrev pub HasOutcome : Run → Outcome → Type 0
   HasOutcome (ends made) o = o ≡ made
   HasOutcome (reads longer name limit after) o =
@@ -38,7 +38,7 @@ module _ (files : List ℕ → Option (List ℕ)) where
       ((t : Tree) × Spells all_rules bytes t × HasOutcome (after (Some t)) o)
       ⊎ ((IsAccepted all_rules bytes → ⊥) × HasOutcome (after None) o)
 
-  -- every file that the run comes to read is told
+  -- the contents of every file that the run comes to read are known
   abbrev pub AreTold : Run → Type 0
   AreTold (ends made) = Unit {0}
   AreTold (reads longer name limit after) = (is_some (files name) ≡ true) × ((bytes : List ℕ) → IsFile name limit bytes → AreTold (after bytes))

@@ -14,8 +14,8 @@ use Rattle.program_runs.specs.Runs.{Run, HasOutcome, AreTold}
 abbrev pub unread_line : List ℕ → List ℕ
 unread_line name = line (codes "read " ++ text_json name)
 
--- how a run ends once a read has failed, by the count of failed writes of err: the line was written, or its write failed, or memory
--- lacked for it
+-- how a run ends once a read has failed, by the count of failed writes of err: the line was written, or its
+-- write failed, or memory lacked for it
 abbrev pub EndsUnread : Status → (err_old err_new : Option (List ℕ)) → (faults_old faults_new : ℕ) → List ℕ → Type 0
 EndsUnread status.ReadFault err_old err_new faults_old faults_new name = Gains err_old err_new (unread_line name) × (faults_new ≡ faults_old)
 EndsUnread status.WriteFault err_old err_new faults_old faults_new name = faults_new ≡ raised faults_old
@@ -42,12 +42,13 @@ module _ (files : List ℕ → Option (List ℕ)) (run : Run) where
     pub out : Gains out_old out_new outcome.out
     pub err : Gains err_old err_new outcome.err
 
-  -- what out holds more is a prefix of the out text, where files are told
+  -- what out holds more is a prefix of the out text, where the contents of files are known
   pub record OutFront (old new : Option (List ℕ)) : Type 0 where
     pub front : (o : Outcome) → AreTold files run → HasOutcome files run o → GainsPrefix old new o.out
 
-  -- What err holds more is a prefix of the err text, where files are told; or, where a read failed, of the line that tells so. The first
-  -- three arguments are the count of failed reads before and after, and the name of the last of them.
+  -- What err holds more is a prefix of the err text, where the contents of files are known; or, where a read
+  -- failed, of the line that says so. The first three arguments are the count of failed reads before and
+  -- after, and the name of the last of them.
   pub record ErrFront (reads_old reads_new : ℕ) (failed : Option (List ℕ)) (old new : Option (List ℕ)) : Type 0 where
     pub front :
         ((o : Outcome) → AreTold files run → HasOutcome files run o → GainsPrefix old new o.err)
@@ -63,8 +64,8 @@ module _ (files : List ℕ → Option (List ℕ)) (run : Run) where
       ((o : Outcome) × HasOutcome files run o × (0 < length o.err))
       ⊎ ((name : List ℕ) × ReadFails files run reads_old reads_new failed name)
 
-  -- One write failed: of out while an out text was due, or of err while an err line was due. Its count of faults was raised by one, and
-  -- that of the other is as it was.
+  -- One write failed: of out while an out text was due, or of err while an err line was due. Its count of
+  -- faults was raised by one, and that of the other is as it was.
   pub record WriteFails (reads_old reads_new : ℕ) (failed : Option (List ℕ)) (out_old out_new err_old err_new : ℕ) : Type 0 where
     pub cause :
         (OutTextIsDue × (out_new ≡ raised out_old) × (err_new ≡ err_old))

@@ -35,7 +35,7 @@ pub fn answer_out(alloc: Global, out: Vec<u8>, ending: Ending) -> Answer
     }
 }
 
-/// The line of words that have no form.
+/// The line for an unknown command or wrong arguments.
 pub fn answer_usage(alloc: Global) -> Result<Answer, AllocError>
     ensures { IfOk result (λ answer. outcome_of answer ≡ told (codes "usage") Ending.Usage) }
 {

@@ -50,7 +50,7 @@ pub fn parse_json<'a>(alloc: Global, what: &Subject<'_>, bytes: &[u8]) -> Result
     json_or_refusal(alloc, what, parse(alloc, bytes)?)
 }
 
-/// The JSON text in a file of at most so many bytes.
+/// The JSON text in a file of at most `limit` bytes.
 pub fn read_json<'a, F: Files>(
     alloc: Global,
     what: &Subject<'_>,

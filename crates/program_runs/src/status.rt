@@ -6,10 +6,10 @@ ghost use Rattle.program_runs.specs.Ending.{status_of, code_of};
 pub enum Status {
     /// Everything was written, and nothing was found to report.
     Fine,
-    /// Everything was written, and something was found to report: `value` ended in an evaluation error, a document has findings, or a
-    /// line of a script was refused. A fault in a listing is none of these.
+    /// Everything was written, and something was found to report: `value` ended in an evaluation error, a
+    /// document has findings, or a line of a script was refused. A fault in a listing is none of these.
     Found,
-    /// The words have no form that the program knows.
+    /// An unknown command or wrong arguments.
     Usage,
     /// What was handed in is not accepted; the err line says why.
     Refused,
@@ -17,7 +17,7 @@ pub enum Status {
     ReadFault,
     /// Standard output or standard error could not be written.
     WriteFault,
-    /// Memory lacked.
+    /// An allocation failed.
     NoMemory,
 }
 

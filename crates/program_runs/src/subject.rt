@@ -34,7 +34,8 @@ pub fn write_subject(what: &Subject<'_>, line: &mut Vec<u8>) -> Result<(), Alloc
     Ok(())
 }
 
-/// Appends which of several it is, as a refusal has it at its end: ` tile 1` of the second tile of a source, and nothing of the first.
+/// Appends which of several it is, as a refusal has it at its end: ` tile 1` of the second tile of a source,
+/// and nothing of the first.
 pub fn write_number(what: &Subject<'_>, line: &mut Vec<u8>) -> Result<(), AllocError>
     ensures { OnOk result (line.new.items ≡ line.old.items ++ subject_number what.now) }
 {

@@ -1,4 +1,4 @@
--- For callers: what stands at each key once entries have changed.
+-- For callers: what is at each key once entries have changed.
 use Rattle.std.specs.Prelude.{◌≡◌, ℕ, List, [], ◌∷◌, Bool, true, false, Option, Some, None, if◌then◌else◌}
 use Rattle.std.specs.Option.{option_or}
 use Rattle.std.proofs.Common.{refl, ap, sym, ◌∙◌, subst}
@@ -31,7 +31,7 @@ member_step key d q p ps true e h = asked_again (same_text p.0 q) (same_text key
 member_step key d q p ps false e h =
     ap (λ r. if same_text p.0 q then Some p.1 else r) h ∙ either_first (same_text p.0 q) (same_text key q) (Some p.1) (Some d) (at_key q (pairs_of ps)) (λ f g. not_both p.0 key q e f g)
 
--- A member has its data at its key, and at each other key stands what stood there.
+-- A member has its data at its key, and at each other key is what was there.
 pub at_member : (key : List ℕ) (d : Data) (ps : List (List ℕ × Data)) (q : List ℕ) → at_key q (pairs_of (with_member key d ps)) ≡ (if same_text key q then Some d else at_key q (pairs_of ps))
 at_member key d [] q = refl
 at_member key d (p ∷ ps) q = member_step key d q p ps (same_text p.0 key) refl (at_member key d ps q)
@@ -40,7 +40,7 @@ merged_step : (same : Bool) (d : Data) (later old : Option Data) → (same ≡ t
 merged_step true d later old h = ap (λ r. option_or r (Some d)) (h refl)
 merged_step false d later old h = refl
 
--- Of members whose keys differ each has its data at its key, and at each other key stands what stood there.
+-- Of members whose keys differ each has its data at its key, and at each other key is what was there.
 pub at_merged : (ps qs : List (List ℕ × Data)) → HasDistinctKeys qs → (q : List ℕ) → at_key q (pairs_of (merged ps qs)) ≡ option_or (at_key q (pairs_of qs)) (at_key q (pairs_of ps))
 at_merged ps [] h q = refl
 at_merged ps (r ∷ qs) h q =
@@ -64,7 +64,7 @@ none_either : (b : Bool) (r : Option Data) → r ≡ None → r ≡ (if b then N
 none_either true r e = e
 none_either false r e = refl
 
--- Without a key nothing stands there, and at each other key stands what stood there.
+-- Without a key there is nothing at it, and at each other key is what was there.
 pub at_without : (key : List ℕ) (ps : List (List ℕ × Data)) → HasDistinctKeys ps → (q : List ℕ) → at_key q (pairs_of (without_key key ps)) ≡ (if same_text key q then None else at_key q (pairs_of ps))
 at_without key [] h q = none_either (same_text key q) None refl
 at_without key (p ∷ ps) h q = without_step key q p ps (same_text p.0 key) refl h.0 (at_without key ps h.1 q)

@@ -1,4 +1,4 @@
--- The text of a color is its parts, one behind the other.
+-- The text of a color is the texts of its parts in order.
 use Rattle.std.proofs.Common.{◌≡◌, ℕ, List, [], ◌∷◌, ◌++◌, append_assoc}
 use Rattle.std.specs.Prelude.{codes}
 use Rattle.fixed_num.specs.NumberText.{number_text}

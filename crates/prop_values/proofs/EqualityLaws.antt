@@ -23,7 +23,7 @@ all_true true false h k = absurd (cc)
 all_true false true h k = absurd (cc)
 all_true false false h k = absurd (cc)
 
--- equality of data with what stands at a key
+-- equality of data with what is at a key
 abbrev stands_equal : Data → Option Data → Bool
 stands_equal d found = unwrap_or (option_map (equal d) found) false
 
@@ -39,7 +39,7 @@ first_some : (found : Option Data) (e : Data) → both_equal found (Some e) ≡ 
 first_some None e h = absurd (cc)
 first_some (Some d) e h = refl
 
--- What stands at a key of the first has an equal in the second.
+-- What is at a key of the first has an equal in the second.
 in_step : (k key : List ℕ) (x d : Data) (rest : Option Data) (b : Pairs) (same : Bool) → same_text k key ≡ same → (if same then Some x else rest) ≡ Some d → stands_equal x (at_key k b) ≡ true → (rest ≡ Some d → stands_equal d (at_key key b) ≡ true) → stands_equal d (at_key key b) ≡ true
 in_step k key x d rest b true e f h go =
     let one : x ≡ d = cc in
@@ -52,7 +52,7 @@ at_in (pair k x ps) b key d h e =
     let both = parts_true (stands_equal x (at_key k b)) (pairs_in ps b) h in
     in_step k key x d (at_key key ps) b (same_text k key) refl e both.0 (λ f. at_in ps b key d both.1 f)
 
--- And something stands at each key of the first in the second.
+-- And each key of the first has something in the second.
 key_step : (k key : List ℕ) (x d : Data) (rest : Option Data) (b : Pairs) (same : Bool) → same_text k key ≡ same → (if same then Some x else rest) ≡ Some d → is_some (at_key k b) ≡ true → (rest ≡ Some d → is_some (at_key key b) ≡ true) → is_some (at_key key b) ≡ true
 key_step k key x d rest b true e f h go = subst (λ q. is_some (at_key q b) ≡ true) (same_texts k key e) h
 key_step k key x d rest b false e f h go = go f
@@ -63,7 +63,7 @@ key_in (pair k x ps) b key d h e =
     let both = parts_true (is_some (at_key k b)) (keys_in ps b) h in
     key_step k key x d (at_key key ps) b (same_text k key) refl e both.0 (λ f. key_in ps b key d both.1 f)
 
--- Each pair stands at its key.
+-- Each pair is at its key.
 abbrev Stands : Pairs → Pairs → Type 0
 Stands no_pairs whole = Unit {0}
 Stands (pair k d ps) whole = (at_key k whole ≡ Some d) × Stands ps whole

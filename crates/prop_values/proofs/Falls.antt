@@ -9,11 +9,11 @@ use Rattle.prop_values.specs.Data.{Data, nodes, items_nodes, pairs_nodes}
 use Rattle.prop_values.specs.Falls.{values_fall, entries_fall}
 use Rattle.prop_values.specs.View.{data_of, values_view, entries_view, values_size, entries_size, items, pairs}
 
--- A value that `as_slice` of `Values` lends is smaller than the values.
+-- A value of `as_slice` of `Values` is smaller than the values.
 pub value_falls : (vs : List Value) (ds : List Data) (i : ℕ) (v : Value) → values_view vs ≡ ds → i < length vs → v ≡ get_or vs i v → deep-Value v ≤ values_size ds
 value_falls vs ds i v e h p = let a = at_most deep-Value vs i v h in let b = values_fall vs in let q = ap deep-Value p in let r = ap values_size e in omega arith
 
--- A value that `as_slice` of `Entries` lends is smaller than the entries.
+-- A value of `as_slice` of `Entries` is smaller than the entries.
 pub entry_falls : (es : List Entry) (ps : List (List ℕ × Data)) (i : ℕ) (x : Entry) → entries_view es ≡ ps → i < length es → x ≡ get_or es i x → deep-Value x.value ≤ entries_size ps
 entry_falls es ps i x e h p = let a = at_most deep-Entry es i x h in let b = entries_fall es in let q = ap deep-Entry p in let r = ap entries_size e in omega arith
 

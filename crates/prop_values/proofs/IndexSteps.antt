@@ -1,4 +1,4 @@
--- Where a key stands among entries, and what stands there.
+-- The place of a key among entries, and what is there.
 use Rattle.std.proofs.Common.{◌≡◌, ℕ, zero, suc, ◌+◌, ◌<◌, List, [], ◌∷◌, length, get_or, refl, ap, sym, ◌∙◌, arith, Bool, true, false}
 use Rattle.std.specs.Prelude.{Option, Some, None, if◌then◌else◌}
 use Rattle.std.proofs.lemmas.Bool.{cond-true, cond-false}
@@ -25,14 +25,14 @@ pub distinct_entry_keys : (es : List Entry) → HasDistinctKeys (entries_view es
 distinct_entry_keys [] h = tt
 distinct_entry_keys (e ∷ es) h = (lacks_entry_key e.key es h.0, distinct_entry_keys es h.1)
 
--- nothing stands at a key with no place
+-- nothing is at a key with no place
 pub place_none : (i : ℕ) (q : List ℕ) (ps : List (List ℕ × Data)) → place_from i q (keys ps) ≡ None → at_key q (pairs_of ps) ≡ None
 place_none i q [] e = refl
 place_none i q (p ∷ ps) e =
     let parts = none_first i (place_from (i + 1) q (keys ps)) (same_text p.0 q) e in
     cond-false (same_text p.0 q) (Some p.1) (at_key q (pairs_of ps)) parts.0 ∙ place_none (i + 1) q ps parts.1
 
--- where a key stands, and what stands there
+-- the place of a key, and what is there
 pub record StandsAt (i : ℕ) (q : List ℕ) (ps : List (List ℕ × Data)) (k : ℕ) : Type 0 where
   pub offset : ℕ
   pub place : k ≡ i + offset
@@ -62,7 +62,7 @@ found_within q es k e =
     let found = stands 0 q (entries_view es) k e in
     omega (arith, found.place, found.within, length-map es entry_view)
 
--- and what stands there is the value of that entry
+-- and what is there is the value of that entry
 pub found_value : (q : List ℕ) (es : List Entry) (k : ℕ) (e : Entry) → place_from 0 q (keys (entries_view es)) ≡ Some k → e ≡ get_or es k e → at_key q (pairs es) ≡ Some (data_of e.value)
 found_value q es k e f p =
     let found = stands 0 q (entries_view es) k f in

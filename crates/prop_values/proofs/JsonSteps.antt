@@ -12,7 +12,7 @@ use Rattle.prop_values.specs.View.{data_of}
 use Rattle.prop_values.specs.Data.{Data, Items, no_items, item, Pairs, no_pairs, pair, items_of, pairs_of}
 use Rattle.prop_values.specs.JsonData.{then_items, then_pairs, json_data, trees_data, fields_data}
 
--- items behind those of a list
+-- items after those of a list
 abbrev pub items_behind : List Data → Items → Items
 items_behind [] more = more
 items_behind (d ∷ ds) more = item d (items_behind ds more)

@@ -1,4 +1,4 @@
--- For callers: what stands at a key of entries, and which keys are not there.
+-- For callers: what is at a key of entries, and which keys are not there.
 use Rattle.std.specs.Prelude.{◌≡◌, ◌≢◌, ℕ, List, [], ◌∷◌, Bool, true, false, Option, Some, None, if◌then◌else◌}
 use Rattle.std.proofs.Common.{refl, ◌∙◌}
 use Rattle.std.proofs.lemmas.Bool.{both_ways, false_from_ne_true, cond-false}
@@ -16,7 +16,7 @@ same_texts a b e = (bytes_eq-Decides a b).0 e
 pub texts_differ : (a b : List ℕ) → a ≢ b → same_text a b ≡ false
 texts_differ a b h = false_from_ne_true (same_text a b) (λ e. h (same_texts a b e))
 
--- Nothing stands at a key that is not there.
+-- Nothing is at a key that is not there.
 pub none_at_lacking : (key : List ℕ) (ps : List (List ℕ × Data)) → LacksKey key ps → at_key key (pairs_of ps) ≡ None
 none_at_lacking key [] h = refl
 none_at_lacking key (p ∷ ps) h = cond-false (same_text p.0 key) (Some p.1) (at_key key (pairs_of ps)) (texts_differ p.0 key h.0) ∙ none_at_lacking key ps h.1
@@ -25,7 +25,7 @@ none_at_first : (key k : List ℕ) (d : Data) (rest : Option Data) (same : Bool)
 none_at_first key k d rest true e h = absurd (cc)
 none_at_first key k d rest false e h = (λ q. both_ways (same_text k key) e (texts_same k key q), h)
 
--- A key at which nothing stands is not there.
+-- A key at which there is nothing is not there.
 pub lacking_from_none : (key : List ℕ) (ps : List (List ℕ × Data)) → at_key key (pairs_of ps) ≡ None → LacksKey key ps
 lacking_from_none key [] h = tt
 lacking_from_none key (p ∷ ps) h =

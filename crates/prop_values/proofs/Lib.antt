@@ -1,4 +1,4 @@
--- For callers: what stands at a key, what a value's data gives back, and the measures of a recursion.
+-- For callers: what is at a key, what a value's data gives back, and the measures of a recursion.
 pub mod KeyLaws
 pub mod ViewLaws
 pub mod Falls

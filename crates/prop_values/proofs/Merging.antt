@@ -30,7 +30,7 @@ has_listed key (p ∷ ps) = listed_step p.1 (at_key key (pairs_of ps)) (same_tex
 has_replaced : (key q : List ℕ) (d : Data) (ps : List (List ℕ × Data)) → has key (replaced q d ps) ≡ has key ps
 has_replaced key q d ps = has_listed key (replaced q d ps) ∙ (ap (is_listed key) (keys_replaced q d ps) ∙ sym (has_listed key ps))
 
--- where a key is there, what stands behind the entries stays behind them
+-- where a key is there, what follows the entries stays after them
 push_step : (q : List ℕ) (d : Data) (p x : List ℕ × Data) (ps : List (List ℕ × Data)) (same : Bool) → is_some (if same then Some p.1 else at_key q (pairs_of ps)) ≡ true → (has q ps ≡ true → replaced q d (ps ++ x ∷ []) ≡ replaced q d ps ++ x ∷ []) → (if same then (p.0, d) ∷ (ps ++ x ∷ []) else p ∷ replaced q d (ps ++ x ∷ [])) ≡ (if same then (p.0, d) ∷ ps else p ∷ replaced q d ps) ++ x ∷ []
 push_step q d p x ps true h go = refl
 push_step q d p x ps false h go = ap (λ xs. p ∷ xs) (go h)
@@ -83,7 +83,7 @@ member_lacking : (q : List ℕ) (d : Data) (ps : List (List ℕ × Data)) → ha
 member_lacking q d [] h = cond-true (same_text q q) ((q, d) ∷ []) ((q, null) ∷ []) (texts_same q q refl)
 member_lacking q d (p ∷ ps) h = lacking_step q d p ps (ps ++ (q, null) ∷ []) (same_text p.0 q) h (member_lacking q d ps)
 
--- A member whose key is not there stands behind the others.
+-- A member whose key is not there follows the others.
 pub member_new : (q : List ℕ) (d : Data) (ps : List (List ℕ × Data)) → LacksKey q ps → with_member q d ps ≡ ps ++ (q, d) ∷ []
 member_new q d [] h = refl
 member_new q d (p ∷ ps) h = cond-false (same_text p.0 q) ((p.0, d) ∷ ps) (p ∷ with_member q d ps) (texts_differ p.0 q h.0) ∙ ap (λ xs. p ∷ xs) (member_new q d ps h.1)
@@ -125,7 +125,7 @@ merged_behind (q ∷ qs) ps h =
 pub merged_none : (qs : List (List ℕ × Data)) → HasDistinctKeys qs → merged [] qs ≡ qs
 merged_none qs h = merged_behind qs [] h
 
--- What stands first stays first.
+-- What is first remains first.
 pub first_stays : (old ps xs : List (List ℕ × Data)) → take (length old) ps ≡ old → take (length old) (ps ++ xs) ≡ old
 first_stays old ps xs e = take-append-le (length old) ps xs (omega (arith, ap length e, length-take (length old) ps)) ∙ e
 

@@ -9,7 +9,7 @@ use Rattle.std.proofs.lemmas.Str.{IsUtf8-append, IsUtf8-nil, IsUtf8-encode, IsUt
 use Rattle.std.proofs.lemmas.Str.Ascii.{IsAscii-nil, IsAscii-cons}
 use Rattle.decimal_json.specs.JsonText.{byte_json, text_json}
 
--- a byte outside ASCII stands for itself
+-- a byte outside ASCII is unescaped
 high_byte : (b : ℕ) → 128 ≤ b → byte_json b ≡ b ∷ []
 high_byte b h = grind arith
 

@@ -4,17 +4,17 @@ use Rattle.prop_values.specs.Data.{Data}
 use Rattle.prop_values.specs.Equality.{same_text}
 
 -- The entries with data set at a key: an entry that has the key keeps its place and takes the data, and
--- without one a new entry stands behind the others. Own.
+-- without one a new entry follows the others. Source: own.
 abbrev pub with_member : List ℕ → Data → List (List ℕ × Data) → List (List ℕ × Data)
 with_member key d [] = (key, d) ∷ []
 with_member key d (p ∷ ps) = if same_text p.0 key then (p.0, d) ∷ ps else p ∷ with_member key d ps
 
--- The entries with each given one set, in the order in which they are given. Own.
+-- The entries with each given one set, in the order in which they are given. Source: own.
 abbrev pub merged : List (List ℕ × Data) → List (List ℕ × Data) → List (List ℕ × Data)
 merged ps [] = ps
 merged ps (q ∷ qs) = merged (with_member q.0 q.1 ps) qs
 
--- The entries without that of a key, the others in their order. Own.
+-- The entries without that of a key, the others in their order. Source: own.
 abbrev pub without_key : List ℕ → List (List ℕ × Data) → List (List ℕ × Data)
 without_key key [] = []
 without_key key (p ∷ ps) = if same_text p.0 key then ps else p ∷ without_key key ps

@@ -3,7 +3,7 @@ use Rattle.std.specs.Prelude.{◌≢◌, ℕ, ℤ, ◌+◌, List, [], ◌∷◌,
 use Rattle.fixed_num.specs.declared.color.Color.{Color}
 
 -- The seven forms of a value. A number is its count of millionths, a text the list of its UTF-8
--- bytes. Own.
+-- bytes. Source: own.
 mutual
   pub data Data : Type 0 where
     null : Data
@@ -43,7 +43,8 @@ abbrev pub entries_of : Pairs → List (List ℕ × Data)
 entries_of no_pairs = []
 entries_of (pair k d ps) = (k, d) ∷ entries_of ps
 
--- The number of nodes: a list counts one more than its parts, and a map two, its entries and what shares them.
+-- The number of nodes: a list counts one more than its parts, and a map two, its entries and what shares
+-- them.
 abbrev mutual
   pub nodes : Data → ℕ
   nodes null = 1
@@ -67,7 +68,7 @@ abbrev pub LacksKey : List ℕ → List (List ℕ × Data) → Type 0
 LacksKey key [] = Unit {0}
 LacksKey key (p ∷ ps) = (p.0 ≢ key) × LacksKey key ps
 
--- No key stands twice.
+-- No key occurs twice.
 abbrev pub HasDistinctKeys : List (List ℕ × Data) → Type 0
 HasDistinctKeys [] = Unit {0}
 HasDistinctKeys (p ∷ ps) = LacksKey p.0 ps × HasDistinctKeys ps

@@ -28,7 +28,7 @@ keys_in no_pairs qs = true
 keys_in (pair k d ps) qs = is_some (at_key k qs) && keys_in ps qs
 
 -- Values are equal where they are of one form with equal parts: lists item by item, and maps where
--- they have the same keys with equal values, in any order. Own.
+-- they have the same keys with equal values, in any order. Source: own.
 abbrev mutual
   pub equal : Data → Data → Bool
   equal null null = true

@@ -1,9 +1,9 @@
--- What equality of values means. The statements are to be believed; their proofs stand in proofs/.
+-- What equality of values means. The statements are to be believed; their proofs are in proofs/.
 use Rattle.std.specs.Prelude.{◌≡◌, ◌↔◌, ℕ, List, Bool, true, false, Option, Some, None}
 use Rattle.prop_values.specs.Data.{Data, null, boolean, number, text, color, list, map, Items, no_items, item, Pairs, no_pairs, pair, pairs_of, entries_of, HasDistinctKeys}
 use Rattle.prop_values.specs.Equality.{equal, at_key}
 
--- No map in the data has a key twice. Own.
+-- No map in the data has a key twice. Source: own.
 abbrev mutual
   pub IsKeyed : Data → Type 0
   IsKeyed null = Unit {0}
@@ -22,7 +22,7 @@ abbrev mutual
   HasKeyedData no_pairs = Unit {0}
   HasKeyedData (pair k d ps) = IsKeyed d × HasKeyedData ps
 
--- Both are nothing, or both are data that are equal. Own.
+-- Both are nothing, or both are data that are equal. Source: own.
 abbrev pub both_equal : Option Data → Option Data → Bool
 both_equal None None = true
 both_equal (Some a) (Some b) = equal a b

@@ -6,7 +6,7 @@ use Rattle.prop_values.specs.declared.fault.EvalFault.{EvalFault}
 use Rattle.prop_values.specs.declared.fault.EvalFault.TheVariants.{WrongType, NotColor, NotNumberText, IndexOutside, IndexNotWhole, DivideByZero, Overflow, ColorRange, NotOrdered, NotInEnum}
 use Rattle.prop_values.specs.declared.fault.FaultSet.{FaultSet}
 
--- The name that is printed for a fault. Own.
+-- The name that is printed for a fault. Source: own.
 abbrev pub fault_name : EvalFault → List ℕ
 fault_name WrongType = codes "WrongType"
 fault_name NotColor = codes "NotColor"

@@ -6,14 +6,14 @@ use Rattle.std.specs.Cmp.Lexicographic.{slice_cmp}
 use Rattle.std.specs.Str.{chars}
 use Rattle.prop_values.specs.Data.{Data, null, boolean, number, text, color, list, map}
 
--- Two numbers are ordered, and two texts by their scalar values; nothing else is. Own.
+-- Two numbers are ordered, and two texts by their scalar values; nothing else is. Source: own.
 abbrev pub order_of : Data → Data → Option Ordering
 order_of (number a) (number b) = Some (int_cmp a b)
 order_of (text a) (text b) = Some (slice_cmp nat_cmp (chars a) (chars b))
 order_of _ _ = None
 
--- What `typeof` says. MapLibre style specification, version 8, expressions; `color` and `null` as
--- this project takes them.
+-- What `typeof` says. Source: MapLibre style specification, version 8, expressions; own for `color` and
+-- `null`.
 abbrev pub kind_name : Data → List ℕ
 kind_name null = codes "null"
 kind_name (boolean b) = codes "boolean"
@@ -27,7 +27,7 @@ abbrev pub is_empty : List ℕ → Bool
 is_empty [] = true
 is_empty (b ∷ bs) = false
 
--- What `to-boolean` says: false for null, false, 0 and the empty text. MapLibre style specification,
+-- What `to-boolean` says: false for null, false, 0 and the empty text. Source: MapLibre style specification,
 -- version 8, expressions.
 abbrev pub is_true : Data → Bool
 is_true null = false

@@ -25,7 +25,7 @@ then_pairs (Ok a) go = go a
 then_pairs (Err f) go = Err f
 
 -- Each form of JSON is the form of a value, a number read once. The fault is that of the first number
--- past the bound, in the order of the document. Own.
+-- past the bound, in the order of the document. Source: own.
 abbrev mutual
   pub json_data : Tree → Result Data NumFault
   json_data tree.null = Ok null

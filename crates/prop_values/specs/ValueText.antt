@@ -14,8 +14,8 @@ abbrev pub comma_if : Bool → List ℕ
 comma_if true = 44 ∷ []
 comma_if false = []
 
--- The JSON of a value, without white space: a number is its text, and a color the JSON string of its
--- text. '[' is 91, ']' 93, '{' 123, '}' 125 and ':' 58. RFC 8259 sections 3 to 7; for colors own.
+-- The JSON of a value, without white space: a number is its text, and a color the JSON string of its text.
+-- '[' is 91, ']' 93, '{' 123, '}' 125 and ':' 58. Source: RFC 8259 §3 to §7; own for colors.
 abbrev mutual
   pub data_json : Data → List ℕ
   data_json null = codes "null"
@@ -26,7 +26,7 @@ abbrev mutual
   data_json (list ds) = 91 ∷ (items_json false ds ++ 93 ∷ [])
   data_json (map ps) = 123 ∷ (pairs_json false ps ++ 125 ∷ [])
 
-  -- items, where `later` says that one stands before them
+  -- items, where `later` says that there is one before them
   pub items_json : Bool → Items → List ℕ
   items_json later no_items = []
   items_json later (item d ds) = comma_if later ++ (data_json d ++ items_json true ds)
@@ -35,8 +35,8 @@ abbrev mutual
   pairs_json later no_pairs = []
   pairs_json later (pair k d ps) = comma_if later ++ (text_json k ++ 58 ∷ (data_json d ++ pairs_json true ps))
 
--- What `to-string` says: null is empty, a text is itself, a color is its text, and all else is its
--- JSON. MapLibre style specification, version 8, expressions; for colors own.
+-- What `to-string` says: null is empty, a text is itself, a color is its text, and all else is its JSON.
+-- Source: MapLibre style specification, version 8, expressions; own for colors.
 abbrev pub shown_text : Data → List ℕ
 shown_text null = []
 shown_text (boolean b) = flag_text b
@@ -46,7 +46,7 @@ shown_text (color c) = color_text c
 shown_text (list ds) = data_json (list ds)
 shown_text (map ps) = data_json (map ps)
 
--- What a listing has for a value: its JSON, but for a color the bare text. Own.
+-- What a listing has for a value: its JSON, but for a color the bare text. Source: own.
 abbrev pub listed_text : Data → List ℕ
 listed_text null = data_json null
 listed_text (boolean b) = data_json (boolean b)

@@ -8,7 +8,7 @@ use Rattle.prop_values.specs.declared.value.Value.TheVariants.{Null, Bool as Fla
 use Rattle.prop_values.specs.declared.value.Entry.{Entry}
 use Rattle.prop_values.specs.declared.fault.EvalFault.{EvalFault}
 
--- The data of a value: each variant is the form of its name. Own.
+-- The data of a value: each variant is the form of its name. Source: own.
 abbrev pub data_of : Value → Data
 data_of Null = null
 data_of (Flag b) = boolean b

@@ -1,7 +1,7 @@
 ghost use Rattle.std.specs.Prelude.{◌≡◌};
 ghost use Rattle.prop_values.specs.Choices.{choice_holds};
 
-/// A set of texts that a style property may be one of (MapLibre style specification, version 8).
+/// A set of texts that a style property may be one of. Source: MapLibre style specification, version 8.
 #[derive(Clone, Copy, Debug, PartialEq, Eq)]
 pub enum Choice {
     /// `visible`, `none`.
@@ -38,7 +38,6 @@ pub enum Choice {
 }
 
 impl Choice {
-    /// Whether the text is one of the set.
     pub fn holds(self, text: &str) -> bool
         ensures { result ≡ choice_holds self text.now }
     {

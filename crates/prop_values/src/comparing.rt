@@ -10,8 +10,8 @@ ghost use Rattle.prop_values.specs.View.{data_of, items, pairs};
 use crate::value::{Entries, Entry, Value};
 use std::cmp::Ordering;
 
-/// Whether two values are of one form with equal parts. Maps are equal in whatever order their
-/// entries stand, in n log n of them.
+/// Whether two values are of one form with equal parts. Maps are equal in whatever order their entries are,
+/// in n log n of them.
 #[tactic(auto, using(crate::proofs::Falls::value_weight, crate::proofs::Falls::entry_weight))]
 #[cycle(equals)]
 pub fn equals(a: &Value, b: &Value) -> bool
@@ -51,7 +51,6 @@ fn are_equal(a: &[Value], b: &[Value]) -> bool
     true
 }
 
-// Whether the map has each of the entries.
 #[tactic(auto, using(crate::proofs::Falls::value_weight, crate::proofs::Falls::entry_weight))]
 #[cycle(equals)]
 fn has_pairs(map: &Entries, entries: &[Entry]) -> bool
@@ -70,7 +69,6 @@ fn has_pairs(map: &Entries, entries: &[Entry]) -> bool
     true
 }
 
-// Whether the map has each of the keys.
 fn has_keys(map: &Entries, entries: &[Entry]) -> bool
     ensures { result ≡ keys_in (pairs entries.now) (pairs_of map.now) }
 {

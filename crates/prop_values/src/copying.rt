@@ -38,7 +38,8 @@ pub(crate) fn copy_values(alloc: Global, values: &[Value]) -> Result<Vec<Value>,
     Ok(copies)
 }
 
-/// The same entries in a map of their own, in time linear in the entries: each value is shared and not copied.
+/// The same entries in a map of their own, in time linear in the entries: each value is shared and not
+/// copied.
 #[tactic(auto, using(crate::proofs::Keys::lacks_before))]
 pub fn copy_entries(alloc: Global, entries: &Entries) -> Result<Entries, AllocError>
     ensures { IfOk result (λ copies. copies ≡ entries.now) }

@@ -9,15 +9,11 @@ use halts::Halt;
 pub enum EvalFault {
     /// A value is not of the form that is wanted.
     WrongType,
-    /// A text is no color.
     NotColor,
-    /// A text is no number.
     NotNumberText,
-    /// An index stands outside a list or text.
+    /// An index is outside a list or text.
     IndexOutside,
-    /// An index has a fraction.
     IndexNotWhole,
-    /// A divisor is 0.
     DivideByZero,
     /// A number is past the bound.
     Overflow,
@@ -30,7 +26,6 @@ pub enum EvalFault {
 }
 
 impl EvalFault {
-    /// The name that is printed.
     pub fn name(self) -> &'static str
         ensures { result.now ≡ fault_name self }
     {
@@ -90,7 +85,6 @@ pub struct FaultSet {
 }
 
 impl FaultSet {
-    /// The set of no fault.
     pub fn empty() -> FaultSet
         ensures { result ≡ no_faults }
     {
@@ -146,7 +140,6 @@ impl FaultSet {
         }
     }
 
-    /// Whether a fault is in the set.
     pub fn holds(self, fault: EvalFault) -> bool
         ensures { result ≡ holds self fault }
     {

@@ -10,24 +10,26 @@
 //! to_text(alloc, &copy(&map)?)?.as_str();          // {"kind":true}
 //! ```
 //!
-//! What is promised, for all values: equality (maps in any order), order, kind text, truth, text and listed text
-//! are those of the definitions in `specs/`; a JSON tree gives the value that it says, or the fault of its first
-//! number past the bound. A map's keys differ, and its `get` takes at most time by the logarithm of its entries, so
-//! `equals` takes n log n and no memory. Two maps are equal exactly where at each key both have nothing or equal
-//! values, and equality is reflexive and symmetric: laws on `maps_are_equal_by_keys` and the two beside it.
+//! What is promised, for all values: equality (maps in any order), order, kind text, truth, text and listed
+//! text are those of the definitions in `specs/`; a JSON tree gives the value that it says, or the fault of
+//! its first number past the bound. A map's keys differ, and its `get` takes at most time by the logarithm of
+//! its entries, so `equals` takes n log n and no memory. Two maps are equal exactly where at each key both
+//! have nothing or equal values, and equality is reflexive and symmetric: laws on `maps_are_equal_by_keys`
+//! and the two beside it.
 //!
-//! A copy is the same value, and takes constant time: texts, lists and maps are counted and not copied. A list
-//! that is shared is taken apart when an item is pushed, and a map when its entries are taken out to be changed.
-//! `Entries` by themselves are never shared, so that `remove` needs no memory.
+//! A copy is the same value, and takes constant time: texts, lists and maps are counted and not copied. A
+//! list that is shared is taken apart when an item is pushed, and a map when its entries are taken out to be
+//! changed. `Entries` by themselves are never shared, so that `remove` needs no memory.
 //!
 //! Maps change at their keys: `set` and `merge` replace a value in its place or add an entry at the end, and
-//! after want of memory the map is as before. `merge` takes n log n of the members; `remove` needs no memory,
-//! and takes time linear in the entries. Where there was none for an index of the keys, they are looked for one by
-//! one until the next entry is added. The clauses `at` of the three say what stands at each key then.
+//! when allocation fails the map is as before. `merge` takes n log n of the members; `remove` needs no
+//! memory, and takes time linear in the entries. Where there was none for an index of the keys, they are
+//! looked for one by one until the next entry is added. The clauses `at` of the three say what is at each key
+//! then.
 //!
 //! Contracts see a value through `data_of`, a list as a list of data, and a map as a list of pairs of a key
 //! and data (`specs/Data.antt`, `specs/View.antt`). `proofs/Falls.antt` has the lemmas by which a recursion
-//! over values ends, and `proofs/KeyLaws.antt` those on what stands at a key.
+//! over values ends, and `proofs/KeyLaws.antt` those on what is at a key.
 //!
 //! The text to believe is in `specs/`: `Data`, `View`, `Faults`, `Equality`, `Choices`, `Forms`,
 //! `ColorText`, `ValueText`, `JsonData`, `Changes`. Laws of it: `EqualityLaws`.

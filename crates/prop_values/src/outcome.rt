@@ -9,8 +9,8 @@ pub enum Curve {
     Exponential(Fixed),
 }
 
-/// What a listing has for a property: its value; the value that stands in for it (none where the
-/// property has no default) and the fault of its evaluation; or that it is outside of what is evaluated.
+/// What a listing has for a property: its value; the value in its place (none where the property has no
+/// default) and the fault of its evaluation; or that it is outside of what is evaluated.
 #[derive(Drop)]
 pub enum Outcome {
     Given(Value),

@@ -4,8 +4,8 @@ ghost use Rattle.fixed_num.specs.ColorRange.{IsInRange};
 use fixed_num::{Color, Fixed};
 use std::marker::Model;
 
-/// A color in range, which clauses see as that color. It keeps the millionths of its parts in 32 bits each, so that a
-/// value takes 32 bytes.
+/// A color in range, which clauses see as that color. It keeps the millionths of its parts in 32 bits each,
+/// so that a value takes 32 bytes.
 #[derive(Drop)]
 pub struct PackedColor {
     red: u32,

@@ -12,8 +12,8 @@ use decimal_json::{Text, write_text};
 use fixed_num::{Color, Fixed};
 use std::alloc::{AllocError, Global};
 
-/// Appends the text of a color, `rgba(r,g,b,a)` with its four numbers. After want of memory `out` is
-/// as before.
+/// Appends the text of a color, `rgba(r,g,b,a)` with its four numbers. When allocation fails `out` is as
+/// before.
 pub fn write_color(color: &Color, out: &mut Vec<u8>) -> Result<(), AllocError>
     ensures ok { OnOk result (out.new.items ≡ out.old.items ++ color_text color.now) }
     ensures err { OnErr result (out.new.items ≡ out.old.items) }

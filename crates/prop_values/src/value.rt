@@ -31,7 +31,6 @@ pub enum Value {
     Map(SharedEntries),
 }
 
-/// An entry of a map.
 #[derive(Drop)]
 #[cycle(value)]
 pub struct Entry {
@@ -39,7 +38,8 @@ pub struct Entry {
     pub value: Value,
 }
 
-/// The items of a list in order, which clauses see as a list of data. Copies of a list have its items in common.
+/// The items of a list in order, which clauses see as a list of data. Copies of a list have its items in
+/// common.
 #[derive(Drop)]
 #[cycle(value)]
 pub struct Values {
@@ -56,7 +56,7 @@ pub struct SharedEntries {
 }
 
 /// The entries of a map in the order in which they came, which clauses see as a list of pairs of a key
-/// and data. No key stands twice. A map of at most sixteen entries is a vector of them and nothing else.
+/// and data. No key occurs twice. A map of at most sixteen entries is a vector of them and nothing else.
 #[derive(Drop)]
 #[cycle(value)]
 pub struct Entries {
@@ -307,7 +307,7 @@ impl Entries {
         }
     }
 
-    /// Sets each of the members in their order, or none where memory lacks.
+    /// Sets each of the members in their order, or none when allocation fails.
     pub fn merge(&mut self, members: Entries) -> Result<(), AllocError>
         ensures ok { OnOk result (self.new ≡ merged self.old members) }
         ensures at { OnOk result ((q : List ℕ) → at_key q (pairs_of self.new) ≡ option_or (at_key q (pairs_of members)) (at_key q (pairs_of self.old))) }
@@ -333,7 +333,8 @@ impl Entries {
     }
 
     /// Removes the entry of a key, in time linear in the entries. Where no entry has the key, nothing
-    /// changes. It needs no memory: when allocation fails, keys are looked for one by one until the next entry is added.
+    /// changes. It needs no memory: when allocation fails, keys are looked for one by one until the next
+    /// entry is added.
     pub fn remove(&mut self, key: &str)
         ensures left { self.new ≡ without_key key.now self.old }
         ensures at { (q : List ℕ) → at_key q (pairs_of self.new) ≡ (if same_text key.now q then None else at_key q (pairs_of self.old)) }
@@ -346,7 +347,7 @@ impl Entries {
         self.index.renew(alloc, self.entries.as_slice());
     }
 
-    // Where the entry of a key stands.
+    // The place of the entry of a key.
     fn place_of(&self, key: &str) -> Option<usize>
         ensures { result ≡ place_from 0 key.now (keys self.now) }
     {
@@ -413,7 +414,6 @@ fn put_value(entries: &mut Vec<Entry>, place: usize, value: Value)
     entries[place].value = value;
 }
 
-// Takes an entry out.
 fn take_out(entries: &mut Vec<Entry>, place: usize)
     requires { place < length entries.old.items }
     ensures { entries.new.items ≡ remove entries.old.items place }

@@ -32,7 +32,7 @@ less_is Less e = refl
 less_is Equal e = absurd (false≢true e)
 less_is Greater e = absurd (false≢true e)
 
--- nothing stands before itself, nor before what stands before it
+-- nothing is before itself, nor before what is before it
 both_less : (a b : List ℕ) → slice_cmp nat_cmp a b ≡ Less → slice_cmp nat_cmp b a ≡ Less → ⊥
 both_less a b e f = let g = nat_list_cmp_total.antisymm a b in absurd (cc)
 
@@ -69,7 +69,7 @@ trichotomy k m = elim (cases_Bool (ltb k m)) [
   ]
 ]
 
--- the place that stands at k in the order, and its name
+-- the place at position k of the order, and its name
 abbrev pub placed : List ℕ → ℕ → ℕ
 placed order k = get_or order k 0
 
@@ -105,14 +105,14 @@ module _ (names : List (List ℕ)) (order : List ℕ) (index : is_index names or
   not_below_itself : (q : List ℕ) → slice_cmp nat_cmp q q ≡ Less → ⊥
   not_below_itself q less = both_less q q less less
 
-  -- what stands at or before the middle of a search is another, where the middle is below the name
+  -- what is at or before the middle of a search is another name, where the middle is below the name
   pub not_below : (q : List ℕ) (m k : ℕ) → m < length order → slice_cmp nat_cmp (name_at names (placed order m)) q ≡ Less → k < m + 1 → name_at names (placed order k) ≡ q → ⊥
   not_below q m k w less h same = elim (split_last k m h) [
     | inl before ↦ both_less (name_at names (placed order m)) q less (subst (λ a. slice_cmp nat_cmp a (name_at names (placed order m)) ≡ Less) same (names_ascend k m before w))
     | inr here ↦ not_below_itself q (subst (λ a. slice_cmp nat_cmp a q ≡ Less) (ap (λ i. name_at names (placed order i)) (sym here) ∙ same) less)
   ]
 
-  -- and what stands at or behind it, where it is above
+  -- and what is at or after it, where it is above
   pub not_above : (q : List ℕ) (m k : ℕ) → k < length order → slice_cmp nat_cmp (name_at names (placed order m)) q ≡ Greater → m ≤ k → name_at names (placed order k) ≡ q → ⊥
   not_above q m k w greater h same =
       let less : slice_cmp nat_cmp q (name_at names (placed order m)) ≡ Less = turned q (name_at names (placed order m)) greater in
@@ -126,7 +126,7 @@ module _ (names : List (List ℕ)) (order : List ℕ) (index : is_index names or
       let (k, w, there) = place_among i h in
       none k w (ap (name_at names) there ∙ same)
 
-  -- the name at a place in the order stands nowhere else
+  -- the name at a place in the order is nowhere else
   same_place : (q : List ℕ) (m k : ℕ) → m < length order → k < length order → name_at names (placed order m) ≡ q → name_at names (placed order k) ≡ q → k ≡ m
   same_place q m k w v at_m at_k = elim (trichotomy k m) [
     | inl before ↦ absurd (not_below_itself q (subst (λ a. slice_cmp nat_cmp a q ≡ Less) at_k (subst (λ b. slice_cmp nat_cmp (name_at names (placed order k)) b ≡ Less) at_m (names_ascend k m before w))))

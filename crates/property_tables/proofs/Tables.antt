@@ -29,7 +29,7 @@ abbrev is_paint : Place → Bool
 is_paint Paint = true
 is_paint Layout = false
 
--- what stands behind a row has another name, and is paint where the row is
+-- what follows a row has another name, and is paint where the row is
 abbrev may_follow : RowData → RowData → Bool
 may_follow a b = not (same_text a.name b.name) && (not (is_paint a.place) || is_paint b.place)
 
@@ -100,7 +100,7 @@ meets_itself r (Some d) w e =
     let same : default_of r ≡ fitted (fit r.want d) = ap (fitted_default r.want) w in
     meets_from r d (has_form r.want d && keeps_limits r.limits d) (fitted (fit r.want d)) (sym same) e
 
--- stands where no row is read
+-- for the case that there is no row
 no_row : RowData
 no_row = record { name = []; place = Layout; want = wants.Any; fallback = absent; limits = record { least = None; most = None }; reads = record { zoom = false; feature = false; state = false; ramps = false }; takes_tokens = false }
 

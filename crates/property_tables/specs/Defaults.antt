@@ -1,4 +1,4 @@
--- What stands for a property without a value of its own, as a value.
+-- The default of a property without a value of its own, as a value.
 use Rattle.std.specs.Prelude.{pos, replicate, [], ◌∷◌, Option, Some, None, codes, Result, Ok, Err}
 use Rattle.prop_values.specs.Data.{Data, boolean, number, text, list, items_of}
 use Rattle.prop_values.specs.declared.fault.EvalFault.{EvalFault}

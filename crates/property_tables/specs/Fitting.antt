@@ -89,7 +89,7 @@ abbrev pub fit_choices : Choice → Data → Result Data EvalFault
 fit_choices c (list ds) = if are_items items.Text ds then (if are_choices c ds then Ok (list ds) else Err NotInEnum) else Err WrongType
 fit_choices c _ = Err WrongType
 
--- Fits a value to what is wanted. Own, as is each form above.
+-- Fits a value to what is wanted. Source: own, as of each form above.
 abbrev pub fit : Want → Data → Result Data EvalFault
 fit wants.Any d = Ok d
 fit wants.Shown d = Ok (text (shown_text d))

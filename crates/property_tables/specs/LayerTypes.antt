@@ -1,4 +1,4 @@
--- The types of layers and their names (MapLibre style specification, version 8, layers).
+-- The types of layers and their names. Source: MapLibre style specification, version 8, layers.
 use Rattle.std.specs.Prelude.{ℕ, List, codes, Option, Some, None, if◌then◌else◌}
 use Rattle.std.specs.Str.{bytes_eq}
 use Rattle.property_tables.specs.declared.layer_type.LayerType.{LayerType}

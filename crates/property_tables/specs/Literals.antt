@@ -1,4 +1,4 @@
--- Which JSON values a property may have as literals, and their values. Own.
+-- Which JSON values a property may have as literals, and their values. Source: own.
 use Rattle.std.specs.Prelude.{ℤ, int_le, Bool, true, false, ◌&&◌, Option, Some, None, Result, Ok, Err, if◌then◌else◌}
 use Rattle.fixed_num.specs.declared.decimal.NumFault.{NumFault}
 use Rattle.decimal_json.specs.Tree.{Tree}

@@ -8,11 +8,11 @@ use Rattle.std.specs.Cmp.Lexicographic.{slice_cmp}
 abbrev pub name_at : List (List ℕ) → ℕ → List ℕ
 name_at names i = get_or names i []
 
--- the one name stands before the other
+-- the name is before the other
 abbrev pub is_before : List ℕ → List ℕ → Bool
 is_before x y = is_lt (slice_cmp nat_cmp x y)
 
--- each stands before all later ones
+-- each is before all later ones
 abbrev pub ascends : List (List ℕ) → Bool
 ascends [] = true
 ascends (x ∷ xs) = list_all (is_before x) xs && ascends xs

@@ -1,5 +1,6 @@
--- The table of style properties: this project's profile of the MapLibre style specification, version 8. Own, each cell of it. The
--- order of rows is the order of the table; the rows of layout stand before those of paint.
+-- The table of style properties: this project's profile of the MapLibre style specification, version 8. The
+-- order of rows is the order of the table; the rows of layout are before those of paint. Source: own, each
+-- cell of it.
 use Rattle.std.specs.Prelude.{ℕ, ◌+◌, ◌*◌, ℤ, pos, negsuc, List, [], ◌∷◌, Bool, true, false, ◌||◌, Option, Some, None, codes, if◌then◌else◌}
 use Prim.Native.String.{String}
 use Rattle.prop_values.specs.Equality.{same_text}
@@ -13,7 +14,8 @@ use Rattle.property_tables.specs.declared.layer_type.LayerType.TheVariants as ty
 use Rattle.property_tables.specs.declared.property_row.Place.{Place}
 use Rattle.property_tables.specs.declared.property_row.Place.TheVariants.{Layout, Paint}
 
--- what stands for a property without a value of its own: nothing, a flag, a number of millionths, a word, so many zeros, the fonts
+-- the default of a property without a value of its own: nothing, a flag, a number of millionths, a word, a
+-- list of this many zeros, the fonts
 pub data Default : Type 0 where
   absent : Default
   flag : Bool → Default
@@ -305,7 +307,7 @@ is_at Layout Layout = true
 is_at Paint Paint = true
 is_at _ _ = false
 
--- what stands at the place
+-- what is at the place
 abbrev pub at_place : Place → Option (ℕ × RowData) → Option (ℕ × RowData)
 at_place p None = None
 at_place p (Some found) = if is_at p found.1.place then Some found else None

@@ -1,5 +1,5 @@
--- What holds of the table of properties: names of one type differ, layout stands before paint, and a default is a literal of its
--- own row.
+-- What holds of the table of properties: names of one type differ, layout is before paint, and a default is a
+-- literal of its own row.
 use Rattle.std.specs.Prelude.{◌≡◌, ◌≢◌, List, All, AllPairs, Option, Some, None, ⊤}
 use Rattle.prop_values.specs.Data.{Data}
 use Rattle.property_tables.specs.Defaults.{written_default, default_of}
@@ -8,7 +8,7 @@ use Rattle.property_tables.specs.Rows.{RowData, rows_of}
 use Rattle.property_tables.specs.declared.layer_type.LayerType.{LayerType}
 use Rattle.property_tables.specs.declared.property_row.Place.TheVariants.{Paint}
 
--- a default is a literal of its row, and its value is what stands for the property
+-- a default is a literal of its row, and its value is the default value of the property
 abbrev pub MeetsAs : RowData → Option Data → Type 0
 MeetsAs r None = ⊤
 MeetsAs r (Some d) = (default_of r ≢ None) × (literal_data r d ≡ default_of r)

@@ -11,8 +11,8 @@ use fixed_num::Fixed;
 use prop_values::{EvalFault, Value, Values};
 use std::alloc::{AllocError, Global};
 
-/// What stands for a property of this row without a value of its own, fitted to what the row wants: the color of a
-/// color's word, for example. `None` exactly where the row has no default.
+/// The default of a property of this row without a value of its own, fitted to what the row wants: the color
+/// of a color's word, for example. `None` exactly where the row has no default.
 pub fn default_value(alloc: Global, row: &Row) -> Result<Option<Value>, AllocError>
     ensures { IfOk result (λ value. option_map data_of value ≡ default_of (row_seen row.now)) }
 {

@@ -3,7 +3,7 @@
 use crate::property_row::Place;
 use prop_values::Want;
 
-/// What stands for a property without a value of its own: `Amount` is in millionths.
+/// The default of a property without a value of its own: `Amount` is in millionths.
 #[derive(Clone, Copy)]
 pub(crate) enum Given {
     Absent,
@@ -30,7 +30,6 @@ pub(crate) struct Reads {
     pub ramps: bool,
 }
 
-/// A row.
 #[derive(Clone, Copy)]
 pub(crate) struct Entry {
     pub name: &'static str,

@@ -12,8 +12,8 @@ use std::alloc::{AllocError, Global};
 /// Fits a value to a want: the value as it passes on, or its fault.
 ///
 /// `Any` lets each value pass, and `Shown` gives the text of each. Every other want lets the form of its name
-/// pass and has the fault `WrongType` for other forms. Beside that `Color` reads a text (`NotColor` where it is
-/// none of a color), `Image` lets null pass, `List` asks for the form of each item and for their number,
+/// pass and has the fault `WrongType` for other forms. Beside that `Color` reads a text (`NotColor` where it
+/// is none of a color), `Image` lets null pass, `List` asks for the form of each item and for their number,
 /// and `Enum` and `EnumList` ask for texts of a set (`NotInEnum` for other texts).
 ///
 /// Only the text of a value that is no text takes memory.

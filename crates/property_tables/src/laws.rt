@@ -8,7 +8,8 @@ pub fn fitted_values_stay()
     ensures { FittedValuesStay }
 {}
 
-/// In the table of each layer type names differ, layout stands before paint, and a default is a literal of its own row.
+/// In the table of each layer type names differ, layout is before paint, and a default is a literal of its
+/// own row.
 pub fn tables_keep_their_rules()
     ensures { TableKeepsRules }
 {}

@@ -1,7 +1,7 @@
 ghost use Rattle.std.specs.Prelude.{◌≡◌};
 ghost use Rattle.property_tables.specs.LayerTypes.{type_name, type_named};
 
-/// The type of a layer (MapLibre style specification, version 8, layers).
+/// The type of a layer. Source: MapLibre style specification, version 8, layers.
 #[derive(Clone, Copy, Debug, PartialEq, Eq)]
 pub enum LayerType {
     Background,

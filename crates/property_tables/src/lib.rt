@@ -1,4 +1,5 @@
-//! The properties of style layers: the table of what each may be, and how a value is fitted to what is wanted.
+//! The properties of style layers: the table of what each may be, and how a value is fitted to what is
+//! wanted.
 //!
 //! ```text
 //! LayerType::named("fill-extrusion")                      // Some(LayerType::FillExtrusion)
@@ -10,15 +11,15 @@
 //! fit(alloc, Value::Num(one), &Want::Text)?               // Err(EvalFault::WrongType)
 //! ```
 //!
-//! What is promised, for all values and wants: `fit` gives exactly the value or the fault of the definition `fit` of
-//! `specs/Fitting.antt`, and a fitted value is left as it is by the same want (`specs/Stays.antt`). The names of layer
-//! types are those of `specs/LayerTypes.antt`, in both directions. `row` and `unread` are the table of
-//! `specs/Rows.antt`, one line a property in table order, which `row_count` and `row_numbered` go through; `default_value` and `literal` are the value and the test
-//! that it says. In each type names differ, layout stands before paint, and a default is a literal of its own row
-//! (`tables_keep_their_rules`).
+//! What is promised, for all values and wants: `fit` gives exactly the value or the fault of the definition
+//! `fit` of `specs/Fitting.antt`, and a fitted value is left as it is by the same want (`specs/Stays.antt`).
+//! The names of layer types are those of `specs/LayerTypes.antt`, in both directions. `row` and `unread` are
+//! the table of `specs/Rows.antt`, one line a property in table order, which `row_count` and `row_numbered`
+//! go through; `default_value` and `literal` are the value and the test that it says. In each type names
+//! differ, layout is before paint, and a default is a literal of its own row (`tables_keep_their_rules`).
 //!
-//! A row is found by halving, without memory. A value that passes is handed on and not copied. Only the text of a
-//! value that is no text takes memory, and time is linear in the items of a list and in a text.
+//! A row is found by halving, without memory. A value that passes is handed on and not copied. Only the text
+//! of a value that is no text takes memory, and time is linear in the items of a list and in a text.
 //!
 //! The text to believe is in `specs/`: `LayerTypes`, `Rows`, `RowView`, `Defaults`, `Literals`, `Fitting`.
 //! Laws of it: `TableLaws`, `Stays`.

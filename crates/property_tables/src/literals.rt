@@ -12,8 +12,8 @@ use fixed_num::Fixed;
 use prop_values::{Value, Want, from_json};
 use std::alloc::{AllocError, Global};
 
-/// The value of a JSON literal of this row, or `None` exactly where the row does not take it: it is of another form,
-/// a number is past the row's limits or past the bound, a text is in no set. No row takes null.
+/// The value of a JSON literal of this row, or `None` exactly where the row does not take it: it is of
+/// another form, a number is past the row's limits or past the bound, a text is in no set. No row takes null.
 ///
 /// Texts are shared with the tree.
 pub fn literal(alloc: Global, json: &Json, row: &Row) -> Result<Option<Value>, AllocError>

@@ -10,7 +10,8 @@ use crate::rows::*;
 use crate::search::place_named;
 use fixed_num::Fixed;
 
-/// The row of a name in a place of a layer type, or `None` exactly where the table has none. Found by halving.
+/// The row of a name in a place of a layer type, or `None` exactly where the table has none. Found by
+/// halving.
 pub fn row(layer_type: LayerType, place: Place, name: &str) -> Option<Row>
     ensures { option_map numbered_seen result ≡ row_of layer_type place name.now }
 {
@@ -37,7 +38,7 @@ pub fn row_numbered(layer_type: LayerType, number: u16) -> Row
     row_at(&entries[usize::from(number)], number)
 }
 
-// The row of a name, in whichever place it stands.
+// The row of a name, of layout or of paint.
 fn row_named(layer_type: LayerType, name: &str) -> Option<Row>
     ensures { option_map numbered_seen result ≡ row_named 0 name.now (rows_of layer_type) }
 {

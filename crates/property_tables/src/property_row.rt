@@ -3,14 +3,14 @@ ghost use Rattle.std.specs.Prelude.{◌≡◌};
 use fixed_num::Fixed;
 use prop_values::Want;
 
-/// The member of a layer that a property stands in.
+/// The member of a layer that a property is in.
 #[derive(Clone, Copy, Debug, PartialEq, Eq)]
 pub enum Place {
     Layout,
     Paint,
 }
 
-/// What stands for a property without a value of its own. `default_value` gives it as a value.
+/// The default of a property without a value of its own. `default_value` gives it as a value.
 #[derive(Clone, Copy, Debug, PartialEq, Eq)]
 pub enum Fallback {
     Absent,
@@ -40,14 +40,14 @@ pub struct Row {
     pub zoom: bool,
     pub feature: bool,
     pub state: bool,
-    /// Whether a function goes linearly between its stops where its type is not given, and may be exponential.
+    /// Whether a function goes linearly between its stops where its type is not given, and may be
+    /// exponential.
     pub ramps: bool,
     /// Whether a text with tokens is a token text.
     pub takes_tokens: bool,
 }
 
 impl Row {
-    /// The same row, from behind a reference.
     pub fn copy(&self) -> Row
         ensures { result ≡ self.now }
     {

@@ -1,4 +1,4 @@
-//! The table of style properties, in its order. Own, each cell of it.
+//! The table of style properties, in its order. Source: own, each cell of it.
 
 use crate::entry::{Entry, Given, Limits, Reads};
 use crate::property_row::Place;

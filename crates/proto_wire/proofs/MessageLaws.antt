@@ -1,4 +1,4 @@
--- Where the fields of a message stand, and that bytes have one list of them.
+-- The places of the fields of a message, and that bytes have one list of them.
 use Rattle.std.proofs.Common.{◌≡◌, ℕ, zero, suc, ◌+◌, ◌-◌, ◌<◌, ◌≤◌, inl, inr, List, [], ◌∷◌, ◌++◌, refl, sym, ap, ◌∙◌, subst, arith, true, false, length, take, drop, append_assoc, Bool}
 use Rattle.std.specs.Prelude.{Result, Ok, Err, Option, Some, None, nat_le, if◌then◌else◌}
 use Rattle.std.specs.Int.{w32, w64, from_le_bytes}
@@ -30,7 +30,7 @@ if_known : {A B : Type 0} (Q : B → List ℕ → Type 0) (known : Result A Wire
 if_known Q (Ok x) next after = after x
 if_known Q (Err k) next after = tt
 
--- a part of at least one byte stands before the rest
+-- a part of at least one byte is before the rest
 abbrev Front : List ℕ → List ℕ → Type 0
 Front b rest = (front : List ℕ) × (b ≡ front ++ rest) × (0 < length front)
 
@@ -50,7 +50,7 @@ if_tag b =
     if_both (λ n rest. Front b rest) (λ tag rest. Front b rest) (varint_at b) (λ read. tag_of read.0 then λ tag. Ok (tag, read.1)) (if_varint b)
     (λ n rest front. if_known (λ tag rest. Front b rest) (tag_of n) (λ tag. Ok (tag, rest)) (λ tag. front))
 
--- the content, if any, stands right before the rest
+-- the content, if any, is right before the rest
 abbrev EndsWithContent : List ℕ → Payload → List ℕ → Type 0
 EndsWithContent b held rest = (front : List ℕ) × (b ≡ front ++ (content_of held ++ rest))
 
@@ -67,7 +67,7 @@ if_payload wire.Bytes b =
 if_payload wire.Bits32 b =
     if_both (λ front rest. b ≡ front ++ rest) (EndsWithContent b) (front_of 4 b) (λ read. Ok (bits32 (from_le_bytes w32 read.0), read.1)) (if_front 4 b) (λ front rest cut. (front, cut))
 
--- the tag, then the payload, whose content stands at its end
+-- the tag, then the payload, whose content is at its end
 stands : (at number : ℕ) (b tag after front rest : List ℕ) (held : Payload) → b ≡ tag ++ after → 0 < length tag → after ≡ front ++ (content_of held ++ rest) → Stands at b (record { number = number; at = at; end = at + (length b - length rest); payload = held }) rest
 stands at number b tag after front rest held first some second =
     let cut : b ≡ (tag ++ front) ++ (content_of held ++ rest) = first ∙ ap (λ x. tag ++ x) second ∙ sym (append_assoc tag front (content_of held ++ rest)) in

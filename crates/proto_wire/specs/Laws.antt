@@ -20,7 +20,7 @@ digits_value (c ∷ b) = c % 128 + 128 * digits_value b
 abbrev pub Spells : List ℕ → ℕ → Type 0
 Spells b n = (front : List ℕ) × (last : ℕ) × (b ≡ front ++ last ∷ []) × AllGoOn front × (last < 128) × (n ≡ digits_value b)
 
--- the bytes begin with the spelling of this number, in at most so many bytes
+-- the bytes begin with the spelling of this number, in at most `most` bytes
 abbrev pub BeginsWithNumber : ℕ → List ℕ → ℕ → List ℕ → Type 0
 BeginsWithNumber most b n rest = (spelling : List ℕ) × (b ≡ spelling ++ rest) × (length spelling ≤ most) × Spells spelling n
 
@@ -38,8 +38,8 @@ IsVarintRead b (Err WireType) = ⊥
 abbrev pub VarintsAreSpelled : Type 0
 VarintsAreSpelled = (b : List ℕ) (read : Result (ℕ × List ℕ) WireKind) → (varint_at b ≡ read) ↔ IsVarintRead b read
 
--- The field stands at the front of bytes at this offset: at least one byte of tag and payload, then the content, which
--- ends where the bytes after the field begin.
+-- The field is at the front of bytes at this offset: at least one byte of tag and payload, then the content,
+-- which ends where the bytes after the field begin.
 pub record Stands (at : ℕ) (b : List ℕ) (field : WireField) (rest : List ℕ) : Type 0 where
   pub head : List ℕ
   pub cut : b ≡ head ++ (content_of field.payload ++ rest)

@@ -1,4 +1,5 @@
--- A message: fields one after the other (Protocol Buffers, "Encoding", Message Structure; Vector Tile 2.1 stands on it).
+-- A message: a sequence of fields. Source: Protocol Buffers, "Encoding", Message Structure, which Vector Tile
+-- 2.1 takes over.
 use Rattle.std.specs.Prelude.{◌≡◌, ℕ, ◌+◌, ◌-◌, ◌/◌, ◌%◌, ◌^◌, ◌<◌, ◌⊎◌, List, [], ◌∷◌, length, take, drop, Option, Some, None, Result, Ok, Err, if◌then◌else◌, nat_le, nat_eq}
 use Rattle.std.specs.Int.{w32, w64, from_le_bytes}
 use Rattle.proto_wire.specs.declared.wire.WireKind.{WireKind}
@@ -52,8 +53,8 @@ wire_type_of code =
     else if nat_eq code 5 then Ok wire.Bits32
     else Err kind.WireType
 
--- The field number and the wire type of a tag, which are all its bits but the lowest three, and those. A tag has 32
--- bits, and no field has the number 0.
+-- The field number and the wire type of a tag, which are all its bits but the lowest three, and those. A tag
+-- has 32 bits, and no field has the number 0.
 abbrev pub tag_of : ℕ → Result (ℕ × WireType) WireKind
 tag_of tag =
     if nat_le (2 ^ 32) tag then Err kind.Varint
@@ -71,13 +72,13 @@ payload_at wire.Bits64 b = front_of 8 b then λ read. Ok (bits64 (from_le_bytes 
 payload_at wire.Bytes b = varint_at b then λ count. front_of count.0 count.1 then λ read. Ok (bytes read.0, read.1)
 payload_at wire.Bits32 b = front_of 4 b then λ read. Ok (bits32 (from_le_bytes w32 read.0), read.1)
 
--- the field at the front of bytes that stand at this offset, and the bytes after it
+-- the field at the front of bytes that are at this offset, and the bytes after it
 unfoldable pub field_at : ℕ → List ℕ → Result (WireField × List ℕ) WireKind
 field_at at b =
     tag_at b then λ tag. payload_at tag.0.1 tag.1 then λ held.
     Ok (record { number = tag.0.0; at = at; end = at + (length b - length held.1); payload = held.0 }, held.1)
 
--- These are the fields of the bytes, which stand at this offset, one after the other: up to the end, or up to a fault,
+-- These are the fields of the bytes, which are at this offset, in order: up to the end, or up to a fault,
 -- whose place is the tag of the field that it breaks.
 abbrev pub AreFields : ℕ → List ℕ → List WireField → Option WireFault → Type 0
 AreFields at b [] fault =
@@ -85,8 +86,8 @@ AreFields at b [] fault =
     ⊎ ((kind : WireKind) × (0 < length b) × (field_at at b ≡ Err kind) × (fault ≡ Some (record { kind = kind; at = at })))
 AreFields at b (field ∷ fields) fault = (rest : List ℕ) × (field_at at b ≡ Ok (field, rest)) × AreFields field.end rest fields fault
 
--- Reading these fields in order leads from bytes at an offset to the bytes that are left, and their offset: what a
--- reader has read so far.
+-- Reading these fields in order leads from bytes at an offset to the bytes that are left, and their offset:
+-- what a reader has read so far.
 abbrev pub LeadsTo : ℕ → List ℕ → List WireField → ℕ → List ℕ → Type 0
 LeadsTo at b [] left_at left = (left_at ≡ at) × (left ≡ b)
 LeadsTo at b (field ∷ fields) left_at left = (rest : List ℕ) × (field_at at b ≡ Ok (field, rest)) × LeadsTo field.end rest fields left_at left

@@ -5,7 +5,7 @@ use Rattle.proto_wire.specs.declared.field.WireFault.{WireFault}
 use Rattle.proto_wire.specs.Message.{field_at}
 use Rattle.proto_wire.specs.View.{field_seen}
 
--- the bytes that are left, the offset at which they stand, and whether a fault came
+-- the bytes that are left, the offset at which they are, and whether a fault came
 pub record Reading : Type 0 where
   pub at : ℕ
   pub bytes : List ℕ
@@ -15,8 +15,8 @@ pub record Reading : Type 0 where
 abbrev pub IsOver : Reading → Type 0
 IsOver reading = (reading.failed ≡ true) ⊎ (reading.bytes ≡ [])
 
--- The next field or fault is the one at the front of what is left. A field is taken; a fault takes nothing, and is the
--- last answer.
+-- The next field or fault is the one at the front of what is left. A field is taken; a fault takes nothing,
+-- and is the last answer.
 abbrev pub NextGives : Reading → Option (Result Field WireFault) → Reading → Type 0
 NextGives old None new = (new ≡ old) × IsOver old
 NextGives old (Some (Ok field)) new =

@@ -1,4 +1,5 @@
--- Variable-length numbers: base-128 digits, the lowest first (Protocol Buffers, "Encoding", Base 128 Varints).
+-- Variable-length numbers: base-128 digits, the lowest first (Protocol Buffers, "Encoding", Base 128
+-- Varints).
 use Rattle.std.specs.Prelude.{ℕ, zero, suc, ◌+◌, ◌*◌, ◌%◌, ◌^◌, List, [], ◌∷◌, Result, Ok, Err, if◌then◌else◌, nat_lt}
 use Rattle.proto_wire.specs.declared.wire.WireKind.{WireKind}
 use Rattle.proto_wire.specs.declared.wire.WireKind.TheVariants.{Varint, Truncated}
@@ -8,8 +9,8 @@ abbrev pub above_digit : ℕ → Result (ℕ × List ℕ) WireKind → Result (�
 above_digit d (Ok (n, rest)) = Ok (d + 128 * n, rest)
 above_digit d (Err kind) = Err kind
 
--- The number at the front, spelled in at most this many bytes, and the bytes after it. A byte below 128 is the last
--- one; of any other byte the low seven bits are a digit, and the number goes on.
+-- The number at the front, spelled in at most this many bytes, and the bytes after it. A byte below 128 is
+-- the last one; of any other byte the low seven bits are a digit, and the number goes on.
 abbrev pub number_of : ℕ → List ℕ → Result (ℕ × List ℕ) WireKind
 number_of zero b = Err Varint
 number_of (suc most) [] = Err Truncated
@@ -20,12 +21,13 @@ abbrev pub within_64_bits : Result (ℕ × List ℕ) WireKind → Result (ℕ ×
 within_64_bits (Ok (n, rest)) = if nat_lt n (2 ^ 64) then Ok (n, rest) else Err Varint
 within_64_bits (Err kind) = Err kind
 
--- The varint at the front, of at most ten bytes and 64 bits, and the bytes after it. Spellings with more bytes than
--- are needed are fine.
+-- The varint at the front, of at most ten bytes and 64 bits, and the bytes after it. Spellings with more
+-- bytes than are needed are fine.
 unfoldable pub varint_at : List ℕ → Result (ℕ × List ℕ) WireKind
 varint_at b = within_64_bits (number_of 10 b)
 
--- For the reader: the digits so far, each below the weight of the next, and above them what is read after them.
+-- For the reader: the digits so far, each below the weight of the next, and above them what is read after
+-- them.
 abbrev pub onto : ℕ → ℕ → Result (ℕ × List ℕ) WireKind → Result (ℕ × List ℕ) WireKind
 onto value weight (Ok (n, rest)) = Ok (value + weight * n, rest)
 onto value weight (Err kind) = Err kind

@@ -13,7 +13,7 @@ payload_seen (code.Bits64 n) = bits64 n
 payload_seen (code.Bytes b) = bytes b.now
 payload_seen (code.Bits32 n) = bits32 n
 
--- the field, where the first byte after it stands at this offset
+-- the field, where the first byte after it is at this offset
 abbrev pub field_seen : Field → ℕ → WireField
 field_seen field end = record { number = field.number; at = field.at; end = end; payload = payload_seen field.wire }
 
@@ -21,7 +21,7 @@ field_seen field end = record { number = field.number; at = field.at; end = end;
 abbrev pub content_length : Wire → ℕ
 content_length wire = length (content_of (payload_seen wire))
 
--- what a reader returned, as the definitions see it, is what stands at the front
+-- what a reader returned, as the definitions see it, is what the bytes begin with
 abbrev pub Gives : {X Y : Type 0} → (X → Y) → Result X WireKind → Result Y WireKind → Type 0
 Gives seen (Ok x) read = read ≡ Ok (seen x)
 Gives seen (Err kind) read = read ≡ Err kind

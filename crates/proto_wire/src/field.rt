@@ -18,7 +18,6 @@ pub enum Wire<'a> {
     Bits32(u32),
 }
 
-/// A field of a message.
 #[derive(Clone, Copy, Debug, PartialEq, Eq)]
 pub struct Field<'a> {
     /// From 1 to 2^29 - 1.
@@ -46,7 +45,7 @@ enum WireType {
     Bits32,
 }
 
-/// The field at the front of bytes that stand at the offset `at`, and the bytes after it.
+/// The field at the front of bytes that are at the offset `at`, and the bytes after it.
 #[tactic(auto, unfolding(crate::specs::Message::field_at))]
 pub(crate) fn read_field(bytes: &[u8], at: usize) -> Result<(Field<'_>, &[u8]), WireKind>
     ensures field { Gives (λ read. (field_seen read.0 (at + (length bytes.now - length read.1.now)), read.1.now))

@@ -7,7 +7,8 @@ use std::marker::Model;
 
 /// Reads the fields of a message one after the other.
 ///
-/// Contracts see what is left: `bytes`, the offset `at` of their first byte, and whether a fault came, `failed`.
+/// Contracts see what is left: `bytes`, the offset `at` of their first byte, and whether a fault came,
+/// `failed`.
 #[derive(Drop)]
 pub struct Fields<'a> {
     rest: &'a [u8],
@@ -27,7 +28,7 @@ impl<'a> Model for Fields<'a> {
 }
 
 impl<'a> Fields<'a> {
-    /// The fields of `bytes`, the first of which stands at the offset `base` of something larger.
+    /// The fields of `bytes`, the first of which is at the offset `base` of something larger.
     pub fn new(bytes: &'a [u8], base: usize) -> Fields<'a>
         requires { base + length bytes.now < 2 ^ 64 }
         ensures { result ≡ record { at = base; bytes = bytes.now; failed = false } }
@@ -39,8 +40,8 @@ impl<'a> Fields<'a> {
         }
     }
 
-    /// The offset of the first byte that is not yet read, the base included: where the next field begins and the last
-    /// one ended, or where the tag of the faulty field begins.
+    /// The offset of the first byte that is not yet read, the base included: where the next field begins and
+    /// the last one ended, or where the tag of the faulty field begins.
     pub fn offset(&self) -> usize
         ensures offset { result ≡ self.now.at }
         ensures within { self.now.at + length self.now.bytes < 2 ^ 64 }

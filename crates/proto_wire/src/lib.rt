@@ -6,15 +6,17 @@
 //! fields.next();      // None
 //! ```
 //!
-//! A field that holds bytes may hold a message again. Its content ends where the next field begins, so after `next`
-//! gave `Wire::Bytes(content)`, `Fields::new(content, fields.offset() - content.len())` reads it with true offsets.
+//! A field that holds bytes may hold a message again. Its content ends where the next field begins, so after
+//! `next` gave `Wire::Bytes(content)`, `Fields::new(content, fields.offset() - content.len())` reads it with
+//! true offsets.
 //!
-//! What is promised, for all bytes: each field is the one that stands there by the encoding, a fault comes exactly where the
-//! encoding has one, with its kind and place, and nothing is read after a fault. No call takes memory, each takes time
-//! linear in what it reads, and contents are lent and not copied.
+//! What is promised, for all bytes: each field is the one that the encoding gives, a fault comes exactly
+//! where the encoding has one, with its kind and place, and nothing is read after a fault. No call takes
+//! memory, each takes time linear in what it reads, and contents are borrowed and not copied.
 //!
-//! Contracts speak in the words of `specs/Message.antt`: `field_at` for one field, `LeadsTo` for the fields that a loop
-//! has read so far, `AreFields` for all of them with the fault or none. `proofs/Walks.antt` joins the three.
+//! Contracts speak in the words of `specs/Message.antt`: `field_at` for one field, `LeadsTo` for the fields
+//! that a loop has read so far, `AreFields` for all of them with the fault or none. `proofs/Walks.antt` joins
+//! the three.
 //!
 //! The text to believe is in `specs/`: `Varint`, `Message`, `View`. Laws of it: `Laws`.
 #![tactic(auto)]

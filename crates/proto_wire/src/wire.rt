@@ -13,11 +13,12 @@ pub enum WireKind {
     WireType,
 }
 
-/// Takes the number at the front of `bytes`, as in a packed field: base-128 digits, the lowest first, each but the
-/// last with the high bit (Protocol Buffers, "Encoding"). Spellings with more bytes than are needed are read too.
+/// Takes the number at the front of `bytes`, as in a packed field: base-128 digits, the lowest first, each
+/// but the last with the high bit (Protocol Buffers, "Encoding"). Spellings with more bytes than are needed
+/// are read too.
 ///
-/// The fault is `Varint` where the tenth byte has the high bit or the number passes 64 bits, and `Truncated` where
-/// `bytes` end first. It leaves `bytes` as they were.
+/// The fault is `Varint` where the tenth byte has the high bit or the number passes 64 bits, and `Truncated`
+/// where `bytes` end first. It leaves `bytes` as they were.
 #[inline(always)]
 pub fn varint(bytes: &mut &[u8]) -> Result<u64, WireKind>
     ensures ok { IfOk result (λ number. varint_at bytes.old.now ≡ Ok (number, bytes.new.now)) }

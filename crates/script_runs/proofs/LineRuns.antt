@@ -13,7 +13,7 @@ use Rattle.script_runs.specs.ScriptRun.{LineOut, line_out, lines_run, replied}
 use Rattle.style_layout.specs.Shown.{SourceTile}
 
 module _ (files : List ℕ → Option (List ℕ)) (tiles : List SourceTile) (scripts : List ℕ → Bool) (can_change : Bool) (number : ℕ) (p : Presentation) (out : List ℕ) (any : Bool) (lines : List (List ℕ)) (o : Outcome) where
-  -- the run behind a line
+  -- the run after a line
   abbrev next_run : LineOut → Run
   next_run l = lines_run tiles scripts can_change (number + 1) l.after (out ++ l.text) (any || l.is_refused) lines
 

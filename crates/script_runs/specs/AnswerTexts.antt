@@ -31,7 +31,7 @@ ok_line number = line (codes "ok " ++ decimal number)
 abbrev pub refused_line : ℕ → List ℕ → List ℕ
 refused_line number name = line (codes "refused " ++ (decimal number ++ (codes " " ++ name)))
 
--- Evaluations are not counted so far, and the line that asks for their number has no form.
+-- Evaluations are not counted so far, and the line that asks for their number is refused.
 abbrev pub reply_text : ℕ → Reply → List ℕ
 reply_text number done = ok_line number
 reply_text number (listed text) = text

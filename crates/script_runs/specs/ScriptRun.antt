@@ -33,14 +33,16 @@ replied number a = record { after = a.0; text = reply_text number a.1; is_refuse
 abbrev pub ending_by : Bool → Ending
 ending_by any = if any then Found else Fine
 
--- over tiles, with the test on texts that can be shown; `can_change` says whether the test of images can change
+-- over tiles, with the test on texts that can be shown; `can_change` says whether the test of images can
+-- change
 module _ (tiles : List SourceTile) (scripts : List ℕ → Bool) (can_change : Bool) where
   -- a line that is no command changes nothing
   abbrev pub line_out : ℕ → Presentation → Result Edit LineFault → LineOut
   line_out number p (Ok edit) = replied number (applied tiles scripts can_change p edit)
   line_out number p (Err fault) = record { after = p; text = refused_line number (fault_name fault); is_refused = true }
 
-  -- The run of lines from this number on, after the text that is written already; `any` says whether a line before them was refused.
+  -- The run of lines from this number on, after the text that is written already; `any` says whether a line
+  -- before them was refused.
   abbrev pub lines_run : (number : ℕ) → Presentation → (out : List ℕ) → (any : Bool) → List (List ℕ) → Run
   lines_run number p out any [] = ends (said out (ending_by any))
   lines_run number p out any (l ∷ ls) =

@@ -70,7 +70,7 @@ fn write_ok(number: usize, out: &mut Vec<u8>) -> Result<(), AllocError>
     Ok(())
 }
 
-// What stands before the name of a refusal.
+// What is before the name of a refusal.
 fn write_refusal_front(number: usize, out: &mut Vec<u8>) -> Result<(), AllocError>
     ensures { OnOk result (out.new.items ≡ out.old.items ++ (codes "refused " ++ (decimal number ++ codes " "))) }
 {

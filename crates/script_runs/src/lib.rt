@@ -5,8 +5,9 @@
 //! // the listing, and then `refused 2 ZoomRange`; the ending is `Found`
 //! ```
 //!
-//! What is promised: the answer is the outcome of `script_run` of `specs/ScriptRun.antt`: line by line what the line's command is answered by
-//! `applied` of `edit_session`, in the texts of `specs/AnswerTexts.antt`; and the ending is `Found` exactly where a line was refused.
+//! What is promised: the answer is the outcome of `script_run` of `specs/ScriptRun.antt`: line by line what
+//! the line's command is answered by `applied` of `edit_session`, in the texts of `specs/AnswerTexts.antt`;
+//! and the ending is `Found` exactly where a line was refused.
 //!
 //! The text to believe is in `specs/`: `ScriptLines`, `AnswerTexts`, `ScriptRun`.
 #![tactic(auto)]

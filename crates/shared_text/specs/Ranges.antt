@@ -5,7 +5,7 @@ use Rattle.std.specs.Prelude.{◌≡◌, ℕ, ◌-◌, List, ◌++◌, take, dro
 abbrev pub LONGEST : ℕ
 LONGEST = 4294967295
 
--- The bytes from the one place up to the other.
+-- The bytes from one place up to another.
 abbrev pub part : ℕ → ℕ → List ℕ → List ℕ
 part from to bytes = take (to - from) (drop from bytes)
 

@@ -6,11 +6,11 @@
 //! key.share()?.as_str();                          // the same text: counted, and not copied
 //! ```
 //!
-//! What is promised: a `Text` is seen as the list of its bytes, which are UTF-8, whatever document it is a range
-//! of. `of_range` and `of_rest` give exactly the bytes of that range, `share` and `copy_of` the same bytes, and
-//! `onward` bytes that begin with them; texts are ordered as std orders `str`, by their bytes. A document has at
-//! most `LONGEST` bytes, so that a text is of 16 bytes; a longer one is answered as want of memory. A text keeps
-//! its whole document: `copy_of` lets go of it.
+//! What is promised: a `Text` is seen as the list of its bytes, which are UTF-8, whatever document it is a
+//! range of. `of_range` and `of_rest` give exactly the bytes of that range, `share` and `copy_of` the same
+//! bytes, and `onward` bytes that begin with them; texts are ordered as std orders `str`, by their bytes. A
+//! document has at most `LONGEST` bytes, so that a text takes 16 bytes; for a longer one the answer is
+//! `AllocError`. A text keeps its whole document: `copy_of` lets go of it.
 //!
 //! The text to believe is in `specs/`: `Ranges`.
 #![tactic(auto)]

@@ -1,4 +1,4 @@
--- A list in order ascends, keeps ties as they stood, and has the same elements.
+-- A list in order ascends, keeps the order of equal elements, and has the same elements.
 use Rattle.std.proofs.Common.{Bool, List, [], ◌∷◌, sym, subst, inl, inr}
 use Rattle.std.specs.List.Sorted.{IsPermutation}
 use Rattle.std.proofs.lemmas.Bool.{cond-true, cond-false, cases_Bool}

@@ -1,4 +1,4 @@
--- A list that ascends and keeps ties as they stood is the list in order.
+-- A list that ascends and keeps the order of equal elements is the list in order.
 use Rattle.std.proofs.Common.{◌≡◌, ℕ, zero, suc, ◌+◌, ◌<◌, ◌≤◌, Bool, true, false, not, cond, ◌&&◌, List, [], ◌∷◌, length, get_or, filter, refl, sym, ap, ◌∙◌, subst, arith, inl, inr, suc-le-suc, zero-le, add-one}
 use Rattle.std.specs.Cmp.{IsStrictWeakOrder}
 use Rattle.std.specs.List.Sorted.{ties, IsSortedBy, IsStableBy}
@@ -58,7 +58,7 @@ module _ {X : Type 0} (lt : X → X → Bool) (o : IsStrictWeakOrder lt) where
   Up_in_order [] = tt
   Up_in_order (x ∷ xs) = Up_put x (in_order lt xs) (Up_in_order xs)
 
-  -- of two that tie with z, neither is before the other
+  -- of two that are equal to z in the order, neither is before the other
   no_tie : (z x y : X) → ties lt z x ≡ true → ties lt z y ≡ true → lt y x ≡ false
   no_tie z x y with also = o.chain y z x (tie_parts z y also).1 (tie_parts z x with).0
 
@@ -99,7 +99,7 @@ module _ {X : Type 0} (lt : X → X → Bool) (o : IsStrictWeakOrder lt) where
     Up_from ys (λ i j d le below. h (suc i) (suc j) d (suc-le-suc le) (suc-le-suc below)),
   )
 
-  -- one that ties with y stands among them
+  -- one that is equal to y in the order is among them
   found_above : (z y : X) (ys : List X) (w : X) (ws : List X) → Above z ys → filter (ties lt y) ys ≡ w ∷ ws → lt y z ≡ false
   found_above z y [] w ws above e = absurd (cc)
   found_above z y (x ∷ xs) w ws above e = elim (cases_Bool (ties lt y x)) [

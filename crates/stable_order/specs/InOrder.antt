@@ -1,4 +1,4 @@
--- A list in the order of a test, where those that tie stand as they stood. Source: own.
+-- A list in the order of a test, where equal elements keep their order. Source: own.
 use Rattle.std.specs.Prelude.{Bool, List, [], ◌∷◌, if◌then◌else◌}
 
 module _ {X : Type 0} (before : X → X → Bool) where

@@ -5,7 +5,7 @@ use Rattle.std.specs.List.Sorted.{IsStableBy, IsSortedBy}
 use Rattle.stable_order.specs.InOrder.{in_order}
 use Rattle.stable_order.specs.Keys.{key_before}
 
--- A list in order has the same elements, those that tie stand as they stood, and it ascends.
+-- A list in order has the same elements, equal elements keep their order, and it ascends.
 pub record IsInOrder {X : Type 0} (before : X → X → Bool) (xs ys : List X) : Type 0 where
   pub same : IsPermutation xs ys
   pub stable : IsStableBy before xs ys

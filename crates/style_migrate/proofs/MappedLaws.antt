@@ -46,12 +46,12 @@ lacks_mapped change (m ∷ ms) key h = (h.0, lacks_mapped change ms key h.1)
 pub lacks_key : (change : List ℕ → Tree → Tree) (ms : List Member) (i : ℕ) (m : Member) → HasDistinctKeys (members_view ms) → i < length ms → m ≡ get_or ms i m → LacksKey m.key (mapped_pairs change (members_view (take i ms)))
 lacks_key change ms i m d h p = lacks_mapped change (members_view (take i ms)) m.key (lacks_before ms i m d h p)
 
--- A member was replaced, and was put behind those before it.
+-- A member was replaced, and was put after those before it.
 pub members_step : (change : List ℕ → Tree → Tree) (ms : List Member) (i : ℕ) (m : Member) (made new : List (List ℕ × Tree)) (key : List ℕ) (value : Tree) → i < length ms → m ≡ get_or ms i m → made ≡ mapped_pairs change (members_view (take i ms)) → key ≡ m.key → value ≡ change m.key (tree_of m.value) → new ≡ made ++ (key, value) ∷ [] → new ≡ mapped_pairs change (members_view (take (i + 1) ms))
 members_step change ms i m made new key value h p before same changed put =
     put ∙ ((λ j. before j ++ (same j, changed j) ∷ []) ∙ sym (members_grow change ms i m h p))
 
--- An item was replaced, and was put behind those before it.
+-- An item was replaced, and was put after those before it.
 pub items_step : (change : Tree → Tree) (js : List Json) (i : ℕ) (j : Json) (made new : List Tree) (value : Tree) → i < length js → j ≡ get_or js i j → made ≡ mapped_list change (items_view (take i js)) → value ≡ change (tree_of j) → new ≡ made ++ value ∷ [] → new ≡ mapped_list change (items_view (take (i + 1) js))
 items_step change js i j made new value h p before changed put =
     put ∙ ((λ k. before k ++ changed k ∷ []) ∙ sym (items_grow change js i j h p))

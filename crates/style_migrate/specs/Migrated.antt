@@ -1,5 +1,6 @@
--- The migrated document: each legacy filter, each legacy function that is not outside, and each token text is replaced by the expression
--- that means the same. All else stays: order, names, other values, number texts. Source: own.
+-- The migrated document: each legacy filter, each legacy function that is not outside, and each token text is
+-- replaced by the expression that means the same. All else stays: order, names, other values, number texts.
+-- Source: own.
 use Rattle.std.specs.Prelude.{ℕ, List, codes, Option, Some, None, if◌then◌else◌}
 use Rattle.std.specs.Str.{bytes_eq}
 use Rattle.decimal_json.specs.Tree.{Tree, text, list, object, Trees, no_trees, tree, Fields, no_fields, field}
@@ -58,7 +59,8 @@ abbrev pub with_items : (Tree → Tree) → Tree → Tree
 with_items change (list ts) = list (mapped_items change ts)
 with_items change t = t
 
--- ---- the places of a document: the properties of each layer whose type is tested, and the filter of every layer
+-- ---- the places of a document: the properties of each layer whose type is tested, and the filter of every
+-- layer
 
 -- a member of `layout` or `paint`, which is a property where the table has a row of its name
 abbrev pub value_of_row : Option (ℕ × RowData) → Tree → Tree

@@ -9,8 +9,8 @@ use crate::layers::migrate_layer;
 use decimal_json::{Items, Json, Member, Members, copy};
 use std::alloc::{AllocError, Global};
 
-/// The document with each legacy filter, each legacy function that is not outside, and each token text replaced by its expression.
-/// Asks a document without findings.
+/// The document with each legacy filter, each legacy function that is not outside, and each token text
+/// replaced by its expression. Asks a document without findings.
 #[tactic(auto, using(crate::proofs::MappedLaws::fields_mapped))]
 pub fn migrate(alloc: Global, document: &Json) -> Result<Json, AllocError>
     ensures { IfOk result (λ made. tree_of made ≡ migrated (tree_of document.now)) }

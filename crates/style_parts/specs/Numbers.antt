@@ -1,5 +1,5 @@
--- The number that a tree says, and tests of a number that may be there: none fails each. Numbers are in millionths.
--- Source: own.
+-- The number that a tree says, and tests of a number that may be there: none fails each. Numbers are in
+-- millionths. Source: own.
 use Rattle.std.specs.Prelude.{ℤ, pos, int_le, Bool, false, ◌&&◌, Option, Some, None, Result, Ok, Err}
 use Rattle.std.specs.Ordering.{int_eq}
 use Rattle.fixed_num.specs.Decimal.{read_text}

@@ -1,4 +1,5 @@
--- The parts of a style document. A part that is missing or has another form is none, or has no items. Source: own.
+-- The parts of a style document. A part that is missing or has another form is none, or has no items.
+-- Source: own.
 use Rattle.std.specs.Prelude.{ℕ, zero, suc, List, codes, Bool, false, Option, Some, None}
 use Rattle.std.specs.List.{list_any}
 use Rattle.std.specs.Option.{option_and_then}

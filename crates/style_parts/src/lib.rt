@@ -1,4 +1,5 @@
-//! The parts of a style document, for all who read one: its layers, its sources, and the numbers that its trees say.
+//! The parts of a style document, for all who read one: its layers, its sources, and the numbers that its
+//! trees say.
 //!
 //! ```text
 //! // {"sources":{"town":{"type":"vector"}},"layers":[{"id":"roads","minzoom":12.5}]}
@@ -7,8 +8,9 @@
 //! number_in(&min_zoom)            // Some(12.5), 12,500,000 millionths
 //! ```
 //!
-//! What is promised, for all JSON trees, documents with findings too: each call gives exactly what the definition of its
-//! name says. A part that is missing or has another form is none, or has no items. Nothing takes memory.
+//! What is promised, for all JSON trees, documents with findings too: each call gives exactly what the
+//! definition of its name says. A part that is missing or has another form is none, or has no items. Nothing
+//! takes memory.
 //!
 //! The text to believe is in `specs/`: `Parts`, `Numbers`.
 #![tactic(auto)]

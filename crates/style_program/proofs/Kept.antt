@@ -94,7 +94,7 @@ module _ (files : List ℕ → Option (List ℕ)) (run : Run) (FilesStay : Type 
 
 module _ (files : List ℕ → Option (List ℕ)) (run : Run) (FilesStay : Type 0) (fileless : IsFileless run → FilesStay)
     (reads₀ reads₁ : ℕ) (unread₀ unread₁ out : Option (List ℕ)) (outs : ℕ) where
-  -- memory lacked
+  -- an allocation failed
   pub lacks_memory : (err : Option (List ℕ)) (errs : ℕ) → NoneFailed reads₀ reads₁ unread₀ unread₁
       → KeepsPromises files run NoMemory (outside reads₀ unread₀ out outs err errs) (outside reads₁ unread₁ out outs err errs) FilesStay
   lacks_memory err errs none = record {

@@ -1,4 +1,4 @@
--- The run of `replay` behind its style and its tiles.
+-- The run of `replay` after its style and its tiles.
 use Rattle.std.proofs.Common.{◌≡◌, ℕ, List, sym, subst}
 use Rattle.std.specs.Prelude.{Option, Bool}
 use Rattle.program_runs.specs.FailedReads.{NoneFailed}

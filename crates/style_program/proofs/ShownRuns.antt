@@ -13,7 +13,7 @@ use Rattle.style_program.specs.StyleFile.{style_part}
 use Rattle.style_program.specs.Words.{EvalWords}
 use Rattle.style_rules.specs.Findings.{findings}
 
--- what comes behind the style
+-- what comes after the style
 abbrev pub behind_style : EvalWords → (ShownStyle → Run) → Tree → Run
 behind_style w k document = sound_or_broken (findings document) (tiles_part w.tiles (λ tiles. k (document, tiles)))
 

@@ -14,7 +14,8 @@ use Rattle.eval_face.specs.Meaning.{mean}
 use Rattle.style_program.specs.ValueRun.{value_world}
 use Rattle.style_program.specs.Words as words
 
--- A text is that of an expression which is well typed and gives a fault, and the fault is one of those that typing lists.
+-- A text is that of an expression which is well typed and gives a fault, and the fault is one of those that
+-- typing lists.
 pub record GivesListedFault (images scripts : List ℕ → Bool) (expression : List ℕ) : Type 0 where
   pub tree : Tree
   pub spelled : Spells all_rules expression tree

@@ -29,7 +29,8 @@ outside failed_reads unread out failed_outs err failed_errs = record {
   failed_errs = failed_errs;
 }
 
--- `files` gives the bytes of the files that are told, and `FilesStay` says that the value through which they are read is as it was.
+-- `files` gives the known contents of files, and `FilesStay` says that the value through which they are read
+-- is as it was.
 pub record KeepsPromises (files : List ℕ → Option (List ℕ)) (run : Run) (status : Status) (before after : Outside) (FilesStay : Type 0) : Type 0 where
   -- Where memory suffices and nothing outside fails, the run is its outcome.
   pub exact :

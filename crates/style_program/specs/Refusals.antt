@@ -49,8 +49,9 @@ abbrev pub no_tile : (source : List ℕ) (number : ℕ) → TileFault → Outcom
 no_tile source number fault =
     refused (tile_text source ++ (codes " " ++ (tile_kind_name fault.kind ++ (codes " " ++ (decimal fault.at ++ tile_number number)))))
 
--- A style that cannot be opened over tiles: the source of a tile is none of its sources, or not of type vector; there are more cells
--- than are allowed; the zoom is not from 0 to 24. One with findings is not opened at all.
+-- A style that cannot be opened over tiles: the source of a tile is none of its sources, or not of type
+-- vector; there are more cells than are allowed; the zoom is not from 0 to 24. One with findings is not
+-- opened at all.
 abbrev pub open_fault_text : Fault → List ℕ
 open_fault_text has_findings = codes "Findings"
 open_fault_text (unknown_source source) = codes "UnknownSource " ++ text_json source

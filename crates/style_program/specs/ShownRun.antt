@@ -23,7 +23,7 @@ tile_limit = 16777216
 abbrev pub tiles_limit : ℕ
 tiles_limit = 33554432
 
--- ---- one tile: it is read, of so many bytes at most, and the run goes on with it and the count of its bytes
+-- ---- one tile: it is read, of `count` bytes at most, and the run goes on with it and the count of its bytes
 
 abbrev pub tile_or : (source : List ℕ) (number : ℕ) → (List TileLayer → Run) → Result (List TileLayer) TileFault → Run
 tile_or source number after (Ok tile) = after tile
@@ -36,7 +36,8 @@ abbrev pub tile_part : (number limit : ℕ) → TileWord → (ℕ × List TileLa
 tile_part number limit w after =
     reads (too_long (tile_text w.0) (tile_number number)) w.1 limit (λ bytes. tile_from number w.0 bytes after)
 
--- ---- all tiles, in the order of the words. The words and tiles before are those so far, and so many bytes are left
+-- ---- all tiles, in the order of the words. The words and tiles before are those so far, and `left` bytes
+-- are left
 
 abbrev pub tiles_after : (before : List TileWord) (got : List SourceTile) (left : ℕ) → List TileWord → (List SourceTile → Run) → Run
 tiles_after before got left [] after = after got

@@ -14,6 +14,6 @@ use Rattle.style_program.specs.declared.words.TileWord.{TileWord}
 abbrev pub shown_seen : ShownStyle → shown.ShownStyle
 shown_seen s = (tree_of s.style, map tile_seen s.tiles.items)
 
--- the words before it were read as these tiles, and so many bytes are left
+-- the words before it were read as these tiles, and `left` bytes are left
 abbrev pub tiles_from : (i : ℕ) → List TileWord → (got : List SourceTile) (left : ℕ) → (List SourceTile → Run) → Run
 tiles_from i words got left after = tiles_after (map tile_word (take i words)) got left (map tile_word (drop i words)) after

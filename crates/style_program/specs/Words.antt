@@ -34,7 +34,7 @@ pub data Asked : Type 0 where
   Replay : ReplayWords → Asked
   Help : Asked
   Version : Asked
-  -- words of no form
+  -- an unknown command or wrong arguments
   Wrong : Asked
 
 -- two texts, neither of them empty
@@ -97,7 +97,7 @@ abbrev pub asked_replay : List ℕ → Option EvalWords → Asked
 asked_replay script (Some w) = Replay (record { script = script; shown = w })
 asked_replay script None = Wrong
 
--- the script stands before the zoom
+-- the script is before the zoom
 abbrev pub asked_with_script : (style script : List ℕ) → List (List ℕ) → Asked
 asked_with_script style script (zoom ∷ tiles) = asked_replay script (shown_words style (read_text zoom) tiles)
 asked_with_script style script [] = Wrong
@@ -109,7 +109,7 @@ asked_of_more command style word words =
     if bytes_eq command (codes "replay") then asked_with_script style word words else
     Wrong
 
--- `--help` and `--version` stand alone
+-- `--help` and `--version` are alone
 abbrev pub asked_alone : List ℕ → Asked
 asked_alone word = if bytes_eq word (codes "--help") then Help else if bytes_eq word (codes "--version") then Version else Wrong
 

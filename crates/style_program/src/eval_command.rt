@@ -20,7 +20,6 @@ use outside_io::Files;
 use program_runs::{Answer, Ending, Halt, answer_out};
 use std::alloc::{AllocError, Global};
 
-/// The answer to `eval`.
 pub fn answer_eval<'a, F: Files>(
     alloc: Global,
     request: &EvalRequest<'a>,

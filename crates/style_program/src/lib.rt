@@ -5,12 +5,15 @@
 //! // words `value` and `["+",0.1,0.2]`: out holds `0.3` and an LF more, and the status is `Fine`
 //! ```
 //!
-//! What is promised: `run_style` is proved over one value: `run_of` of `specs/Commands.antt` gives the words' run, which says what is read,
-//! in which order, and which out text, err text and ending come of it (`program_runs`); no words have two outcomes
-//! (`words_have_one_outcome`). Where nothing outside fails and memory suffices, the run has its outcome; in every run what is written is a
-//! prefix of it, or of the line that tells which file could not be read; and each status has its cause.
+//! What is promised: `run_style` is proved over one value: `run_of` of `specs/Commands.antt` gives the words'
+//! run, which says what is read, in which order, and which out text, err text and ending come of it
+//! (`program_runs`); no words have two outcomes (`words_have_one_outcome`). Where nothing outside fails and
+//! memory suffices, the run has its outcome; in every run what is written is a prefix of it, or of the line
+//! that says which file could not be read; and each status has its cause.
 //!
-//! The text to believe is in `specs/`: `Words`, `Refusals`, `ValueRun`, `StyleFile`, `ValidateRun`, `MigrateRun`, `ShownRun`, `EvalRun`, `ReplayRun`, `Commands`, `Promises`, `ListedFaults`. Law of it: `OneOutcome`.
+//! The text to believe is in `specs/`: `Words`, `Refusals`, `ValueRun`, `StyleFile`, `ValidateRun`,
+//! `MigrateRun`, `ShownRun`, `EvalRun`, `ReplayRun`, `Commands`, `Promises`, `ListedFaults`. Law of it:
+//! `OneOutcome`.
 #![tactic(auto)]
 
 mod eval_command;

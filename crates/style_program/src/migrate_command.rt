@@ -20,7 +20,6 @@ use std::alloc::{AllocError, Global};
 use style_migrate::migrate;
 use style_rules::{Finding, findings};
 
-/// The answer to `migrate`.
 pub fn answer_migrate<'a, F: Files>(
     alloc: Global,
     name: &'a str,

@@ -57,7 +57,6 @@ docs/MESSAGES.md explains each message, and docs/REFERENCE.md is the manual.
 
 const VERSION: &[u8] = b"pirgesh 0.1.0\n";
 
-/// What a request is answered.
 pub fn answer_to<'a, F: Files>(
     alloc: Global,
     request: &Request<'a>,

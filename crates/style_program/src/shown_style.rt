@@ -98,7 +98,7 @@ fn read_tiles<'a, F: Files>(
     Ok(tiles)
 }
 
-// Reads the tile of a word, where so many bytes are left for tiles, and says how many are left after it.
+// Reads the tile of a word, where `left` bytes are left for tiles, and says how many are left after it.
 fn read_next<'a, F: Files>(
     alloc: Global,
     words: &[TileWord<'a>],
@@ -126,7 +126,7 @@ fn read_next<'a, F: Files>(
     Ok(left.saturating_sub(size))
 }
 
-// A tile in a file of at most so many bytes, and how many it has.
+// A tile in a file of at most `limit` bytes, and how many it has.
 fn read_one<'a, F: Files>(
     alloc: Global,
     source: &str,

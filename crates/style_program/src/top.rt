@@ -16,11 +16,11 @@ use std::alloc::Global;
 use std::sync::ledger::Ledger;
 use typing_laws::faults_are_listed;
 
-/// Does what the words after the program's name ask for: reads from `files`, writes to `out` and `err`, and answers how
-/// the run ended.
+/// Does what the words after the program's name ask for: reads from `files`, writes to `out` and `err`, and
+/// answers how the run ended.
 ///
-/// `images` and `scripts` are the tests that expressions ask. Nothing is written before all reading is done. Want of memory is
-/// the one free answer.
+/// `images` and `scripts` are the tests that expressions ask. Nothing is written before all reading is done.
+/// A failed allocation is the only free answer.
 pub fn run_style<F: Files, O: Sink, E: Sink, L: Ledger>(
     alloc: Global,
     words: &[String],
@@ -41,7 +41,7 @@ pub fn run_style<F: Files, O: Sink, E: Sink, L: Ledger>(
     // Where `value` ends in a fault, typing had listed it.
     ensures listed { result ≡ Status.Found → ListsItsFault (test images) (test scripts) (asked (map string_bytes words.now)) }
 
-    // No read changes what is told, and no command counts a step so far.
+    // No read changes the known contents of files, and no command counts a step so far.
     ensures told { F.told files.new ≡ F.told files.old }
     ensures steps { steps.new ≡ steps.old }
 {

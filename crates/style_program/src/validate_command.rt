@@ -18,7 +18,6 @@ use prop_values::{EvalFault, FaultSet};
 use std::alloc::{AllocError, Global};
 use style_rules::{Finding, MayLine, Report, examined};
 
-/// The answer to `validate`.
 pub fn answer_validate<'a, F: Files>(
     alloc: Global,
     name: &'a str,

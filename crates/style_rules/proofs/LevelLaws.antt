@@ -25,7 +25,7 @@ use Rattle.style_rules.proofs.PartLaws.{differs}
 use Rattle.style_rules.specs.declared.told.Mark.TheVariants.{Nothing, Broken}
 use Rattle.style_rules.specs.declared.told.Told.{Told}
 
--- ---- where nothing is told below a place, the walk ends there
+-- ---- where nothing is reported below a place, the walk ends there
 
 module _ (marks : Marks) where
   abbrev pub IsSilentBelow : List PathPart → Type 0
@@ -242,7 +242,7 @@ walks_by_levels ms distinct =
     let document = object (fields_of ms) in
     ap (told_or (root_mark document) []) (root_walk document ms (each_is_found ms distinct))
 
--- what is told of the members of a document that has the members it needs is all that is told of it
+-- the reports of the members of a document that has the members it needs are all that is reported of it
 pub root_told : (root : List (List ℕ × Tree)) (members : List Member) (old new : List Told) → members_view members ≡ root → HasDistinctKeys root →
     has_root_members (object (fields_of root)) ≡ true → old ≡ [] → new ≡ old ++ fields_told (root_member_told (object (fields_of root))) (fields members) →
     new ≡ told (object (fields_of root))

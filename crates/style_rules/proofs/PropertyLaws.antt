@@ -1,4 +1,4 @@
--- What is told of the properties of a layer that are not tested.
+-- What is reported of the properties of a layer that are not tested.
 use Rattle.std.specs.Prelude.{◌≡◌, List, ◌++◌, [], Option, Some, None}
 use Rattle.std.proofs.Common.{refl, sym, ap, subst, ◌∙◌}
 use Rattle.std.proofs.lemmas.List.{append-nil}

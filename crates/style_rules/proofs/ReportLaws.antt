@@ -1,4 +1,4 @@
--- The lists of what is told of one place after others.
+-- The lists of what is reported of one place after others.
 use Rattle.std.specs.Prelude.{◌≡◌, List, [], ◌∷◌, ◌++◌, Bool, true, false, if◌then◌else◌}
 use Rattle.std.proofs.Common.{refl, sym, ap, ◌∙◌}
 use Rattle.style_rules.specs.Findings.{findings_in, notes_in, may_in, with_faults, has_faults}
@@ -29,7 +29,7 @@ may_append (Finding path rule ∷ ts) t = may_append ts t
 may_append (Note path ∷ ts) t = may_append ts t
 may_append (May path faults ∷ ts) t = ap (with_faults path faults) (may_append ts t) ∙ if_append (has_faults faults) (path, faults) (may_in ts) (may_in (t ∷ []))
 
--- a report of what was told, and of what is told next
+-- a report of what was reported, and of the next one
 pub told_next : (ts : List Told) (t : Told) (old new : Report) → IsReportOf ts old → Notes t old new → IsReportOf (ts ++ t ∷ []) new
 told_next ts t old new is noted = record {
   findings = noted.findings ∙ (ap (λ fs. fs ++ findings_in (t ∷ [])) is.findings ∙ sym (findings_append ts t));

@@ -1,4 +1,4 @@
--- What a check of an expression answers, and what is told of it.
+-- What a check of an expression answers, and what is reported of it.
 use Rattle.std.specs.Prelude.{◌≡◌, List, [], Option, Some, None, Ok, Err}
 use Rattle.std.proofs.Common.{refl, ap}
 use Rattle.decimal_json.specs.declared.paths.PathPart.{PathPart}

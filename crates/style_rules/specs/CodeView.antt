@@ -45,7 +45,7 @@ parts_seen p = record {
   has_ref = p.has_ref;
 }
 
--- what an expression that was checked tells
+-- what is reported of an expression that was checked
 abbrev pub judged_mark : Result Judged TypeFault → Mark
 judged_mark (Ok found) = Sound (may_of found)
 judged_mark (Err fault) = Broken fault.path (rule_of fault.code)

@@ -1,4 +1,4 @@
--- The findings of a document, and what is told of a document without findings.
+-- The findings of a document, and what is reported of a document without findings.
 use Rattle.std.specs.Prelude.{ℕ, ◌+◌, List, [], ◌∷◌, ◌++◌, Bool, if◌then◌else◌}
 use Rattle.std.specs.List.{list_any}
 use Rattle.decimal_json.specs.Tree.{Tree, null, boolean, number, text, list, object, Trees, no_trees, tree, Fields, no_fields, field}
@@ -14,7 +14,8 @@ use Rattle.style_rules.specs.declared.told.Mark.TheVariants.{Nothing, Broken, Ou
 use Rattle.style_rules.specs.declared.told.Told.{Told}
 use Rattle.style_rules.specs.declared.told.Told.TheVariants.{Finding, Note, May}
 
--- What is told of a place, or of the places below it, where nothing is told of it. So nothing is told below a finding.
+-- What is reported of a place, or of the places below it, where nothing is reported of it. So nothing is
+-- reported below a finding.
 abbrev pub told_or : Mark → List PathPart → List Told → List Told
 told_or Nothing path below = below
 told_or (Broken more rule) path below = Finding (path ++ more) rule ∷ []
@@ -24,7 +25,7 @@ told_or (Sound faults) path below = May path faults ∷ []
 abbrev pub Marks : Type 0
 Marks = List PathPart → Tree → Mark
 
--- What is told of a tree and below it, in the order of the text.
+-- What is reported of a tree and below it, in the order of the text.
 abbrev mutual
   pub walk : Tree → Marks → List PathPart → List Told
   walk null = λ marks path. told_or (marks path null) path []
@@ -45,7 +46,8 @@ abbrev mutual
 abbrev pub told : Tree → List Told
 told document = walk document (mark_at document) []
 
--- ---- The findings: each place that breaks a rule, with the least rule that it breaks, in the order of the text, and none below another.
+-- ---- The findings: each place that breaks a rule, with the least rule that it breaks, in the order of the
+-- text, and none below another.
 
 abbrev pub findings_in : List Told → List (List PathPart × ℕ)
 findings_in [] = []

@@ -1,4 +1,4 @@
--- What the rules on a layer stand on: a rule applies only where what it needs is there and well formed.
+-- What the rules on a layer depend on: a rule applies only where what it needs is there and well formed.
 use Rattle.std.specs.Prelude.{ℕ, List, [], ◌∷◌, codes, Bool, ◌&&◌, Option, Some, None, if◌then◌else◌}
 use Rattle.std.specs.Option.{option_and_then}
 use Rattle.decimal_json.specs.Tree.{Tree, Fields, field_at}
@@ -15,7 +15,8 @@ source_types = codes "vector" ∷ codes "raster" ∷ codes "raster-dem" ∷ code
 abbrev pub is_source : Tree → Bool
 is_source t = is_object t && is_among source_types (text_at (codes "type") t)
 
--- the sources among which a layer has to name one: it is none of background, its type is well formed, and `sources` is an object
+-- the sources among which a layer has to name one: it is none of background, its type is well formed, and
+-- `sources` is an object
 abbrev pub sources_for : Option Fields → Option LayerType → Option Fields
 sources_for sources (Some type) = if is_background type then None else sources
 sources_for sources None = None
@@ -29,7 +30,7 @@ abbrev pub named_type : Option Fields → Option (List ℕ) → Option (List ℕ
 named_type (Some sources) (Some name) = option_and_then source_type (field_at name sources)
 named_type _ _ = None
 
--- What the members of one layer stand on.
+-- What the members of one layer depend on.
 pub record Ground : Type 0 where
   -- of the layer
   pub type : Option LayerType

@@ -1,4 +1,4 @@
--- What the keys of members name, and what is told of a member by that.
+-- What the keys of members name, and what is reported of a member by that.
 use Rattle.std.specs.Prelude.{ℕ, List, [], ◌∷◌, codes, Bool, Option, Some, if◌then◌else◌}
 use Rattle.std.specs.Str.{bytes_eq}
 use Rattle.decimal_json.specs.Tree.{Tree, Fields}

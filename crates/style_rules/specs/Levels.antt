@@ -1,4 +1,4 @@
--- What is told of a document, level by level, as the code walks it. It is what `told` of Findings gives.
+-- What is reported of a document, level by level, as the code walks it. It is what `told` of Findings gives.
 use Rattle.std.specs.Prelude.{◌≡◌, ℕ, ◌+◌, List, [], ◌∷◌, ◌++◌, codes, Bool, ◌||◌, Option, Some, None, if◌then◌else◌}
 use Rattle.std.specs.Str.{bytes_eq}
 use Rattle.decimal_json.specs.Tree.{Tree, list, object, Trees, no_trees, tree, Fields, no_fields, field, fields_of, HasDistinctKeys}
@@ -14,7 +14,7 @@ use Rattle.style_rules.specs.Ground.{Ground, ground_of}
 use Rattle.style_rules.specs.Places.{root_mark, root_member_mark, named_mark, layer_mark, member_mark, property_mark, used_in}
 use Rattle.style_rules.specs.declared.told.Told.{Told}
 
--- what is told of each member of an object
+-- what is reported of each member of an object
 abbrev pub fields_told : (List ℕ → Tree → List Told) → Fields → List Told
 fields_told tell no_fields = []
 fields_told tell (field k t fs) = tell k t ++ fields_told tell fs

@@ -1,4 +1,5 @@
--- What is told of each place of a document, by its path. Of two rules that a place breaks the lesser counts.
+-- What is reported of each place of a document, by its path. Of two rules that a place breaks the lesser
+-- counts.
 use Rattle.std.specs.Prelude.{ℕ, zero, suc, ◌-◌, List, length, take, drop, [], ◌∷◌, codes, Bool, false, ◌||◌, Option, Some, None, is_some, if◌then◌else◌}
 use Rattle.std.specs.Str.{bytes_eq}
 use Rattle.std.specs.Option.{option_and_then}
@@ -119,7 +120,7 @@ layer_ground document None = record { type = None; sources = None; source_type =
 abbrev pub ground_at : Tree → ℕ → Ground
 ground_at document i = layer_ground document (layer_at i (layers_of document))
 
--- ---- what is told of the place of a path
+-- ---- what is reported of the place of a path
 
 abbrev pub mark_at : Tree → List PathPart → Tree → Mark
 mark_at document [] t = root_mark t

@@ -1,4 +1,4 @@
--- The three lists of what is told of a document.
+-- The three lists of what is reported of a document.
 use Rattle.std.specs.Prelude.{◌≡◌, List, [], ◌∷◌, ◌++◌, map}
 use Rattle.decimal_json.specs.Tree.{Tree}
 use Rattle.style_rules.specs.CodeView.{finding_seen, may_seen}
@@ -15,7 +15,7 @@ pub record IsReportOf (told : List Told) (report : Report) : Type 0 where
 abbrev pub IsReport : Tree → Report → Type 0
 IsReport document report = IsReportOf (told document) report
 
--- a report as it was, and with what is told of one place more
+-- a report as it was, and with what is reported of one place more
 pub record Notes (told : Told) (old new : Report) : Type 0 where
   pub findings : map finding_seen new.findings ≡ map finding_seen old.findings ++ findings_in (told ∷ [])
   pub notes : new.notes ≡ old.notes ++ notes_in (told ∷ [])

@@ -1,5 +1,5 @@
--- The rules on a document but for those on the values of properties and on filters, in their order. Each is a test, which holds where the
--- rule does not apply. Own.
+-- The rules on a document but for those on the values of properties and on filters, in their order. Each is a
+-- test, which holds where the rule does not apply. Source: own.
 use Rattle.std.specs.Prelude.{ℕ, suc, pos, List, [], ◌∷◌, codes, nat_le, Bool, true, false, ◌&&◌, ◌||◌, not, Option, Some, None, is_some, Result, Ok, Err}
 use Rattle.decimal_json.specs.Tree.{Tree, list, Trees, no_trees, tree, Fields, field_at}
 use Rattle.decimal_json.specs.Accessors.{member, has, is_object, is_text, text_in}
@@ -76,8 +76,8 @@ is_named_among (Some sources) None = false
 abbrev pub is_source_name : Ground → Tree → Bool
 is_source_name grounds t = is_named_among grounds.sources (text_in t)
 
--- V11: a raster layer's source is of type raster, image or video; a hillshade or color-relief layer's is raster-dem; every other's is vector
--- or geojson
+-- V11: a raster layer's source is of type raster, image or video; a hillshade or color-relief layer's is
+-- raster-dem; every other's is vector or geojson
 abbrev pub sources_of_type : LayerType → List (List ℕ)
 sources_of_type Raster = codes "raster" ∷ codes "image" ∷ codes "video" ∷ []
 sources_of_type Hillshade = codes "raster-dem" ∷ []
@@ -113,7 +113,8 @@ are_properties t = is_object t
 abbrev pub is_transition : Tree → Bool
 is_transition t = is_object t
 
--- V22: `state` is an object, and each member of it is one with a `default` in which every number is within the bound
+-- V22: `state` is an object, and each member of it is one with a `default` in which every number is within
+-- the bound
 abbrev pub are_globals : Tree → Bool
 are_globals t = is_object t
 

@@ -1,4 +1,5 @@
--- What is told of the value of a property or a filter: that it breaks a rule, that it is outside, or which faults its evaluation may have.
+-- What is reported of the value of a property or a filter: that it breaks a rule, that it is outside, or
+-- which faults its evaluation may have.
 use Rattle.std.specs.Prelude.{ℕ, [], Bool, ◌&&◌, ◌||◌, not, Option, Some, None, is_some, is_none, Ok, Err, if◌then◌else◌}
 use Rattle.decimal_json.specs.Tree.{Tree}
 use Rattle.prop_values.specs.Faults.{no_faults}
@@ -28,7 +29,8 @@ use Rattle.style_rules.specs.declared.told.Mark.TheVariants.{Broken, Outside, So
 abbrev pub literal_mark : RowData → Tree → Mark
 literal_mark row t = if is_some (literal_of t row) then Sound no_faults else Broken [] 15
 
--- ---- V16: an expression that is not outside is read and typed without fault. V17: it reads what it may. V18: `zoom` stands at its place.
+-- ---- V16: an expression that is not outside is read and typed without fault. V17: it reads what it may.
+-- V18: `zoom` is at its place.
 
 abbrev pub rule_of : TypeCode → ℕ
 rule_of types.Kind = 16
@@ -50,7 +52,8 @@ read_mark want row (Err fault) = Broken fault.path 16
 abbrev pub expression_mark : Want → Option RowData → Tree → Mark
 expression_mark want row t = read_mark want row (reading t)
 
--- ---- V19: a legacy function has its form. V17: a zoom stop needs a row that reads the zoom, and `property` one that reads feature data.
+-- ---- V19: a legacy function has its form. V17: a zoom stop needs a row that reads the zoom, and `property`
+-- one that reads feature data.
 
 abbrev pub function_reads : RowData → Function → Bool
 function_reads row f = (row.reads.zoom || not (has_zooms f)) && (row.reads.feature || is_none f.property)
@@ -79,7 +82,8 @@ form_mark forms.Literal row t = literal_mark row t
 abbrev pub value_mark : RowData → Tree → Mark
 value_mark row t = form_mark (form_of row t) row t
 
--- ---- filters. V20: one that is legacy has its form. V16, V17: one that is an expression is read and typed as a truth value, and reads no
+-- ---- filters. V20: one that is legacy has its form. V16, V17: one that is an expression is read and typed
+-- as a truth value, and reads no
 -- feature state.
 
 abbrev pub legacy_mark : filters.Read → Mark

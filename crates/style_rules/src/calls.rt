@@ -1,4 +1,4 @@
-//! What is told of a document, in its three lists.
+//! What is reported of a document, in its three lists.
 
 ghost use Rattle.std.specs.Prelude.{◌≡◌, map, not, OnOk, IfOk};
 ghost use Rattle.decimal_json.specs.View.{tree_of};
@@ -13,7 +13,7 @@ use decimal_json::Json;
 use prop_values::{EvalFault, FaultSet};
 use std::alloc::{AllocError, Global};
 
-/// All that is told of a document, found in one walk.
+/// All that is reported of a document, found in one walk.
 pub fn examined(alloc: Global, document: &Json) -> Result<Report, AllocError>
     ensures { IfOk result (λ report. IsReport (tree_of document.now) report) }
 {
@@ -65,8 +65,8 @@ fn is_empty(faults: FaultSet) -> bool
         || faults.holds(EvalFault::NotInEnum))
 }
 
-/// The findings of a document: each place that breaks a rule, with the least rule that it breaks, in the order of the text and none
-/// below another.
+/// The findings of a document: each place that breaks a rule, with the least rule that it breaks, in the
+/// order of the text and none below another.
 pub fn findings(alloc: Global, document: &Json) -> Result<Findings, AllocError>
     ensures { IfOk result (λ found. map finding_seen found ≡ findings (tree_of document.now)) }
 {

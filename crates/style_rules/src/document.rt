@@ -25,7 +25,7 @@ use style_parts::{is_between, sources_of};
 
 const MOST_LAYERS: usize = 65_536;
 
-/// What is told of a document.
+/// What is reported of a document.
 pub(crate) fn examine(alloc: Global, document: &Json) -> Result<ToldList, AllocError>
     ensures { IfOk result (λ list. list ≡ told (tree_of document.now)) }
 {

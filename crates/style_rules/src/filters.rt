@@ -1,4 +1,4 @@
-//! What is told of a filter.
+//! What is reported of a filter.
 
 ghost use Rattle.std.specs.Prelude.{◌≡◌, IfOk};
 ghost use Rattle.decimal_json.specs.View.{tree_of};
@@ -11,7 +11,7 @@ use legacy_filters::{is_legacy, read};
 use prop_values::{FaultSet, Want};
 use std::alloc::{AllocError, Global};
 
-/// What is told of the filter of a layer.
+/// What is reported of the filter of a layer.
 pub(crate) fn filter_mark(alloc: Global, filter: &Json) -> Result<Mark, AllocError>
     ensures { IfOk result (λ mark. mark ≡ filter_mark (tree_of filter.now)) }
 {

@@ -1,4 +1,4 @@
-//! What the rules on a layer stand on.
+//! What the rules on a layer depend on.
 
 ghost use Rattle.std.specs.Prelude.{◌≡◌, Some};
 ghost use Rattle.std.specs.Option.{option_and_then};
@@ -59,7 +59,7 @@ fn with_member<'a>(parts: LayerParts<'a>, member: &'a Member) -> LayerParts<'a>
     parts
 }
 
-/// What the members of one layer stand on.
+/// What the members of one layer depend on.
 #[derive(Clone, Copy)]
 pub(crate) struct Ground<'a> {
     /// The type of the layer, where that is well formed and it has no `ref`.

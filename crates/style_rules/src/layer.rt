@@ -26,7 +26,7 @@ use std::alloc::{AllocError, Global};
 use style_parts::{is_zoom, number_in};
 use value_forms::{tested_type, type_in};
 
-/// Tells of a layer, by the ids of the layers before.
+/// Reports of a layer, by the ids of the layers before.
 pub(crate) fn tell_layer<'x>(
     alloc: Global,
     told: &mut ToldList,

@@ -5,9 +5,10 @@
 //! findings(alloc, &style)?    // Finding { path: /version, rule: 3 }, Finding { path: /layers/0, rule: 10 }
 //! ```
 //!
-//! What is promised: `findings` gives each place that breaks a rule with the least rule that it breaks, in the order of the text, and none
-//! below another. `examined` gives them too, and in the same walk the notes, which are the values and filters that are outside of what is
-//! evaluated, and the values and filters whose evaluation may fault, with the faults. Each list is exactly the definition of its name in
+//! What is promised: `findings` gives each place that breaks a rule with the least rule that it breaks, in
+//! the order of the text, and none below another. `examined` gives them too, and in the same walk the notes,
+//! which are the values and filters that are outside of what is evaluated, and the values and filters whose
+//! evaluation may fault, with the faults. Each list is exactly the definition of its name in
 //! `specs/Findings.antt`, and each expression is read and typed once for all three.
 //!
 //! The text to believe is in `specs/`: `Ground`, `Rules`, `Values`, `Places`, `Findings`, `Reports`.

@@ -1,4 +1,4 @@
-//! The lists that tell of a document.
+//! The lists of what is reported of a document.
 
 ghost use Rattle.std.specs.Prelude.{◌≡◌, [], ◌∷◌, ◌++◌, slice_get, OnOk, OnErr};
 
@@ -61,7 +61,6 @@ impl Findings {
     }
 }
 
-/// A list of paths.
 #[derive(Drop)]
 pub struct Paths {
     paths: Vec<Path>,
@@ -146,7 +145,7 @@ impl MayLines {
     }
 }
 
-/// All that is told of a document. Where it has findings, of the rest only what does not stand below one.
+/// All that is reported of a document. Where it has findings, of the rest only what is not below one.
 #[derive(Drop)]
 pub struct Report {
     pub findings: Findings,

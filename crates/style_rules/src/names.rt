@@ -10,7 +10,6 @@ use prop_values::{Entries, Value};
 use property_tables::{LayerType, Place, row};
 use std::alloc::AllocError;
 
-/// Whether a text is in a set.
 pub(crate) fn has_text(texts: &Entries, text: &str) -> bool
     ensures { result ≡ has_name texts.now text.now }
 {

@@ -15,7 +15,7 @@ use decimal_json::{Here, Json, Member};
 use property_tables::{LayerType, Place, row, unread};
 use std::alloc::{AllocError, Global};
 
-/// Tells of a `layout` or `paint`, where the layer's type is one whose properties are tested.
+/// Reports of a `layout` or `paint`, where the layer's type is one whose properties are tested.
 pub(crate) fn tell_properties<'x>(
     alloc: Global,
     told: &mut ToldList,

@@ -1,4 +1,4 @@
-//! What is told of places, while a document is walked.
+//! What is reported of places, while a document is walked.
 
 ghost use Rattle.std.specs.Prelude.{◌≡◌, [], ◌∷◌, ◌++◌, OnOk, IfOk};
 ghost use Rattle.decimal_json.specs.Place.{path_of};
@@ -10,7 +10,7 @@ use prop_values::FaultSet;
 use std::alloc::{AllocError, Global};
 use std::marker::Model;
 
-/// What is told of one place.
+/// What is reported of one place.
 #[derive(Drop)]
 pub(crate) enum Mark {
     Nothing,
@@ -22,7 +22,7 @@ pub(crate) enum Mark {
     Sound(FaultSet),
 }
 
-/// What is told, and the path of its place.
+/// What is reported, and the path of its place.
 #[derive(Drop)]
 pub(crate) enum Told {
     Finding(Path, u8),
@@ -30,7 +30,7 @@ pub(crate) enum Told {
     May(Path, FaultSet),
 }
 
-/// What is told of a document so far.
+/// What is reported of a document so far.
 #[derive(Drop)]
 pub(crate) struct ToldList {
     pub(crate) all: Vec<Told>,
@@ -54,7 +54,7 @@ impl ToldList {
         }
     }
 
-    /// Tells of a place.
+    /// Adds what is reported of a place.
     pub(crate) fn tell(
         &mut self,
         alloc: Global,
@@ -75,7 +75,7 @@ impl ToldList {
         Ok(())
     }
 
-    /// Tells that a place breaks a rule.
+    /// Reports that a place breaks a rule.
     pub(crate) fn tell_broken(
         &mut self,
         alloc: Global,
@@ -89,7 +89,7 @@ impl ToldList {
         Ok(())
     }
 
-    /// Tells that a place breaks a rule, unless its test holds.
+    /// Reports that a place breaks a rule, unless its test holds.
     pub(crate) fn tell_unless(
         &mut self,
         alloc: Global,

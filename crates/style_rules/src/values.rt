@@ -1,4 +1,4 @@
-//! What is told of the value of a property.
+//! What is reported of the value of a property.
 
 ghost use Rattle.std.specs.Prelude.{◌≡◌, [], Some, option_map, IfOk};
 ghost use Rattle.decimal_json.specs.View.{tree_of};
@@ -18,7 +18,7 @@ use property_tables::{Row, literal};
 use std::alloc::{AllocError, Global};
 use value_forms::{Form, form_of};
 
-/// What is told of the value of a property of a row.
+/// What is reported of the value of a property of a row.
 pub(crate) fn value_mark(alloc: Global, row: &Row, json: &Json) -> Result<Mark, AllocError>
     ensures { IfOk result (λ mark. mark ≡ value_mark (row_seen row.now) (tree_of json.now)) }
 {
@@ -45,7 +45,7 @@ fn literal_mark(alloc: Global, row: &Row, json: &Json) -> Result<Mark, AllocErro
     }
 }
 
-/// What is told of an expression, as the value of a row, or as a filter where there is none.
+/// What is reported of an expression, as the value of a row, or as a filter where there is none.
 #[tactic(auto, using(crate::proofs::ValueLaws::judged_typed))]
 pub(crate) fn expression_mark(
     alloc: Global,

@@ -60,7 +60,8 @@ found_at text part i j u v (lacks, at) boundary = (
 pub values_within : (text : List ℕ) (i : ℕ) → IsUtf8 text → IsCharBoundary text i → length (chars (take i text)) ≤ length (chars text)
 values_within text i u boundary = omega (arith, ap length (values_split text i u boundary), length-append (chars (take i text)) (chars (drop i text)))
 
--- what walking over values keeps: the bytes that are left are the text's end, and have the values that are left
+-- what walking over values keeps: the bytes that are left are the text's end, and have the values that are
+-- left
 pub record IsLeft (text rest : List ℕ) (passed : ℕ) : Type 0 where
   pub front : List ℕ
   pub cut : text ≡ front ++ rest

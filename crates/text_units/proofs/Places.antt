@@ -1,4 +1,4 @@
--- Where a part stands in a list of scalar values.
+-- The positions of a part in a list of scalar values.
 use Rattle.std.proofs.Common.{◌≡◌, ℕ, zero, suc, ◌+◌, ◌-◌, ◌<◌, ◌≤◌, ◌⊎◌, inl, inr, List, [], ◌∷◌, ◌++◌, refl, sym, ap, ◌∙◌, subst, arith, Bool, true, false, length, take, drop, append_assoc}
 use Rattle.std.specs.Prelude.{Option, Some, None, nat_eq, nat_le, if◌then◌else◌}
 use Rattle.std.specs.Option.{option_map}
@@ -12,7 +12,7 @@ use Rattle.text_units.specs.Position.{first_place, place_from, StandsAt, IsFirst
 stands_within : (text part : List ℕ) (place : ℕ) → StandsAt text part place → place ≤ length text
 stands_within text part place (before, after, is, long) = omega (arith, ap length is, length-append before (part ++ after))
 
--- in what follows the first values, the part stands so much earlier
+-- without the first values, the part is that much earlier
 stands_later : (text part : List ℕ) (from place : ℕ) → from ≤ length text → StandsAt (drop from text) part place → StandsAt text part (from + place)
 stands_later text part from place h (before, after, is, long) = (
   take from text ++ before,
@@ -37,7 +37,7 @@ stands_not_first text part e ([], after, is, long) =
     cc
 stands_not_first text part e (c ∷ before, after, is, long) = absurd (omega arith)
 
--- behind one value more
+-- after one value more
 stands_behind : (c : ℕ) (text part : List ℕ) (place : ℕ) → StandsAt text part place → StandsAt (c ∷ text) part (suc place)
 stands_behind c text part place (before, after, is, long) = (c ∷ before, after, ap (λ x. c ∷ x) is, ap suc long)
 

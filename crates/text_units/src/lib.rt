@@ -6,8 +6,8 @@
 //! index_of("aXbX", "X", 2)         // Some(3)
 //! ```
 //!
-//! What is promised: the answers are those of the list of scalar values. No call takes memory; each takes time linear in its
-//! texts, since a position is found by one walk from the front.
+//! What is promised: the answers are those of the list of scalar values. No call takes memory; each takes
+//! time linear in its texts, since a position is found by one walk from the front.
 //!
 //! The text to believe is in `specs/`: `Position`.
 #![tactic(auto)]
@@ -35,8 +35,8 @@ pub fn slice(text: &str, from: usize, to: usize) -> &str
     part
 }
 
-/// The least position at or after `from` at which `part` stands in `text`, or `None` where it stands at none. The empty
-/// part stands at each position up to the length of `text`.
+/// The least position of `part` in `text` at or after `from`, or `None` where there is none. The empty part
+/// is at each position up to the length of `text`.
 pub fn index_of(text: &str, part: &str, from: usize) -> Option<usize>
     ensures place { result ≡ place_from (chars text.now) (chars part.now) from }
     ensures first { IsFirstPlace (chars text.now) (chars part.now) from result }
@@ -51,7 +51,7 @@ pub fn index_of(text: &str, part: &str, from: usize) -> Option<usize>
     }
 }
 
-// The least position at which `part` stands in `text`.
+// The least position of `part` in `text`.
 fn first(text: &str, part: &str) -> Option<usize>
     ensures place { result ≡ first_place (chars text.now) (chars part.now) }
     ensures within { IfSome result (λ place. place ≤ length (chars text.now)) }

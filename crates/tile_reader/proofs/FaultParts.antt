@@ -1,4 +1,4 @@
--- What the parts of a tile are whose reading ends with a fault, and what stands before it.
+-- The parts of a tile whose reading ends with a fault, and what is before it.
 use Rattle.std.proofs.Common.{◌≡◌, ◌≢◌, ℕ, inl, inr, List, [], ◌∷◌, ◌++◌, refl, ap, ◌∙◌, subst, Bool, true, false}
 use Rattle.std.specs.Prelude.{◌⊎◌, Option, Some, None, Result, Ok, Err, if◌then◌else◌}
 use Rattle.std.specs.Str.{is_utf8}

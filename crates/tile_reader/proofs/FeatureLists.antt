@@ -10,7 +10,7 @@ use Rattle.tile_reader.specs.Properties.{feature_of, features_of}
 use Rattle.tile_reader.specs.View.{tagged_seen, tagged_all}
 use Rattle.tile_reader.proofs.Tags.{left_from}
 
--- what is left from a place on begins with what stands there
+-- what is left from a place on begins with the element at that place
 front_of : (keys : List (List ℕ)) (values : List Data) (done : List Feature) (all : List TaggedFeature) (i : ℕ) (tagged : TaggedFeature) (rest own others : List ℕ) → i < length all → tagged ≡ get_or all i tagged → own ≡ take tagged.count rest → others ≡ drop tagged.count rest → features_of keys values done (tagged_all (drop i all) rest) ≡ (feature_of keys values (tagged_seen tagged own) then λ f. features_of keys values (done ++ f ∷ []) (tagged_all (drop (i + 1) all) others))
 front_of keys values done all i tagged rest own others below is owned left =
     ap (λ (fs : List TaggedFeature). features_of keys values done (tagged_all fs rest)) (left_from all i tagged below is)

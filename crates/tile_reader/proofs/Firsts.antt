@@ -18,14 +18,14 @@ differs : (a b : List ℕ) (t : Bool) → bytes_eq a b ≡ false → bytes_eq b 
 differs a b true e is = let yes : bytes_eq a b ≡ true = (bytes_eq-Decides a b).1 (sym (same_text b a is)) in absurd (cc)
 differs a b false e is = refl
 
--- a text that stood before moves no place
+-- a text that occurred before moves no place
 known_at : (text q : List ℕ) (front : List (List ℕ)) (first : ℕ) (o : Option ℕ) (t : Bool) → text_place text front ≡ Some first → text_place q front ≡ o → bytes_eq q text ≡ t → text_place q (front ++ text ∷ []) ≡ o
 known_at text q front first (Some j) t there is test = place_stays q front (text ∷ []) j is
 known_at text q front first None false there is test = place_new q text front is ∙ ap (λ (b : Bool). if b then Some (length front) else None) test
 known_at text q front first None true there is test =
     let gone : text_place text front ≡ None = ap (λ (x : List ℕ). text_place x front) (sym (same_text q text test)) ∙ is in absurd (cc)
 
--- a new text stands at the end
+-- a new text is at the end
 added_at : (text q : List ℕ) (front : List (List ℕ)) (o : Option ℕ) (t : Bool) → text_place text front ≡ None → text_place q front ≡ o → bytes_eq text q ≡ t → text_place q (front ++ text ∷ []) ≡ cond t (Some (length front)) o
 added_at text q front o true none is test =
     let same : text ≡ q = same_text text q test in

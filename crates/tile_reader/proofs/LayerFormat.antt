@@ -586,7 +586,7 @@ layer_is earlier field layer (fields, (content, held, are), have) new =
     ∙ ap (λ (t : Bool). (if t then refused kind.RepeatedName at else Ok layer.name) then λ (_ : List ℕ). features then λ fs. Ok (record { name = layer.name; features = fs })) new
     ∙ ap (λ (r : Result (List Feature) TileFault). r then λ fs. Ok (record { name = layer.name; features = fs })) (features_is keys values tagged [] layer.features made)))
 
--- for the faults: what stands before one
+-- for the faults: what is before one
 pub so_far_ok : (fields : List WireField) (parts : Parts) → rest_of no_parts fields ≡ Ok parts → (layer : LayerSoFar) × AreLayerSoFar fields layer × (parts ≡ record { name = last_of layer.names; version = last_of layer.versions; keys = layer.keys; values = layer.values; features = layer.features })
 so_far_ok fields parts walked =
     let w = walk_ok fields no_parts parts walked in (

@@ -1,4 +1,4 @@
--- The front of a message is the field that stands there, and what a loop over fields makes of that.
+-- The front of a message is a field, and what a loop over fields makes of it.
 use Rattle.std.proofs.Common.{◌≡◌, ℕ, zero, suc, ◌<◌, ◌≤◌, false, List, [], ◌∷◌, refl, sym, ap, ◌∙◌, arith, length}
 use Rattle.std.specs.Prelude.{Result, Ok, Err, Some, None}
 use Rattle.proto_wire.specs.declared.wire.WireKind.{WireKind}

@@ -45,7 +45,7 @@ none_named i name (layer ∷ layers) e =
     let parts = none_step i (place_from (i + 1) name (names layers)) (bytes_eq layer.name name) e in
     cond-false (bytes_eq layer.name name) (Some layer) (layer_named name layers) parts.0 ∙ none_named (i + 1) name layers parts.1
 
--- where a name stands, and which layer stands there
+-- the place of a name, and which layer is there
 record StandsAt (i : ℕ) (name : List ℕ) (layers : List TileLayer) (place : ℕ) : Type 0 where
   offset : ℕ
   at : place ≡ i + offset

@@ -1,4 +1,4 @@
--- The pair of a key among the pairs so far, and where it stands after another pair was put.
+-- The pair of a key among the pairs so far, and its place after another pair was added.
 use Rattle.std.proofs.Common.{◌≡◌, ◌≢◌, ◌⊎◌, inl, inr, ℕ, zero, suc, ◌<◌, ◌≤◌, List, [], ◌∷◌, ◌++◌, refl, sym, ap, ◌∙◌, subst, arith, length, set, Bool, true, false}
 use Rattle.std.specs.Prelude.{Option, Some, None, option_map, if◌then◌else◌, nat_eq, slice_index, slice_index_or}
 use Rattle.std.proofs.lemmas.Bool.{false_from_ne_true, cases_eq, cases_lt}
@@ -28,7 +28,7 @@ pub suc_zero : (o : Option ℕ) → option_map suc o ≡ Some zero → ⊥
 suc_zero None e = cc
 suc_zero (Some n) e = let q : suc n ≡ zero = some_is (suc n) zero e in omega arith
 
--- a pair whose key is there stands in its place
+-- a pair whose key is there is in its place
 there_at : (pair first : ℕ × ℕ) (pairs : List (ℕ × ℕ)) (t : Bool) (i : ℕ) → ((j : ℕ) → pair_place pair.0 pairs ≡ Some j → put_pair pair pairs ≡ set pairs j pair) → (if t then Some 0 else option_map suc (pair_place pair.0 pairs)) ≡ Some i → (if t then pair ∷ pairs else first ∷ put_pair pair pairs) ≡ set (first ∷ pairs) i pair
 there_at pair first pairs true zero later e = refl
 there_at pair first pairs true (suc i) later e = let q : zero ≡ suc i = some_is zero (suc i) e in absurd (omega arith)
@@ -39,7 +39,7 @@ pub put_there : (pair : ℕ × ℕ) (pairs : List (ℕ × ℕ)) (i : ℕ) → pa
 put_there pair [] i e = absurd (cc)
 put_there pair (first ∷ pairs) i e = there_at pair first pairs (nat_eq pair.0 first.0) i (put_there pair pairs) e
 
--- a pair of a new key stands at the end
+-- a pair of a new key is at the end
 new_at : (pair first : ℕ × ℕ) (pairs : List (ℕ × ℕ)) (t : Bool) → (pair_place pair.0 pairs ≡ None → put_pair pair pairs ≡ pairs ++ pair ∷ []) → (if t then Some 0 else option_map suc (pair_place pair.0 pairs)) ≡ None → (if t then pair ∷ pairs else first ∷ put_pair pair pairs) ≡ first ∷ (pairs ++ pair ∷ [])
 new_at pair first pairs true later e = absurd (cc)
 new_at pair first pairs false later e = ap (λ (ps : List (ℕ × ℕ)). first ∷ ps) (later (suc_none (pair_place pair.0 pairs) e))

@@ -18,7 +18,7 @@ use Rattle.tile_reader.proofs.Parts.{then_ok, then_is}
 abbrev Pair : Type 0
 Pair = List ℕ × Data
 
--- a pair at the front takes the last value of its key, and the others are put behind it
+-- a pair at the front takes the last value of its key, and the others are put after it
 abbrev front_pair : Pair → List Pair → Pair
 front_pair pair pairs = (pair.0, last_value pair.0 pair.1 pairs)
 

@@ -1,4 +1,4 @@
--- Features whose tags stand one after the other in one list.
+-- Features whose tags are one after the other in one list.
 use Rattle.std.proofs.Common.{◌≡◌, ℕ, suc, ◌+◌, ◌<◌, ◌≤◌, List, [], ◌∷◌, ◌++◌, refl, sym, ap, ◌∙◌, arith, length, take, drop, get_or, drop-cons, add-one}
 use Rattle.std.proofs.lemmas.List.{take-append-le, drop-append-le, length-drop, take-append-drop}
 use Rattle.std.proofs.Math.Seq.{take-length}
@@ -15,7 +15,7 @@ nothing : (tags : List ℕ) → length tags ≡ 0 → tags ≡ []
 nothing [] e = refl
 nothing (tag ∷ tags) e = absurd (omega arith)
 
--- one more feature, whose tags go behind the others'
+-- one more feature, whose tags go after the others'
 pub count_more : (features : List TaggedFeature) (feature : TaggedFeature) → count_of_tags (features ++ feature ∷ []) ≡ count_of_tags features + feature.count
 count_more [] feature = omega arith
 count_more (first ∷ features) feature = let later = count_more features feature in omega arith

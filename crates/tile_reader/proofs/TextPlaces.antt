@@ -42,14 +42,14 @@ place_new text last (first ∷ texts) none =
     moved true = refl
     moved false = refl
 
--- the number of a text stands for itself, and holds that text
+-- the number of a text is its own first place, and has that text
 pub first_again : (firsts : List ℕ) (texts : List (List ℕ)) (i : ℕ) → AreFirsts firsts texts → i < length texts → (slice_index firsts i < length texts) × (slice_index_or texts (slice_index firsts i) [] ≡ slice_index_or texts i []) × (slice_index firsts (slice_index firsts i) ≡ slice_index firsts i)
 first_again firsts texts i (long, are) below =
     let (inside, same) = place_holds (slice_index_or texts i []) texts (slice_index firsts i) (are i below) in
     let again = are (slice_index firsts i) inside in
     (inside, same, some_is (slice_index firsts (slice_index firsts i)) (slice_index firsts i) (sym again ∙ ap (λ (t : List ℕ). text_place t texts) same ∙ are i below))
 
--- two numbers that stand for themselves are equal exactly where their texts are
+-- two numbers that are their own first places are equal exactly where their texts are
 pub same_texts : (firsts : List ℕ) (texts : List (List ℕ)) (i j : ℕ) → AreFirsts firsts texts → i < length texts → j < length texts → slice_index firsts i ≡ i → slice_index firsts j ≡ j → nat_eq i j ≡ bytes_eq (slice_index_or texts i []) (slice_index_or texts j [])
 same_texts firsts texts i j (long, are) i_below j_below i_first j_first =
     let one : text_place (slice_index_or texts i []) texts ≡ Some i = are i i_below ∙ ap Some i_first in

@@ -104,7 +104,7 @@ walk_is [] s (layer ∷ layers) are new = absurd are
 walk_is (field ∷ fields) s layers are new =
     by_number (Walks field fields s) field.number 3 (walks_layer field fields s (walk_is fields)) (walks_other field fields s (walk_is fields)) layers are new
 
--- for the faults: what stands before one
+-- for the faults: what is before one
 pub so_far : (fields : List WireField) (q : List TileLayer) → rest_of [] fields ≡ Ok q → Hold 3 IsLayer fields q × HaveNewNames [] q
 so_far fields q walked =
     let w = walk_ok fields [] q walked in

@@ -85,7 +85,7 @@ skipped Unknown before field e = refl
 abbrev pub rest_of : Option Data → List WireField → Result (Option Data) TileFault
 rest_of before fields = along value_step before fields None
 
--- what comes after the one field is skipped
+-- what comes after the field is skipped
 after_ok_at : (field : WireField) (fields : List WireField) (value : Data) (q : Option Data) (t : Bool) → is_known (value_member field.number) ≡ t → (rest_of (Some value) fields ≡ Ok q → (known_fields fields ≡ []) × (q ≡ Some value)) → (value_step (Some value) field then λ next. rest_of next fields) ≡ Ok q → ((if t then field ∷ known_fields fields else known_fields fields) ≡ []) × (q ≡ Some value)
 after_ok_at field fields value q true known later e =
     let (x, stepped, after) = then_ok (value_step (Some value) field) (λ (next : Option Data). rest_of next fields) q e in

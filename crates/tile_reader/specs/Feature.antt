@@ -1,4 +1,4 @@
--- A feature of a layer (Vector Tile 2.1, section 4.2 and the table of the message Feature).
+-- A feature of a layer. Source: Vector Tile 2.1 §4.2 and the table of the message Feature.
 use Rattle.std.specs.Prelude.{ℕ, zero, suc, List, [], ◌∷◌, ◌++◌, length, Option, Some, None, Result, Ok, Err, if◌then◌else◌, nat_eq}
 use Rattle.proto_wire.specs.declared.wire.WireKind.{WireKind}
 use Rattle.proto_wire.specs.Varint.{varint_at}
@@ -12,7 +12,8 @@ use Rattle.tile_reader.specs.declared.feature.FeatureMember.TheVariants.{Id, Tag
 use Rattle.tile_reader.specs.Message.{message}
 use Rattle.tile_reader.specs.Read.{refused, ◌then◌, read_fields, number_in}
 
--- a feature as it stands in its layer: the offset of its tag, and tags that are indices of the layer's keys and values
+-- a feature as it is in its layer: the offset of its tag, and tags that are indices of the layer's keys and
+-- values
 pub record Tagged : Type 0 where
   pub at : ℕ
   pub id : Option ℕ
@@ -44,8 +45,8 @@ numbers_within most [] = Ok []
 numbers_within zero (c ∷ b) = Ok []
 numbers_within (suc most) (c ∷ b) = number_before (varint_at (c ∷ b)) (numbers_within most)
 
--- The varints of these bytes one after the other, as in a packed field (Protocol Buffers, "Encoding", Repeated Fields).
--- A varint has a byte at least.
+-- The varints of these bytes one after the other, as in a packed field (Protocol Buffers, "Encoding",
+-- Repeated Fields). A varint has a byte at least.
 unfoldable pub packed : List ℕ → Result (List ℕ) WireKind
 packed b = numbers_within (length b) b
 
@@ -68,7 +69,7 @@ geometry_in at (bits64 n) = refused FieldType at
 geometry_in at (bytes b) = Ok tt
 geometry_in at (bits32 n) = refused FieldType at
 
--- the four types of a feature (Vector Tile 2.1, section 4.3.4.1)
+-- the four types of a feature. Source: Vector Tile 2.1 §4.3.4.1.
 abbrev pub shape_of : ℕ → ℕ → Result shape.Shape TileFault
 shape_of at n =
     if nat_eq n 0 then Ok shapes.Unknown
@@ -93,6 +94,6 @@ feature_step feature field = feature_field (feature_member field.number) feature
 abbrev pub untagged : ℕ → Tagged
 untagged at = record { at = at; id = None; shape = shapes.Unknown; tags = [] }
 
--- the feature whose tag stands at `at` and whose content begins at `start`
+-- the feature whose tag is at `at` and whose content begins at `start`
 abbrev pub feature_at : ℕ → ℕ → List ℕ → Result Tagged TileFault
 feature_at at start content = read_fields feature_step (untagged at) (message start content)

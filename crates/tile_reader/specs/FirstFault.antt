@@ -1,6 +1,6 @@
--- The first fault of bytes that are no tile, in the words of the format: what stands before it is fine, and it is the fault
--- of what comes next. The reading order is that of the bytes; what a layer lacks stands at its end, then the tags of its
--- features. Source: own.
+-- The first fault of bytes that are no tile, in the words of the format: what is before it is fine, and it is
+-- the fault of what comes next. The reading order is that of the bytes; what a layer lacks is at its end,
+-- then the tags of its features. Source: own.
 use Rattle.std.specs.Prelude.{◌≡◌, ◌≢◌, ℕ, ◌%◌, ◌≤◌, ◌⊎◌, List, [], ◌∷◌, ◌++◌, length, true, false, Option, Some, None, Ok, Err}
 use Rattle.std.specs.Str.{is_utf8}
 use Rattle.proto_wire.specs.declared.wire.WireKind.{WireKind}
@@ -26,8 +26,8 @@ use Rattle.tile_reader.specs.Format.{Each, Hold, last_of, IsNumber, IsBytes, IsT
 abbrev pub IsAt : TileKind → ℕ → TileFault → Type 0
 IsAt kind at fault = fault ≡ record { kind = kind; at = at }
 
--- The first fault of a message: the fields before it hold what they should, and next is a field with that fault, or bytes
--- that are no field.
+-- The first fault of a message: the fields before it hold what they should, and next is a field with that
+-- fault, or bytes that are no field.
 abbrev pub FirstIn : {X : Type 0} → (List WireField → X → Type 0) → (X → WireField → TileFault → Type 0) → ℕ → List ℕ → TileFault → Type 0
 FirstIn {X} Held Breaks at b fault =
     (before : List WireField) × (so_far : X) × Held before so_far
@@ -59,7 +59,8 @@ HaveSaid fields (Some value) = (only : WireField) × (known_fields fields ≡ on
 abbrev pub IsSecond : Option Data → WireField → TileFault → Type 0
 IsSecond before field fault = ((value : Data) × (before ≡ Some value)) × IsAt kind.ValueKind field.at fault
 
--- the fault of a field of a value: its wire type, then a float, or that it is the second, or that a text is no UTF-8
+-- the fault of a field of a value: its wire type, then a float, or that it is the second, or that a text is
+-- no UTF-8
 abbrev pub BreaksSaying : ValueMember → Option Data → WireField → TileFault → Type 0
 BreaksSaying member.String before field fault =
     (NoBytes field × IsAt kind.FieldType field.at fault)
@@ -78,7 +79,8 @@ BreaksValue field fault =
     ⊎ ((content : List ℕ) × IsBytes field content × FirstIn HaveSaid (λ said inner. BreaksSaying (value_member inner.number) said inner) (content_start field) content fault)
     ⊎ ((fields : List WireField) × HoldsMessage field fields × (known_fields fields ≡ []) × IsAt kind.ValueKind field.at fault)
 
--- the bytes begin with these varints, and what comes next is broken: there is more, and it begins with no varint
+-- the bytes begin with these varints, and what comes next is broken: there is more, and it begins with no
+-- varint
 abbrev pub BreaksPacked : List ℕ → List ℕ → WireKind → Type 0
 BreaksPacked b [] kind = (b ≢ []) × (varint_at b ≡ Err kind)
 BreaksPacked b (n ∷ ns) kind = (rest : List ℕ) × (varint_at b ≡ Ok (n, rest)) × BreaksPacked rest ns kind
@@ -154,8 +156,8 @@ BreaksFeatures keys values (tagged ∷ others) fault =
     BreaksTags keys values tagged fault
     ⊎ (((pairs : List (List ℕ × Data)) × ArePairs keys values tagged.tags pairs) × BreaksFeatures keys values others fault)
 
--- What a layer lacks at its end, after layers of these names: its name, its version, a new name, and then the tags of a
--- feature.
+-- What a layer lacks at its end, after layers of these names: its name, its version, a new name, and then the
+-- tags of a feature.
 abbrev pub BreaksEnd : List (List ℕ) → LayerSoFar → ℕ → TileFault → Type 0
 BreaksEnd earlier layer at fault =
     ((last_of layer.names ≡ None) × IsAt kind.NoName at fault)

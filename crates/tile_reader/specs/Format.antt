@@ -1,5 +1,5 @@
--- What a tile is in the words of its format: said of the lists of fields, and not of the order in which a reader meets
--- them. This is the text to believe; `tile_of` is the function that it determines.
+-- What a tile is in the words of its format: said of the lists of fields, and not of the order in which a
+-- reader meets them. This is the text to believe; `tile_of` is the function that it determines.
 -- Source: Vector Tile 2.1 §4, Protocol Buffers "Encoding".
 use Rattle.std.specs.Prelude.{◌≡◌, ◌≢◌, ℕ, pos, ◌⊎◌, not, List, [], ◌∷◌, ◌++◌, map, Bool, true, false, Option, Some, None, Ok, if◌then◌else◌, nat_eq, slice_get}
 use Rattle.std.specs.Str.{is_utf8, bytes_eq}
@@ -65,8 +65,8 @@ IsText field text = IsBytes field text × (is_utf8 text ≡ true)
 abbrev pub HoldsMessage : WireField → List WireField → Type 0
 HoldsMessage field fields = (content : List ℕ) × IsBytes field content × AreFields (content_start field) content fields None
 
--- The field says that a value is this, by the table of its fields: 1 string, 4 int, 5 uint, 6 sint, 7 bool. Fields 2 and
--- 3, a float and a double, say nothing that a tile may hold.
+-- The field says that a value is this, by the table of its fields: 1 string, 4 int, 5 uint, 6 sint, 7 bool.
+-- Fields 2 and 3, a float and a double, say nothing that a tile may hold.
 abbrev pub Says : ValueMember → WireField → Data → Type 0
 Says String field value = (text : List ℕ) × IsText field text × (value ≡ held.text text)
 Says Float field value = ⊥
@@ -103,7 +103,7 @@ AreTags field tags =
     ((tag : ℕ) × IsNumber field tag × (tags ≡ tag ∷ []))
     ⊎ ((content : List ℕ) × IsBytes field content × ArePacked content tags)
 
--- the number of a type of geometry (Vector Tile 2.1 §4.3.4.1)
+-- the number of a type of geometry. Source: Vector Tile 2.1 §4.3.4.1.
 abbrev pub shape_number : shape.Shape → ℕ
 shape_number shapes.Unknown = 0
 shape_number shapes.Point = 1
@@ -117,8 +117,8 @@ IsShape field kind = IsNumber field (shape_number kind)
 abbrev pub IsGeometry : WireField → Type 0
 IsGeometry field = ((n : ℕ) × IsNumber field n) ⊎ ((content : List ℕ) × IsBytes field content)
 
--- The fields are those of a feature: its id is the last field 1, its tags are those of the fields 2 in order, its type is
--- the last field 3, and fields 4 are geometry.
+-- The fields are those of a feature: its id is the last field 1, its tags are those of the fields 2 in order,
+-- its type is the last field 3, and fields 4 are geometry.
 pub record AreFeatureFields (fields : List WireField) (id : Option ℕ) (kind : shape.Shape) (tags : List ℕ) : Type 0 where
   pub id_fields : (ids : List ℕ) × Hold 1 IsNumber fields ids × (id ≡ last_of ids)
   pub tag_fields : (parts : List (List ℕ)) × Hold 2 AreTags fields parts × (tags ≡ concatenation parts)
@@ -157,8 +157,9 @@ IsFeature keys values field feature =
     × (pairs : List (List ℕ × Data)) × ArePairs keys values tags pairs
     × AreProperties pairs feature.properties
 
--- The fields are those of this layer: its name is the last field 1, its features are the fields 2 in order, with the keys
--- of the fields 3 and the values of the fields 4; fields 5 are extents, and the last field 15 is its version, 1 or 2.
+-- The fields are those of this layer: its name is the last field 1, its features are the fields 2 in order,
+-- with the keys of the fields 3 and the values of the fields 4; fields 5 are extents, and the last field 15
+-- is its version, 1 or 2.
 pub record AreLayerFields (fields : List WireField) (layer : TileLayer) : Type 0 where
   pub names : (names : List (List ℕ)) × Hold 1 IsText fields names × (last_of names ≡ Some layer.name)
   pub features :
@@ -177,7 +178,8 @@ abbrev pub HaveNewNames : List (List ℕ) → List TileLayer → Type 0
 HaveNewNames earlier [] = Unit {0}
 HaveNewNames earlier (layer ∷ layers) = Each (λ name. name ≢ layer.name) earlier × HaveNewNames (earlier ++ layer.name ∷ []) layers
 
--- The bytes are the tile of these layers: they are not compressed, they are a message, and its fields 3 are the layers.
+-- The bytes are the tile of these layers: they are not compressed, they are a message, and its fields 3 are
+-- the layers.
 pub record IsTile (b : List ℕ) (layers : List TileLayer) : Type 0 where
   pub not_compressed : is_compressed b ≡ false
   pub fields : List WireField

@@ -26,14 +26,14 @@ NeverBoth = (b : List ℕ) (layers : List TileLayer) (fault : TileFault) → IsT
 abbrev pub OneTile : Type 0
 OneTile = (b : List ℕ) (layers others : List TileLayer) → IsTile b layers → IsTile b others → others ≡ layers
 
--- The fault that is read is the first one in the reading order: no fault stands before it.
+-- The fault that is read is the first one in the reading order: no fault is before it.
 abbrev pub FaultsComeFirst : Type 0
 FaultsComeFirst = (b : List ℕ) (fault : TileFault) → tile_of b ≡ Err fault → IsFirstFault b fault
 
--- a message is the fields that stand one after the other in its bytes, up to the end or up to a fault
+-- a message is the fields that its bytes have in order, up to the end or up to a fault
 abbrev pub MessagesAreCut : Type 0
 MessagesAreCut = (at : ℕ) (b : List ℕ) → AreFields at b (message at b).fields (message at b).fault
 
--- no key of a feature stands twice
+-- no key of a feature occurs twice
 abbrev pub KeysDiffer : Type 0
 KeysDiffer = (pairs : List (List ℕ × Data)) → HasDistinctKeys (put_all [] pairs)

@@ -1,4 +1,4 @@
--- A layer of a tile (Vector Tile 2.1, section 4.1 and the table of the message Layer).
+-- A layer of a tile. Source: Vector Tile 2.1 §4.1 and the table of the message Layer.
 use Rattle.std.specs.Prelude.{ℕ, List, [], ◌∷◌, ◌++◌, Option, Some, None, Result, Ok, if◌then◌else◌, nat_eq}
 use Rattle.std.specs.List.{list_any}
 use Rattle.std.specs.Str.{bytes_eq}
@@ -72,6 +72,6 @@ layer_end at earlier parts =
     name_of at parts.name then λ name. version_of at parts.version then λ _. new_name at earlier name then λ _.
     features_of parts.keys parts.values [] parts.features then λ features. Ok (record { name = name; features = features })
 
--- the layer after layers of these names, whose tag stands at `at` and whose content begins at `start`
+-- the layer after layers of these names, whose tag is at `at` and whose content begins at `start`
 abbrev pub layer_at : ℕ → ℕ → List (List ℕ) → List ℕ → Result TileLayer TileFault
 layer_at at start earlier content = read_fields layer_step no_parts (message start content) then layer_end at earlier

@@ -1,4 +1,5 @@
--- To be believed: the names of a tile's layers, a tile in the words of its format, and the first fault of other bytes.
+-- To be believed: the names of a tile's layers, a tile in the words of its format, and the first fault of
+-- other bytes.
 pub mod Names
 pub mod ShapeName
 pub mod Format

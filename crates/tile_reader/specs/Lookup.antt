@@ -52,7 +52,7 @@ ArePlaces places pairs = (i : ℕ) → i < length pairs → slice_index places (
 abbrev pub find_text : {X : Type 0} → BTreeMap (Bor (List ℕ)) X → List ℕ → Option X
 find_text places text = get_by (λ (k : Bor (List ℕ)). slice_cmp nat_cmp text k.now) places
 
--- a map from texts to the places where they stand first
+-- a map from texts to the places where they are first
 abbrev pub AreTextPlaces : BTreeMap (Bor (List ℕ)) ℕ → List (List ℕ) → Type 0
 AreTextPlaces places texts = (text : List ℕ) → find_text places text ≡ text_place text texts
 

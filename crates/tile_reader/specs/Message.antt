@@ -26,12 +26,13 @@ abbrev pub from_front : ℕ → Result (WireField × List ℕ) WireKind → (Wir
 from_front at (Err kind) others = broken_off (record { kind = kind; at = at })
 from_front at (Ok (field, rest)) others = field_before field (others field rest)
 
--- the fields of bytes that stand at this offset, at most so many
+-- the fields of bytes that are at this offset, at most `most`
 abbrev pub fields_within : ℕ → ℕ → List ℕ → Message
 fields_within most at [] = no_fields
 fields_within zero at (c ∷ b) = no_fields
 fields_within (suc most) at (c ∷ b) = from_front at (field_at at (c ∷ b)) (λ field rest. fields_within most field.end rest)
 
--- The fields of bytes that stand at this offset. A field has a byte at least, so they are no more than the bytes.
+-- The fields of bytes that are at this offset. A field has at least one byte, so there are no more fields
+-- than bytes.
 unfoldable pub message : ℕ → List ℕ → Message
 message at b = fields_within (length b) at b

@@ -1,4 +1,4 @@
--- The properties of a feature, by the keys and values of its layer (Vector Tile 2.1, section 4.4).
+-- The properties of a feature, by the keys and values of its layer. Source: Vector Tile 2.1 §4.4.
 use Rattle.std.specs.Prelude.{ℕ, ◌%◌, List, [], ◌∷◌, ◌++◌, length, Option, Some, None, Result, Ok, if◌then◌else◌, nat_eq, slice_get}
 use Rattle.std.specs.Str.{bytes_eq}
 use Rattle.prop_values.specs.Data.{Data}

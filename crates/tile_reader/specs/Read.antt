@@ -60,7 +60,7 @@ bits32_in at (bits64 n) = refused FieldType at
 bits32_in at (bytes b) = refused FieldType at
 bits32_in at (bits32 n) = Ok n
 
--- bytes that have to be a text (Vector Tile 2.1, section 4: texts are UTF-8)
+-- bytes that have to be a text. Source: Vector Tile 2.1 §4: texts are UTF-8.
 abbrev pub text_of : ℕ → List ℕ → Result (List ℕ) TileFault
 text_of at b = if is_utf8 b then Ok b else refused Utf8 at
 

@@ -1,4 +1,4 @@
--- A value of a layer (Vector Tile 2.1, section 4.1 and the table of the message Value).
+-- A value of a layer. Source: Vector Tile 2.1 §4.1 and the table of the message Value.
 use Rattle.std.specs.Prelude.{ℕ, ◌+◌, ◌-◌, ◌/◌, ◌%◌, ◌^◌, ℤ, pos, neg_ℤ, ◌*ℤ◌, List, not, Option, Some, None, Result, Ok, if◌then◌else◌, nat_eq, nat_lt}
 use Rattle.proto_wire.specs.Message.{WireField}
 use Rattle.prop_values.specs.Data.{Data}
@@ -34,16 +34,17 @@ from_int n = if nat_lt n (2 ^ 63) then pos n else neg_ℤ (pos (2 ^ 64 - n))
 abbrev pub from_zigzag : ℕ → ℤ
 from_zigzag n = if nat_eq (n % 2) 0 then pos (n / 2) else neg_ℤ (pos (n / 2 + 1))
 
--- no field of the value stood before
+-- the value had no field before
 abbrev pub first_field : ℕ → Option Data → Result (Unit {0}) TileFault
 first_field at None = Ok tt
 first_field at (Some value) = refused ValueKind at
 
--- a float or a double stands where its wire type is right
+-- a float or a double is where its wire type is right
 abbrev pub float_at : ℕ → Result ℕ TileFault → Result (Option Data) TileFault
 float_at at bits = bits then λ _. refused FloatValue at
 
--- What a field adds to a value: its wire type, then that no field stood before it, then that a text is UTF-8.
+-- What a field adds to a value: its wire type, then that there was no field before it, then that a text is
+-- UTF-8.
 abbrev pub value_field : ValueMember → Option Data → WireField → Result (Option Data) TileFault
 value_field String before field = bytes_in field.at field.payload then λ b. first_field field.at before then λ _. text_of field.at b then λ s. Ok (Some (held.text s))
 value_field Float before field = float_at field.at (bits32_in field.at field.payload)
@@ -63,6 +64,6 @@ value_end at (Some value) = Ok value
 abbrev pub value_step : Option Data → WireField → Result (Option Data) TileFault
 value_step before field = value_field (value_member field.number) before field
 
--- the value whose tag stands at `at` and whose content begins at `start`
+-- the value whose tag is at `at` and whose content begins at `start`
 abbrev pub value_at : ℕ → ℕ → List ℕ → Result Data TileFault
 value_at at start content = read_fields value_step None (message start content) then value_end at

@@ -25,13 +25,13 @@ abbrev pub Gives : {X Y : Type 0} → (X → Y) → Result X TileFault → Resul
 Gives seen (Ok x) read = read ≡ Ok (seen x)
 Gives seen (Err fault) read = read ≡ Err fault
 
--- the same of a reader that may lack memory
+-- the same of a reader that may fail to allocate
 abbrev pub GivesOrLacks : {X Y : Type 0} → (X → Y) → Result X (Halt TileFault) → Result Y TileFault → Type 0
 GivesOrLacks seen (Ok x) read = read ≡ Ok (seen x)
 GivesOrLacks seen (Err (Fault fault)) read = read ≡ Err fault
 GivesOrLacks seen (Err NoMemory) read = Unit {0}
 
--- what a step left behind, where it did not end early, is what is read there
+-- what a step left after, where it did not end early, is what is read there
 abbrev pub Leaves : {Y : Type 0} → Y → Result (Unit {0}) (Halt TileFault) → Result Y TileFault → Type 0
 Leaves new (Ok _) read = read ≡ Ok new
 Leaves new (Err (Fault fault)) read = read ≡ Err fault
@@ -58,7 +58,7 @@ value_seen (Flag b) = held.boolean b
 abbrev pub tagged_seen : TaggedFeature → List ℕ → Tagged
 tagged_seen feature tags = record { at = feature.at; id = feature.id; shape = feature.shape; tags = tags }
 
--- features whose tags stand one after the other
+-- features whose tags are one after the other
 abbrev pub tagged_all : List TaggedFeature → List ℕ → List Tagged
 tagged_all [] tags = []
 tagged_all (feature ∷ features) tags = tagged_seen feature (take feature.count tags) ∷ tagged_all features (drop feature.count tags)

@@ -7,7 +7,7 @@ use thiserror::Error;
 pub enum TileKind {
     /// The bytes of a field are none (Protocol Buffers, "Encoding").
     Wire(WireKind),
-    /// The bytes begin as a gzip file (RFC 1952): 1F 8B.
+    /// The bytes begin as a gzip file: 1F 8B. Source: RFC 1952 §2.3.1.
     Compressed,
     /// A layer without a name.
     NoName,
@@ -33,9 +33,9 @@ pub enum TileKind {
     GeometryType,
 }
 
-/// The first fault of a byte string, and where: the offset of the tag of the innermost field in which it stands. That
-/// is a layer's tag for what a layer lacks, a feature's tag for its tags, a value's tag for a value without a field,
-/// and 0 for `Compressed`.
+/// The first fault of a byte string, and where: the offset of the tag of the innermost field in which it is.
+/// That is a layer's tag for what a layer lacks, a feature's tag for its tags, a value's tag for a value
+/// without a field, and 0 for `Compressed`.
 #[derive(Clone, Copy, Debug, PartialEq, Eq, Error)]
 #[error("{kind:?} at byte {at}")]
 pub struct TileFault {

@@ -11,8 +11,8 @@ use halts::Halt;
 use proto_wire::{Field, Fields, Wire, varint};
 use std::alloc::AllocError;
 
-/// A feature whose tags are indices of its layer's keys and values. The tags of a layer's features stand one after the
-/// other in one vector.
+/// A feature whose tags are indices of its layer's keys and values. The tags of a layer's features are one
+/// after the other in one vector.
 #[derive(Clone, Copy)]
 pub(crate) struct TaggedFeature {
     /// The offset of its own tag.
@@ -23,7 +23,7 @@ pub(crate) struct TaggedFeature {
     pub(crate) shape: Shape,
 }
 
-/// The fields of a feature (Vector Tile 2.1, section 4.2).
+/// The fields of a feature. Source: Vector Tile 2.1 §4.2.
 #[derive(Clone, Copy)]
 enum FeatureMember {
     Id,
@@ -33,7 +33,7 @@ enum FeatureMember {
     Unknown,
 }
 
-/// The feature whose tag stands at `at` and whose content begins at `start`. Its tags go behind those before it.
+/// The feature whose tag is at `at` and whose content begins at `start`. Its tags go after those before it.
 pub(crate) fn read_feature(
     content: &[u8],
     start: usize,
@@ -120,7 +120,7 @@ fn add_tags(tags: &mut Vec<u64>, at: usize, wire: Wire<'_>) -> Result<(), Halt<T
     }
 }
 
-// Adds the numbers of a packed field, whose tag stands at `at`.
+// Adds the numbers of a packed field, whose tag is at `at`.
 fn add_packed(tags: &mut Vec<u64>, at: usize, content: &[u8]) -> Result<(), Halt<TileFault>>
     ensures { Leaves tags.new.items result (placed at (packed content.now) then λ more. Ok (tags.old.items ++ more)) }
 {

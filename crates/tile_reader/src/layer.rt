@@ -26,7 +26,7 @@ pub(crate) struct LayerParts<'a> {
     pub(crate) tags: Vec<u64>,
 }
 
-/// The fields of a layer (Vector Tile 2.1, section 4.1).
+/// The fields of a layer. Source: Vector Tile 2.1 §4.1.
 #[derive(Clone, Copy)]
 enum LayerMember {
     Name,
@@ -64,7 +64,7 @@ pub(crate) fn read_parts(
     Ok(parts)
 }
 
-// Adds what a field holds to a layer. The byte after the field stands at `end`.
+// Adds what a field holds to a layer. The byte after the field is at `end`.
 fn add_field<'a>(
     parts: &mut LayerParts<'a>,
     field: Field<'a>,
@@ -104,7 +104,7 @@ fn add_field<'a>(
     Ok(())
 }
 
-// Adds the feature whose tag stands at `at` and whose content begins at `start`, with its tags.
+// Adds the feature whose tag is at `at` and whose content begins at `start`, with its tags.
 fn add_feature(
     features: &mut Vec<TaggedFeature>,
     tags: &mut Vec<u64>,

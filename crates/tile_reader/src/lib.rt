@@ -1,4 +1,5 @@
-//! Reads Mapbox vector tiles (Vector Tile 2.1, versions 1 and 2): layers, features, ids, types and properties.
+//! Reads Mapbox vector tiles: layers, features, ids, types and properties. Source: Vector Tile 2.1, for
+//! layers of versions 1 and 2.
 //!
 //! ```text
 //! match read_tile(alloc, bytes)? {
@@ -7,16 +8,18 @@
 //! }
 //! ```
 //!
-//! What is promised: for all bytes the answer is the tile that they are, or the first fault in the reading order with its
-//! place, unless memory lacks. `IsTile` of `specs/Format.antt` says what a tile is in the words of its format, and
-//! `IsFirstFault` of `specs/FirstFault.antt` which fault comes first; `tile_of` of `specs/Tile.antt` is the function that
-//! they determine. Time is that of n log n in the bytes: each text is copied once, and all features that have it share it.
-//! `Tile::named` gives exactly the layer of a name, by an index.
+//! What is promised: for all bytes the answer is the tile that they are, or the first fault in the reading
+//! order with its place, unless allocation fails. `IsTile` of `specs/Format.antt` says what a tile is in the
+//! words of its format, and `IsFirstFault` of `specs/FirstFault.antt` which fault comes first; `tile_of` of
+//! `specs/Tile.antt` is the function that they determine. Time is that of n log n in the bytes: each text is
+//! copied once, and all features that have it share it. `Tile::named` gives exactly the layer of a name, by
+//! an index.
 //!
-//! The reading order: compressed bytes come first. Then the fields follow from left to right, and what stands inside a
-//! layer, feature or value is read where its field stands. At a field come its wire type, a float, a second field of a
-//! value, UTF-8, and the feature type, also where a later field replaces it. At the end of a layer come its name, its
-//! version and a repeated name, and then for each feature an odd number of tags and a tag without a key or value.
+//! The reading order: compressed bytes come first. Then the fields follow from left to right, and what is
+//! inside a layer, feature or value is read where its field is. At a field come its wire type, a float, a
+//! second field of a value, UTF-8, and the feature type, also where a later field replaces it. At the end of
+//! a layer come its name, its version and a repeated name, and then for each feature an odd number of tags
+//! and a tag without a key or value.
 //!
 //! The text to believe is in `specs/`: `Names`, `ShapeName`, `Format`, `FirstFault`; `Laws` joins it to what is read.
 #![tactic(auto)]

@@ -24,16 +24,16 @@ struct TagTable<'a> {
     firsts: &'a [usize],
 }
 
-/// The pairs of indices that a feature's properties are, and for each key of the layer the place of its pair. A place
-/// counts only where a pair of that key stands there, so nothing is cleared between features.
+/// The pairs of indices that a feature's properties are, and for each key of the layer the place of its pair.
+/// A place counts only where a pair of that key is there, so nothing is cleared between features.
 #[derive(Drop)]
 struct Choice {
     pairs: Vec<(usize, usize)>,
     places: Vec<usize>,
 }
 
-/// The features of a layer with these keys and values, whose tags are these. Each text is copied once, and all features
-/// share it.
+/// The features of a layer with these keys and values, whose tags are these. Each text is copied once, and
+/// all features share it.
 pub(crate) fn features(
     alloc: Global,
     keys: &[&str],
@@ -102,8 +102,8 @@ fn features_with(
     Ok(features)
 }
 
-// For each key the index of the first key with its text, so that later steps compare numbers. All texts are compared
-// here once for each layer.
+// For each key the index of the first key with its text, so that later steps compare numbers. All texts are
+// compared here once for each layer.
 fn first_places(alloc: Global, keys: &[&str]) -> Result<Vec<usize>, AllocError>
     ensures { IfOk result (λ firsts. AreFirsts firsts.items (texts_seen keys.now)) }
 {
@@ -116,7 +116,7 @@ fn first_places(alloc: Global, keys: &[&str]) -> Result<Vec<usize>, AllocError>
     Ok(firsts)
 }
 
-// The place of the first text that equals this one, which stands at `index`.
+// The place of the first text that equals this one, which is at `index`.
 fn first_place<'a>(
     places: &mut BTreeMap<&'a str, usize>,
     key: &'a str,
@@ -165,8 +165,9 @@ fn with_properties(
     })
 }
 
-// Chooses the indices of the key and the value of each property, in order. The answer is whether each tag has its key or
-// value. A repeated key keeps its first place and takes its last value, so that only what stays is taken later.
+// Chooses the indices of the key and the value of each property, in order. The answer is whether each tag has
+// its key or value. A repeated key keeps its first place and takes its last value, so that only what stays is
+// taken later.
 fn choose(
     keys: &[Text],
     values: &[Value],
@@ -244,7 +245,7 @@ fn put(
     Ok(())
 }
 
-// Where the pair of a key stands.
+// The place of the pair of a key.
 fn place_of(places: &[usize], chosen: &[(usize, usize)], key: usize) -> Option<usize>
     requires key { key < length places.now }
     requires places { ArePlaces places.now chosen.now }

@@ -63,7 +63,7 @@ fn read_message(alloc: Global, bytes: &[u8]) -> Result<Tile, Halt<TileFault>>
     Ok(tile)
 }
 
-// Adds the layer that a field holds, if it does. The byte after the field stands at `end`.
+// Adds the layer that a field holds, if it does. The byte after the field is at `end`.
 fn add_field(
     alloc: Global,
     tile: &mut Tile,
@@ -83,7 +83,7 @@ fn add_field(
     Ok(())
 }
 
-// Adds the layer of these parts, whose tag stands at `at`.
+// Adds the layer of these parts, whose tag is at `at`.
 fn add_layer(
     alloc: Global,
     tile: &mut Tile,

@@ -8,7 +8,7 @@ use prop_values::Entries;
 use std::alloc::{AllocError, Global};
 use std::marker::Model;
 
-/// The form of a feature's geometry (Vector Tile 2.1, section 4.3.4.1).
+/// The form of a feature's geometry. Source: Vector Tile 2.1 §4.3.4.1.
 #[derive(Clone, Copy, Debug, PartialEq, Eq)]
 pub enum Shape {
     Unknown,
@@ -46,14 +46,13 @@ pub struct Features {
     features: Vec<Feature>,
 }
 
-/// A layer of a tile.
 #[derive(Drop)]
 pub struct TileLayer {
     pub name: Text,
     pub features: Features,
 }
 
-/// The layers of a tile in order, which clauses see as a list. No name stands twice.
+/// The layers of a tile in order, which clauses see as a list. No name occurs twice.
 #[derive(Drop)]
 pub struct Tile {
     layers: Vec<TileLayer>,
@@ -169,8 +168,8 @@ impl Tile {
         self.layers.as_slice()
     }
 
-    /// The layer of a name, or `None` exactly where no layer has it. Takes constant time, or time logarithmic in the
-    /// layers where their names were chosen for it.
+    /// The layer of a name, or `None` exactly where no layer has it. Takes constant time, or time logarithmic
+    /// in the layers where their names were chosen for it.
     pub fn named(&self, name: &str) -> Option<&TileLayer>
         ensures { option_map (λ layer. layer.now) result ≡ layer_named name.now self.now }
     {

@@ -16,7 +16,7 @@ pub(crate) enum Held<'a> {
     Flag(bool),
 }
 
-/// The fields of a value (Vector Tile 2.1, section 4.1).
+/// The fields of a value. Source: Vector Tile 2.1 §4.1.
 #[derive(Clone, Copy)]
 enum ValueMember {
     String,
@@ -29,7 +29,7 @@ enum ValueMember {
     Unknown,
 }
 
-/// The value whose tag stands at `at` and whose content begins at `start`.
+/// The value whose tag is at `at` and whose content begins at `start`.
 pub(crate) fn read_value(content: &[u8], start: usize, at: usize) -> Result<Held<'_>, TileFault>
     requires { start + length content.now < 2 ^ 64 }
     ensures { Gives value_seen result (value_at at start content.now) }
@@ -107,7 +107,7 @@ fn value_member(number: u32) -> ValueMember
     }
 }
 
-// No field of the value stood before.
+// The value had no field before.
 fn first_field(at: usize, held: Option<Held<'_>>) -> Result<(), TileFault>
     ensures { Gives (λ _. tt) result (first_field at (option_map value_seen held.entry)) }
 {

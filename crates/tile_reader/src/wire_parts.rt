@@ -22,7 +22,7 @@ pub(crate) fn next_field<'a>(fields: &mut Fields<'a>) -> Result<Option<Field<'a>
     }
 }
 
-/// The fault of a known field of another wire type, whose tag stands at `at`.
+/// The fault of a known field of another wire type, whose tag is at `at`.
 pub(crate) fn wrong_type(at: usize) -> TileFault
     ensures { result ≡ record { kind = TileKind.FieldType; at = at } }
 {

@@ -84,7 +84,7 @@ Formed true d = is_text_or_list d ≡ true
 Formed false d = Unit {0}
 
 -- a value of an argument that is wanted as w, of kind k: is it a text or list where one is asked, and the
--- literal where one stands there
+-- literal where there is one
 pub record IsGiven (w : Want) (asked : Bool) (l : Option Data) (k : Kind) (d : Data) : Type 0 where
   pub wanted : is_of (wanted_kind w) d ≡ true
   pub kind : is_of k d ≡ true

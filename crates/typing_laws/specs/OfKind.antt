@@ -1,5 +1,5 @@
--- When a value is of a kind (MapLibre style specification, version 8, types of expressions, as this project
--- takes them).
+-- When a value is of a kind. Source: MapLibre style specification, version 8, types of expressions, as this
+-- project takes them.
 use Rattle.std.specs.Prelude.{◌≡◌, Bool, true, false, ◌&&◌}
 use Rattle.prop_values.specs.Data.{Data, null, boolean, number, text, color, list, map}
 use Rattle.prop_values.specs.declared.kinds.Kind.{Kind}

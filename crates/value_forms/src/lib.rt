@@ -6,8 +6,8 @@
 //! tested_type(Some(hillshade))    // None: its `layout` and `paint` pass unread
 //! ```
 //!
-//! What is promised, for all JSON trees, documents with findings too: each call gives exactly what the definition of its
-//! name says. Nothing takes memory.
+//! What is promised, for all JSON trees, documents with findings too: each call gives exactly what the
+//! definition of its name says. Nothing takes memory.
 //!
 //! The text to believe is in `specs/`: `LayerTypes`, `Forms`.
 #![tactic(auto)]

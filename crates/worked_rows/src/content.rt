@@ -5,7 +5,6 @@ use anyhow::{Context, Result, bail, ensure};
 use decimal_json::{Json, Members};
 use std::alloc::Global;
 
-/// The bytes of a content.
 pub fn content(alloc: Global, json: &Json) -> Result<Vec<u8>> {
     let mut bytes = Vec::new(alloc);
     match json {

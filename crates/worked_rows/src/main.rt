@@ -15,12 +15,14 @@
 //! | `status` | the exit status, a number |
 //! | `fails` | calls that fail: `{"files":[CALL,..],"out":[[CALL,BYTES],..],"err":[[CALL,BYTES],..]}` |
 //!
-//! A CALL is a number counted from 0, and BYTES says how many bytes a failing write still takes. `files` and `fails` may be left
-//! out, and so may each member of `fails`. A content is a piece or an array of pieces, which are joined; a piece is a text,
-//! `{"hex":"1a29"}`, or `{"times":COUNT,"of":PIECE}`, where that PIECE is one of the first two.
+//! A CALL is a number counted from 0, and BYTES says how many bytes a failing write still takes. `files` and
+//! `fails` may be left out, and so may each member of `fails`. A content is a piece or an array of pieces,
+//! which are joined; a piece is a text, `{"hex":"1a29"}`, or `{"times":COUNT,"of":PIECE}`, where that PIECE
+//! is one of the first two.
 //!
-//! Each row is run by `run_style` over files and sinks in memory. `ok NAME` is printed for it, or `FAILED NAME` and what differs;
-//! the exit status is 0 where no row failed. A line that is no row ends the run with an error.
+//! Each row is run by `run_style` over files and sinks in memory. `ok NAME` is printed for it, or
+//! `FAILED NAME` and what differs; the exit status is 0 where no row failed. A line that is no row ends the
+//! run with an error.
 #![tactic(auto)]
 
 mod content;

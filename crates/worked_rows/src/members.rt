@@ -3,7 +3,6 @@
 use anyhow::{Context, Result, bail};
 use decimal_json::{Json, Members};
 
-/// The member of this name.
 pub fn member<'a>(object: &'a Members, name: &str) -> Result<&'a Json> {
     object.get(name).context(format_args!("no {name}"))
 }

@@ -28,7 +28,6 @@ pub struct Wanted {
     pub status: u64,
 }
 
-/// The row of this line.
 pub fn read_row(alloc: Global, line: &str) -> Result<Row> {
     let Ok(json) = parse(alloc, line.as_bytes())? else {
         bail!("no JSON text");

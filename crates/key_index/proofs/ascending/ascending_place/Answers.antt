@@ -1,4 +1,4 @@
--- The key that is read tells which half lacks the key.
+-- The key that is compared decides which half lacks the key.
 use Rattle.std.proofs.Common.{◌≡◌, ◌∙◌, ◌+◌, ◌-◌, ◌<◌, ◌/◌, suc, sym, ap, subst, length, take, drop, get_or, arith, nat_cmp, Some}
 use Rattle.std.specs.Prelude.{map}
 use Rattle.std.specs.Cmp.Lexicographic.{slice_cmp}

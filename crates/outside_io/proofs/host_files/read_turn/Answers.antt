@@ -3,7 +3,7 @@ use Rattle.std.proofs.lemmas.List.{drop-take, with_items_is, places}
 use Rattle.std.specs.Io.KnownBytes.{Consumes}
 use Rattle.outside_io.proofs.host_files.read_turn.Goals as goal
 
--- what was read stands after what was there, and the rest of the room is cut off
+-- what was read follows what was there, and the rest of the room is cut off
 pub returns-in-Ok-clause-bytes : goal.returns-in-Ok-clause-bytes
 returns-in-Ok-clause-bytes g c =
     let start = c.len-start.result in

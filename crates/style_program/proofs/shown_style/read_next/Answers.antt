@@ -8,7 +8,7 @@ use Rattle.style_program.specs.declared.words.TileWord.{TileWord}
 use Rattle.style_program.proofs.TileRuns.{leads_turn, halts_turn}
 use Rattle.style_program.proofs.shown_style.read_next.Goals as goal
 
--- what stands past the end of words
+-- what is past the end of words
 abbrev past : TileWord
 past = record { source = record { ref_ptr = (0, 0); now = [] }; tile = record { ref_ptr = (0, 0); now = [] } }
 

@@ -5,7 +5,7 @@ use Rattle.style_program.specs.declared.words.TileWord.{TileWord}
 use Rattle.style_program.proofs.TileWords.{total, allowed, many_sources, many_tiles}
 use Rattle.style_program.proofs.words.are_allowed.Goals as goal
 
--- what stands past the end of tiles
+-- what is past the end of tiles
 abbrev past : TileWord
 past = record { source = record { ref_ptr = (0, 0); now = [] }; tile = record { ref_ptr = (0, 0); now = [] } }
 

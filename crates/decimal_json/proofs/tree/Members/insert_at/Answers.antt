@@ -1,4 +1,4 @@
--- The keys stay distinct, and the index stands for the members with the new one.
+-- The keys stay distinct, and the index represents the members with the new one.
 use Rattle.std.proofs.Common.{◌≡◌, sym, ap, ◌∙◌, subst}
 use Rattle.std.specs.Prelude.{insert}
 use Rattle.key_index.specs.Index.{IsIndexed}

@@ -1,4 +1,4 @@
--- The new entry stands behind the others: its key differs from theirs, and the index knows its place.
+-- The new entry follows the others: its key differs from theirs, and the index knows its place.
 use Rattle.std.proofs.Common.{◌≡◌, [], ◌∷◌, ◌++◌, sym, subst, ap, ◌∙◌}
 use Rattle.std.proofs.lemmas.List.{map-append}
 use Rattle.key_index.specs.Index.{IsIndexed}

@@ -1,4 +1,4 @@
--- The new layer stands behind the others: its name differs from theirs, and the index knows its place.
+-- The new layer follows the others: its name differs from theirs, and the index knows its place.
 use Rattle.std.proofs.Common.{◌≡◌, [], ◌∷◌, ◌++◌, sym, subst, ap, ◌∙◌}
 use Rattle.key_index.specs.Index.{IsIndexed}
 use Rattle.key_index.specs.Keys.{LacksKey, HasDistinctKeys}
