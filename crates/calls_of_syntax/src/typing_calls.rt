@@ -7,7 +7,7 @@ use expr_types::check;
 use prop_values::Want;
 use std::alloc::{AllocError, Global};
 
-// An expression, and whether a `global-state` stands in it.
+// An expression, and whether it has a `global-state`.
 const GLOBALS: [(&'static str, bool); 5] = [
     (r#"["global-state","a"]"#, true),
     (r#"["+",1,["number",["global-state","a"]]]"#, true),

@@ -27,7 +27,7 @@ impl Model for Links {
 
 impl Links {
     /// So many slots, each in no list, and so many empty lists. There can be at most 2^32 of both together;
-    /// for more, memory lacks.
+    /// more are answered as a failed allocation.
     pub fn new(alloc: Global, slots: u32, lists: u32) -> Result<Links, AllocError>
         ensures { IfOk result (λ links. links ≡ record { slots = slots; lists = replicate lists [] }) }
     {
