@@ -1,5 +1,5 @@
 -- The laws of types, by the form of the term.
-use Rattle.std.proofs.Common.{◌≡◌, ℕ, List, [], length, Option, Ok, Err, false, refl, arith, subst, ap, ◌∙◌}
+use Rattle.std.proofs.Common.{◌≡◌, ℕ, List, [], length, Bool, Option, Ok, Err, false, refl, arith, subst, ap, ◌∙◌}
 use Rattle.std.proofs.lemmas.Bool.{both_ways}
 use Rattle.decimal_json.specs.declared.paths.PathPart.{PathPart}
 use Rattle.prop_values.specs.Data.{Data, number, text, map, pairs_of}
