@@ -14,7 +14,7 @@ use Rattle.expr_types.specs.OwnTable.{own}
 use Rattle.expr_types.specs.Sequences.{sequence_fit}
 use Rattle.expr_types.specs.declared.fits.Fit.{Fit}
 use Rattle.expr_types.specs.declared.fits.Fit.TheVariants.{Always, Maybe, Never}
-use Rattle.expr_types.specs.Typing.{Found, Typed, Node, places_of, with_below, and_found, then_found, kinds_in, may_after, places_after, all_places, finished, finished_node, with_misfit, sequence_if, looked_at}
+use Rattle.expr_types.specs.Typing.{Found, Typed, Node, places_of, with_below, and_found, then_found, kinds_in, may_after, places_after, all_places, finished, finished_node, own_where, with_misfit, sequence_if, looked_at}
 use Rattle.expr_types.specs.TypedView.{Kinds, root_of, added, added_below, kinds_after, all_added}
 use Rattle.expr_types.specs.declared.fault.TypeFault.{TypeFault}
 use Rattle.expr_types.specs.declared.placed.Kinded.{Kinded}
@@ -78,27 +78,27 @@ pub may_is : (fs : List Found) (ks : List Kind) (may : FaultSet) → Ok (ks, may
 may_is fs ks may is = ap (λ r. (from_ok r (ks, may)).1) is
 
 -- a node of an operator without names
-pub plain_root : (op : Operator) (want : Want) (ls : List (Option Data)) (path : List PathPart) (founds : Result (List Found) TypeFault) (ks : List Kind) (may : FaultSet) → Ok (ks, may) ≡ kinds_after [] no_faults founds → finished_node op want (own op want ls ks) may path ≡ root_of (then_found founds (λ fs. finished op want (own op want ls (kinds_in fs)) fs path))
-plain_root op want ls path (Ok fs) ks may is =
+pub plain_root : (is_sequence : Bool) (op : Operator) (want : Want) (ls : List (Option Data)) (path : List PathPart) (founds : Result (List Found) TypeFault) (ks : List Kind) (may : FaultSet) → Ok (ks, may) ≡ kinds_after [] no_faults founds → finished_node op want (own_where is_sequence (own op want ls ks)) may path ≡ root_of (then_found founds (λ fs. finished op want (own_where is_sequence (own op want ls (kinds_in fs))) fs path))
+plain_root is_sequence op want ls path (Ok fs) ks may is =
     let these : ks ≡ kinds_in fs = kinds_are fs ks may is in
     let all : may ≡ may_after no_faults fs = may_is fs ks may is in
-    rw these (rw all (sym (root_below (all_places fs) (finished_node op want (own op want ls (kinds_in fs)) (may_after no_faults fs) path))))
-plain_root op want ls path (Err f) ks may is = absurd (cc)
+    rw these (rw all (sym (root_below (all_places fs) (finished_node op want (own_where is_sequence (own op want ls (kinds_in fs))) (may_after no_faults fs) path))))
+plain_root is_sequence op want ls path (Err f) ks may is = absurd (cc)
 
-pub plain_fault : (op : Operator) (want : Want) (ls : List (Option Data)) (path : List PathPart) (founds : Result (List Found) TypeFault) (e : TypeFault) → Err e ≡ kinds_after [] no_faults founds → Err e ≡ root_of (then_found founds (λ fs. finished op want (own op want ls (kinds_in fs)) fs path))
-plain_fault op want ls path (Ok fs) e is = absurd (cc)
-plain_fault op want ls path (Err f) e is = cc
+pub plain_fault : (is_sequence : Bool) (op : Operator) (want : Want) (ls : List (Option Data)) (path : List PathPart) (founds : Result (List Found) TypeFault) (e : TypeFault) → Err e ≡ kinds_after [] no_faults founds → Err e ≡ root_of (then_found founds (λ fs. finished op want (own_where is_sequence (own op want ls (kinds_in fs))) fs path))
+plain_fault is_sequence op want ls path (Ok fs) e is = absurd (cc)
+plain_fault is_sequence op want ls path (Err f) e is = cc
 
 below_by : (places : List Placed) (new : List Placed) (fs : List Found) (n : Node) (r : Node) → r ≡ n → new ≡ places_after places fs → IfOk r (λ k. Ok new ≡ added_below places (with_below (all_places fs) n))
 below_by places new fs (Ok k) r is here = rw is (ap Ok (here ∙ places_from places fs))
 below_by places new fs (Err f) r is here = rw is tt
 
-pub plain_places : (op : Operator) (want : Want) (ls : List (Option Data)) (path : List PathPart) (founds : Result (List Found) TypeFault) (ks : List Kind) (may : FaultSet) (old new : List Placed) (r : Node) → Ok (ks, may) ≡ kinds_after [] no_faults founds → Ok new ≡ all_added old founds → r ≡ finished_node op want (own op want ls ks) may path → IfOk r (λ k. Ok new ≡ added_below old (then_found founds (λ fs. finished op want (own op want ls (kinds_in fs)) fs path)))
-plain_places op want ls path (Ok fs) ks may old new r is here same =
+pub plain_places : (is_sequence : Bool) (op : Operator) (want : Want) (ls : List (Option Data)) (path : List PathPart) (founds : Result (List Found) TypeFault) (ks : List Kind) (may : FaultSet) (old new : List Placed) (r : Node) → Ok (ks, may) ≡ kinds_after [] no_faults founds → Ok new ≡ all_added old founds → r ≡ finished_node op want (own_where is_sequence (own op want ls ks)) may path → IfOk r (λ k. Ok new ≡ added_below old (then_found founds (λ fs. finished op want (own_where is_sequence (own op want ls (kinds_in fs))) fs path)))
+plain_places is_sequence op want ls path (Ok fs) ks may old new r is here same =
     let these : ks ≡ kinds_in fs = kinds_are fs ks may is in
     let all : may ≡ may_after no_faults fs = may_is fs ks may is in
-    below_by old new fs (finished_node op want (own op want ls (kinds_in fs)) (may_after no_faults fs) path) r (same ∙ (ap (λ js. finished_node op want (own op want ls js) may path) these ∙ ap (λ m. finished_node op want (own op want ls (kinds_in fs)) m path) all)) (cc)
-plain_places op want ls path (Err f) ks may old new r is here same = absurd (cc)
+    below_by old new fs (finished_node op want (own_where is_sequence (own op want ls (kinds_in fs))) (may_after no_faults fs) path) r (same ∙ (ap (λ js. finished_node op want (own_where is_sequence (own op want ls js)) may path) these ∙ ap (λ m. finished_node op want (own_where is_sequence (own op want ls (kinds_in fs))) m path) all)) (cc)
+plain_places is_sequence op want ls path (Err f) ks may old new r is here same = absurd (cc)
 
 -- an argument that is looked at
 pub looked_root : (b : Bool) (t : Typed) (k : Kinded) (path : List PathPart) → Ok k ≡ root_of t → sequence_if b k path ≡ root_of (looked_at b t path)

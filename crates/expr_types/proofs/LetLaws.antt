@@ -13,7 +13,7 @@ use Rattle.expr_syntax.specs.declared.expression.Operator.{Operator}
 use Rattle.expr_syntax.specs.declared.expression.Operator.TheVariants.{Let}
 use Rattle.expr_types.specs.Fits.{branch_kind}
 use Rattle.expr_types.specs.LiteralView.{typings_of}
-use Rattle.expr_types.specs.Typing.{Found, Typed, Typing, Scope, Node, fault, kinded, places_of, typed, founds_of, and_found, then_found, kinds_in, all_may, may_after, all_places, places_after, frame, argument_typed, with_bindings, body_typed, let_typed}
+use Rattle.expr_types.specs.Typing.{Found, Typed, Typing, Scope, Node, fault, kinded, places_of, typed_as, founds_of, and_found, then_found, kinds_in, all_may, may_after, all_places, places_after, frame, argument_typed, with_bindings, body_typed, let_typed}
 use Rattle.expr_types.specs.TypedView.{root_of, added, added_below, kinds_after, all_added}
 use Rattle.expr_types.specs.declared.fault.TypeCode.TheVariants as codes
 use Rattle.expr_types.specs.declared.fault.TypeFault.{TypeFault}
@@ -65,7 +65,7 @@ places_with want fs (Err g) old new last here then = tt
 
 -- the body as its own clause has it
 abbrev pub body_in : List (List ℕ) → List Kind → Expr → Want → Scope → List PathPart → Typed
-body_in names ks body want scope path = argument_typed (Let names) (length names + 1) (length names) (typed (term_of body)) want (frame names ks ∷ scope) path
+body_in names ks body want scope path = argument_typed (Let names) (length names + 1) (length names) (typed_as (term_of body)) want (frame names ks ∷ scope) path
 
 let_root_by : (names : List (List ℕ)) (body : Expr) (founds : Result (List Found) TypeFault) (want : Want) (scope : Scope) (path : List PathPart) (ks : List Kind) (may : FaultSet) (k : Kinded) → Ok (ks, may) ≡ kinds_after [] no_faults founds → Ok k ≡ root_of (body_in names ks body want scope path) → Ok (kinded want (branch_kind want k.kind) (union may k.may) true) ≡ root_of (then_found founds (λ fs. body_typed names (typings_of (body ∷ [])) fs want scope path))
 let_root_by names body (Ok fs) want scope path ks may k found is =

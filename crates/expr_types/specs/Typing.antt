@@ -42,8 +42,9 @@ Typed = Result Found TypeFault
 abbrev pub Scope : Type 0
 Scope = List (List (List ℕ × Kind))
 
+-- an expression: whether it has to be a text or a list, its want, the names around it, and its path
 abbrev pub Typing : Type 0
-Typing = Want → Scope → List PathPart → Typed
+Typing = Bool → Want → Scope → List PathPart → Typed
 
 abbrev pub fault : (A : Type 0) → List PathPart → TypeCode → Result A TypeFault
 fault A path code = Err (record { path = path; code = code })
@@ -85,6 +86,15 @@ abbrev pub with_below : List Placed → Node → Typed
 with_below below (Ok k) = Ok (record { node = k; below = below })
 with_below below (Err f) = Err f
 
+-- A text or a list is asked under Any, so that a node has its own kind there: one of another kind has the code Kind,
+-- also where it has a later code of its own, as `==` in `["length", ["==", ["literal", [1]], 1]]`.
+abbrev pub unless_misfit : Fit → Own → Own
+unless_misfit Never own = record own { code = Some codes.Kind }
+unless_misfit fit own = own
+
+abbrev pub own_where : Bool → Own → Own
+own_where is_sequence own = if is_sequence then unless_misfit (sequence_fit own.kind) own else own
+
 -- ---- arguments
 
 -- the want of an argument, in a node under a want
@@ -118,9 +128,9 @@ is_place None k = false
 abbrev pub is_sequence_of : Operator → ℕ → Bool
 is_sequence_of op k = is_place (row (operator_name op)).sequence k
 
-abbrev pub argument_typed : Operator → ℕ → ℕ → Typing → Typing
+abbrev pub argument_typed : Operator → ℕ → ℕ → Typing → Want → Scope → List PathPart → Typed
 argument_typed op m k typing want scope path =
-    looked_at (is_sequence_of op k) (typing (argument_want op m k want) scope (argument_path op m k path)) (argument_path op m k path)
+    looked_at (is_sequence_of op k) (typing (is_sequence_of op k) (argument_want op m k want) scope (argument_path op m k path)) (argument_path op m k path)
 
 abbrev pub and_found : Typed → Result (List Found) TypeFault → Result (List Found) TypeFault
 and_found (Ok found) (Ok founds) = Ok (found ∷ founds)
@@ -198,11 +208,11 @@ abbrev pub finished : Operator → Want → Own → List Found → List PathPart
 finished op want own founds path = with_below (all_places founds) (finished_node op want own (all_may founds) path)
 
 abbrev pub plain_typed : Operator → List (Option Data) → List Typing → Typing
-plain_typed op ls typings want scope path =
+plain_typed op ls typings is_sequence want scope path =
     then_found (founds_of op (length typings) 0 typings want scope path) (λ founds.
-    finished op want (own op want ls (kinds_in founds)) founds path)
+    finished op want (own_where is_sequence (own op want ls (kinds_in founds))) founds path)
 
--- `let`: the body, in the names of the bindings
+-- `let`: the body, in the names of the bindings; a code of the body is at another node
 abbrev pub with_bindings : Want → List Found → Typed → Typed
 with_bindings want founds (Ok body) = Ok (record {
   node = kinded want (branch_kind want body.node.kind) (union (all_may founds) body.node.may) true;
@@ -210,20 +220,20 @@ with_bindings want founds (Ok body) = Ok (record {
 })
 with_bindings want founds (Err f) = Err f
 
-abbrev pub body_typed : List (List ℕ) → List Typing → List Found → Typing
+abbrev pub body_typed : List (List ℕ) → List Typing → List Found → Want → Scope → List PathPart → Typed
 body_typed names (body ∷ []) founds want scope path =
     with_bindings want founds (argument_typed (Let names) (length names + 1) (length names) body want (frame names (kinds_in founds) ∷ scope) path)
 body_typed names typings founds want scope path = fault Found path codes.Kind
 
-abbrev pub let_typed : List (List ℕ) → List Typing → Typing
+abbrev pub let_typed : List (List ℕ) → List Typing → Want → Scope → List PathPart → Typed
 let_typed names typings want scope path =
     then_found (founds_of (Let names) (length typings) 0 (take (length names) typings) want scope path) (λ founds.
     body_typed names (drop (length names) typings) founds want scope path)
 
 abbrev pub node_typed : Operator → List (Option Data) → List Typing → Typing
-node_typed (Let names) ls typings want scope path = let_typed names typings want scope path
-node_typed (Var name) ls typings want scope path = with_below [] (fitted want (own_named scope name) no_faults path)
-node_typed op ls typings want scope path = plain_typed op ls typings want scope path
+node_typed (Let names) ls typings is_sequence want scope path = let_typed names typings want scope path
+node_typed (Var name) ls typings is_sequence want scope path = with_below [] (fitted want (own_named scope name) no_faults path)
+node_typed op ls typings is_sequence want scope path = plain_typed op ls typings is_sequence want scope path
 
 abbrev pub literal_of : Term → Option Data
 literal_of (literal d) = Some d
@@ -234,10 +244,14 @@ literals no_terms = []
 literals (term t ts) = literal_of t ∷ literals ts
 
 abbrev mutual
-  pub typed : Term → Typing
-  typed (literal d) = λ want scope path. with_below [] (literal_node d want path)
-  typed (node op ts) = λ want scope path. node_typed op (literals ts) (typings ts) want scope path
+  pub typed_as : Term → Typing
+  typed_as (literal d) = λ is_sequence want scope path. with_below [] (literal_node d want path)
+  typed_as (node op ts) = λ is_sequence want scope path. node_typed op (literals ts) (typings ts) is_sequence want scope path
 
   pub typings : Terms → List Typing
   typings no_terms = []
-  typings (term t ts) = typed t ∷ typings ts
+  typings (term t ts) = typed_as t ∷ typings ts
+
+-- where no text or list is asked
+abbrev pub typed : Term → Want → Scope → List PathPart → Typed
+typed t = typed_as t false

@@ -3,7 +3,7 @@
 ghost use Rattle.std.specs.Prelude.{◌≡◌, ◌<◌, ◌^◌, [], length, take, drop, IfOk, Ok};
 ghost use Rattle.decimal_json.specs.Place.{path_of};
 ghost use Rattle.expr_syntax.specs.declared.expression.Operator.TheVariants as operators;
-ghost use Rattle.expr_types.specs.Typing.{argument_want, handed, finished_node, sequence_if, is_sequence_of};
+ghost use Rattle.expr_types.specs.Typing.{argument_want, handed, finished_node, own_where, sequence_if, is_sequence_of};
 ghost use Rattle.prop_values.specs.Faults.{no_faults};
 ghost use Rattle.expr_types.specs.TypedView.{typed_of, node_of, founds_in, root_of, added, added_below, kinds_after, kinds_of, all_added, plain_of, let_of, body_of, argument_found, found_at};
 
@@ -11,7 +11,7 @@ use crate::argument_paths::{element_at, key_at};
 use crate::bindings::Bound;
 use crate::fault::{TypeCode, TypeFault};
 use crate::nodes::{
-    as_sequence, branched, count, fitted, is_branching, literal_node, refused, settle,
+    as_sequence, branched, count, fitted, is_branching, literal_node, own_where, refused, settle,
     with_bindings,
 };
 use crate::own::Own;
@@ -35,6 +35,7 @@ pub(crate) struct ArgumentKinds {
 #[derive(Drop)]
 pub(crate) struct NodeContext<'x> {
     op: &'x Operator,
+    is_sequence: bool,
     want: Want,
     scope: &'x Scope<'x>,
     here: &'x Here<'x>,
@@ -55,12 +56,13 @@ impl Checking {
     pub(crate) fn check_expression<'x>(
         &mut self,
         expression: &'x Expr,
+        is_sequence: bool,
         want: &Want,
         scope: &'x Scope<'x>,
         here: &'x Here<'x>,
     ) -> Result<Result<Kinded, TypeFault>, AllocError>
-        ensures node { IfOk result (λ r. r ≡ root_of (typed_of expression.now want.now scope.now here.now)) }
-        ensures places { IfOk result (λ r. IfOk r (λ _. Ok self.new.places.items ≡ added self.old.places.items (typed_of expression.now want.now scope.now here.now))) }
+        ensures node { IfOk result (λ r. r ≡ root_of (typed_of expression.now is_sequence want.now scope.now here.now)) }
+        ensures places { IfOk result (λ r. IfOk r (λ _. Ok self.new.places.items ≡ added self.old.places.items (typed_of expression.now is_sequence want.now scope.now here.now))) }
     {
         match expression {
             Expr::Literal(value) => match literal_node(self.alloc, value, want, here)? {
@@ -73,6 +75,7 @@ impl Checking {
             Expr::Node(op, arguments) => {
                 let context = NodeContext {
                     op,
+                    is_sequence,
                     want: *want,
                     scope: &*scope,
                     here: &*here,
@@ -200,6 +203,7 @@ impl Checking {
         let scope = Scope::Inside(Bound { names, kinds }, &*context.scope);
         let inside = NodeContext {
             op: &*context.op,
+            is_sequence: context.is_sequence,
             want: context.want,
             scope: &scope,
             here: &*context.here,
@@ -272,8 +276,9 @@ impl Checking {
         ensures places { IfOk result (λ r. IfOk r (λ _. Ok self.new.places.items ≡ added self.old.places.items (found_at context.now count place argument.now (path_of there.now)))) }
     {
         let own = argument_want(context.op, count, place, &context.want);
-        match self.check_expression(argument, &own, context.scope, there)? {
-            Ok(node) => looked_at(self.alloc, is_sequence(context.op, place), node, there),
+        let asked = is_sequence(context.op, place);
+        match self.check_expression(argument, asked, &own, context.scope, there)? {
+            Ok(node) => looked_at(self.alloc, asked, node, there),
             Err(fault) => Ok(Err(fault)),
         }
     }
@@ -285,8 +290,9 @@ fn finished(
     own: Own,
     may: FaultSet,
 ) -> Result<Result<Kinded, TypeFault>, AllocError>
-    ensures { IfOk result (λ node. node ≡ finished_node context.now.op.now context.now.want own may (path_of context.now.here.now)) }
+    ensures { IfOk result (λ node. node ≡ finished_node context.now.op.now context.now.want (own_where context.now.is_sequence own) may (path_of context.now.here.now)) }
 {
+    let own = own_where(context.is_sequence, own);
     if is_branching(context.op) {
         branched(alloc, &context.want, own, may, context.here)
     } else {

@@ -5,7 +5,7 @@ ghost use Rattle.decimal_json.specs.Place.{path_of};
 ghost use Rattle.prop_values.specs.Faults.{union};
 ghost use Rattle.prop_values.specs.View.{data_of};
 ghost use Rattle.expr_types.specs.Fits.{branch_kind};
-ghost use Rattle.expr_types.specs.Typing.{fault, kinded, fitted, branched, literal_node, as_sequence, is_branching};
+ghost use Rattle.expr_types.specs.Typing.{fault, kinded, fitted, branched, literal_node, own_where, as_sequence, is_branching};
 ghost use Rattle.expr_types.specs.declared.placed.Kinded.{Kinded as FoundNode};
 
 use crate::fault::{TypeCode, TypeFault};
@@ -114,6 +114,19 @@ pub(crate) fn literal_node(
             FaultSet::empty(),
             here,
         )
+    }
+}
+
+/// What a node has of its own, where a text or a list has to come or not: of another kind it has the code `Kind`, before any other.
+pub(crate) fn own_where(is_sequence: bool, own: Own) -> Own
+    ensures { result ≡ own_where is_sequence own }
+{
+    match sequence_fit(own.kind) {
+        Fit::Never if is_sequence => Own {
+            code: Some(TypeCode::Kind),
+            ..own
+        },
+        _ => own,
     }
 }
 

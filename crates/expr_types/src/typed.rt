@@ -156,7 +156,7 @@ fn check_under<'a>(
         alloc,
         places: Vec::new(alloc),
     };
-    match checking.check_expression(expression, want, &Scope::Empty, &Here::Root)? {
+    match checking.check_expression(expression, false, want, &Scope::Empty, &Here::Root)? {
         Ok(node) => Ok(Ok(Typed {
             expression,
             want: *want,

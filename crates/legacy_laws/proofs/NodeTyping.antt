@@ -23,7 +23,7 @@ use Rattle.expr_types.specs.Fits.{fits}
 use Rattle.expr_types.specs.Own.{owns, common_kind}
 use Rattle.expr_types.specs.OwnTable.{own}
 use Rattle.expr_types.specs.Typing.{Found, Typed, Scope, fit_or, looked_at, is_sequence_of, argument_want, and_found}
-use Rattle.expr_types.specs.Typing.{founds_of, kinds_in, all_may, all_places, then_found, finished, typed, typings}
+use Rattle.expr_types.specs.Typing.{founds_of, kinds_in, all_may, all_places, then_found, finished, typed_as, typed, typings}
 use Rattle.expr_types.specs.Typing.{literals}
 use Rattle.expr_types.specs.declared.fault.TypeFault.{TypeFault}
 use Rattle.legacy_functions.specs.Function.{Input, flag, number, word}
@@ -210,7 +210,7 @@ module _ (want : Want) (scope : Scope) (path : List PathPart) where
   abbrev and_later : Operator → ℕ → ℕ → Term → Founds → Founds
   and_later op m k e later =
       let inner = argument_path op m k path in
-      and_found (looked_at (is_sequence_of op k) (typed e (argument_want op m k want) scope inner) inner) later
+      and_found (looked_at (is_sequence_of op k) (typed_as e (is_sequence_of op k) (argument_want op m k want) scope inner) inner) later
 
   -- an argument whose want is known
   pub wanted_is_ok : (op : Operator) (m k : ℕ) (e : Term) (w : Want) (later : Founds) → argument_want op m k want ≡ w
@@ -220,7 +220,7 @@ module _ (want : Want) (scope : Scope) (path : List PathPart) where
       let inner = argument_path op m k path in
       let one : IsOk (typed e (argument_want op m k want) scope inner) =
       subst (λ v. IsOk (typed e v scope inner)) (sym is) (h scope inner) in
-      subst (λ b. IsOk (and_found (looked_at b (typed e (argument_want op m k want) scope inner) inner) later)) (sym plain_one)
+      subst (λ b. IsOk (and_found (looked_at b (typed_as e b (argument_want op m k want) scope inner) inner) later)) (sym plain_one)
       (argument_is_ok (typed e (argument_want op m k want) scope inner) inner later one rest)
 
   outputs_are_ok : (op : Operator) → ((m k : ℕ) → 0 < k → argument_want op m k want ≡ want)

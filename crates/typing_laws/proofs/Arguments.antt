@@ -50,9 +50,9 @@ NamesOf S _ _ = ⊥
 
 abbrev pub Agree : FaultSet → Typing → Meaning → Type 0
 Agree S t m =
-    (w : Want) (scope : Scope) (path : List PathPart) (names : Names) (world : World) →
+    (asked : Bool) (w : Want) (scope : Scope) (path : List PathPart) (names : Names) (world : World) →
     NamesOf S scope names →
-    ResultOf S w (t w scope path) (m w names world)
+    ResultOf S w (t asked w scope path) (m w names world)
 
 abbrev pub AllAgree : FaultSet → List Typing → List Meaning → Type 0
 AllAgree S [] [] = Unit {0}
@@ -204,11 +204,11 @@ module _ (S : FaultSet) where
   argument_by : (x y : Want) → x ≡ y → (a b : Bool) → a ≡ b → (l : Option Data) (t : Typing) (me : Meaning) →
       Agree S t me → LiteralMeans l me →
       (scope : Scope) (path : List PathPart) (names : Names) (world : World) → NamesOf S scope names →
-      LookedIn S y a l (typed_look a (t x scope path) path) (looked_at b (me y names world))
+      LookedIn S y a l (typed_look a (t a x scope path) path) (looked_at b (me y names world))
   argument_by x y e a b q l t me h g scope path names world n =
-      subst (λ c. LookedIn S y a l (typed_look a (t x scope path) path) (looked_at c (me y names world))) q
-      (subst (λ v. LookedIn S v a l (typed_look a (t x scope path) path) (looked_at a (me v names world))) e
-      (looked_ok a x l (t x scope path) path (me x names world) (h x scope path names world n)
+      subst (λ c. LookedIn S y a l (typed_look a (t a x scope path) path) (looked_at c (me y names world))) q
+      (subst (λ v. LookedIn S v a l (typed_look a (t a x scope path) path) (looked_at a (me v names world))) e
+      (looked_ok a x l (t a x scope path) path (me x names world) (h a x scope path names world n)
       (g x names world)))
 
   pub argument_ok : (op : Operator) (m k : ℕ) (l : Option Data) (t : Typing) (me : Meaning) → Agree S t me →

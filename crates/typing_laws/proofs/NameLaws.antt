@@ -183,7 +183,8 @@ module _ (S : FaultSet) where
 
   pub let_ok : (bs : List (List ℕ)) (ls : List (Option Data)) (ts : List Typing) (ms : List Meaning) →
       length ts ≡ length bs + 1 → LiteralsOf ls ms → AllAgree S ts ms →
-      Agree S (let_typed bs ts) (let_of bs ms)
+      (w : Want) (scope : Scope) (path : List PathPart) (names : Names) (world : World) →
+      NamesOf S scope names → ResultOf S w (let_typed bs ts w scope path) (let_of bs ms w names world)
   let_ok bs ls ts ms e g h w scope path names world n =
       let b = length bs in
       then_ok S (ops.Let bs) (length ts) 0 w w names world (take b ls) (take b ms)

@@ -12,7 +12,10 @@ use Rattle.property_tables.specs.Fitting.{fit}
 use Rattle.expr_syntax.specs.declared.expression.Operator.{Operator}
 use Rattle.expr_syntax.specs.Operators.{wanted_by, want_of}
 use Rattle.expr_types.specs.OwnTable.{own}
-use Rattle.expr_types.specs.Typing.{Found, Scope, Typing, handed, is_sequence_of, founds_of, kinds_in, all_may, finished, finished_node, is_branching, plain_typed, all_places}
+use Rattle.expr_types.specs.Sequences.{sequence_fit}
+use Rattle.expr_types.specs.Typing.{Found, Scope, Typing, handed, unless_misfit, own_where, is_sequence_of, founds_of, kinds_in, all_may, finished, finished_node, is_branching, plain_typed, all_places}
+use Rattle.expr_types.specs.declared.fits.Fit.{Fit}
+use Rattle.expr_types.specs.declared.fits.Fit.TheVariants.{Always, Maybe, Never}
 use Rattle.expr_types.specs.declared.own.Own.{Own}
 use Rattle.operator_values.specs.Evaluated.{Evaluated, then_value}
 use Rattle.eval_face.specs.Meanings.{Meaning, argument_of, then_values, and_values, values_of}
@@ -47,6 +50,29 @@ module _ (S : FaultSet) where
 
   -- ---- nodes, by what their operator gives of the arguments
 
+  -- where a text or a list is asked, a node has a code more at most
+  fit_kept : (f : Fit) (w : Want) (own' : Own) (o : Evaluated) → OwnIn S w own' o →
+      OwnIn S w (unless_misfit f own') o
+  fit_kept Always w own' o h = h
+  fit_kept Maybe w own' o h = h
+  fit_kept Never w own' o h = λ none. absurd (cc)
+
+  own_kept : (asked : Bool) (w : Want) (own' : Own) (o : Evaluated) → OwnIn S w own' o →
+      OwnIn S w (own_where asked own') o
+  own_kept true w own' o h = fit_kept (sequence_fit own'.kind) w own' o h
+  own_kept false w own' o h = h
+
+  branch_fit_kept : (f : Fit) (w : Want) (own' : Own) (o : Evaluated) → BranchIn S w own' o →
+      BranchIn S w (unless_misfit f own') o
+  branch_fit_kept Always w own' o h = h
+  branch_fit_kept Maybe w own' o h = h
+  branch_fit_kept Never w own' o h = λ none. absurd (cc)
+
+  branch_kept : (asked : Bool) (w : Want) (own' : Own) (o : Evaluated) → BranchIn S w own' o →
+      BranchIn S w (own_where asked own') o
+  branch_kept true w own' o h = branch_fit_kept (sequence_fit own'.kind) w own' o h
+  branch_kept false w own' o h = h
+
   fitted_by : (b : Bool) → b ≡ false →
       (op : Operator) (w : Want) (own' : Own) (founds : List Found) (path : List PathPart) (o : Evaluated) →
       is_branching op ≡ b → (Within S (all_may founds) → OwnIn S wants.Any own' o) →
@@ -65,31 +91,33 @@ module _ (S : FaultSet) where
 
   pub fitted_node : (op : Operator) → is_branching op ≡ false →
       (ls : List (Option Data)) (ts : List Typing) (ms : List Meaning) → LiteralsOf ls ms → AllAgree S ts ms →
-      (w : Want) (scope : Scope) (path : List PathPart) (names : Names) (world : World) →
+      (asked : Bool) (w : Want) (scope : Scope) (path : List PathPart) (names : Names) (world : World) →
       NamesOf S scope names → (o : Evaluated) → ((js : List Kind) → AreGiven S op (length ms) 0 (handed op w)
       names world ls js ms → OwnIn S wants.Any (own op w ls js) o) →
-      ResultOf S w (plain_typed op ls ts w scope path) (then_value o (fit w))
-  fitted_node op plain ls ts ms g h w scope path names world n o law =
+      ResultOf S w (plain_typed op ls ts asked w scope path) (then_value o (fit w))
+  fitted_node op plain ls ts ms g h asked w scope path names world n o law =
       then_ok S op (length ms) 0 w (handed op w) names world ls ms
       (founds_of op (length ts) 0 ts w scope path)
-      (λ founds. finished op w (own op w ls (kinds_in founds)) founds path) (then_value o (fit w))
+      (λ founds. finished op w (own_where asked (own op w ls (kinds_in founds))) founds path) (then_value o (fit w))
       (node_founds op ls ts ms g h w scope path names world n)
-      (λ founds given. fitted_by false refl op w (own op w ls (kinds_in founds)) founds path o plain
-      (λ all. law (kinds_in founds) (given (within_all S founds all))))
+      (λ founds given. fitted_by false refl op w (own_where asked (own op w ls (kinds_in founds))) founds path o
+      plain (λ all. own_kept asked wants.Any (own op w ls (kinds_in founds)) o
+      (law (kinds_in founds) (given (within_all S founds all)))))
 
   pub branched_node : (op : Operator) → is_branching op ≡ true →
       (ls : List (Option Data)) (ts : List Typing) (ms : List Meaning) → LiteralsOf ls ms → AllAgree S ts ms →
-      (w : Want) (scope : Scope) (path : List PathPart) (names : Names) (world : World) →
+      (asked : Bool) (w : Want) (scope : Scope) (path : List PathPart) (names : Names) (world : World) →
       NamesOf S scope names → (o : Evaluated) → ((js : List Kind) → AreGiven S op (length ms) 0 (handed op w)
       names world ls js ms → BranchIn S w (own op w ls js) o) →
-      ResultOf S w (plain_typed op ls ts w scope path) o
-  branched_node op branching ls ts ms g h w scope path names world n o law =
+      ResultOf S w (plain_typed op ls ts asked w scope path) o
+  branched_node op branching ls ts ms g h asked w scope path names world n o law =
       then_ok S op (length ms) 0 w (handed op w) names world ls ms
       (founds_of op (length ts) 0 ts w scope path)
-      (λ founds. finished op w (own op w ls (kinds_in founds)) founds path) o
+      (λ founds. finished op w (own_where asked (own op w ls (kinds_in founds))) founds path) o
       (node_founds op ls ts ms g h w scope path names world n)
-      (λ founds given. branched_by true refl op w (own op w ls (kinds_in founds)) founds path o branching
-      (λ all. law (kinds_in founds) (given (within_all S founds all))))
+      (λ founds given. branched_by true refl op w (own_where asked (own op w ls (kinds_in founds))) founds path o
+      branching (λ all. branch_kept asked w (own op w ls (kinds_in founds)) o
+      (law (kinds_in founds) (given (within_all S founds all)))))
 
   -- ---- all arguments evaluated
 
@@ -153,13 +181,13 @@ module _ (S : FaultSet) where
       (apply : World → List Data → Evaluated) → Applies S op apply →
       (bound : List (List ℕ)) (ls : List (Option Data)) (ts : List Typing) (ms : List Meaning) →
       IsSoundNode bound op (length ms) → LiteralsOf ls ms → AllAgree S ts ms →
-      (w : Want) (scope : Scope) (path : List PathPart) (names : Names) (world : World) →
-      NamesOf S scope names → ResultOf S w (plain_typed op ls ts w scope path)
+      (asked : Bool) (w : Want) (scope : Scope) (path : List PathPart) (names : Names) (world : World) →
+      NamesOf S scope names → ResultOf S w (plain_typed op ls ts asked w scope path)
       (then_values (values_of op (length ms) 0 ms w names world) (λ ds. then_value (apply world ds) (fit w)))
-  each_node op plain own_want apply law bound ls ts ms sound g h w scope path names world n =
-      subst (λ o. ResultOf S w (plain_typed op ls ts w scope path) o)
+  each_node op plain own_want apply law bound ls ts ms sound g h asked w scope path names world n =
+      subst (λ o. ResultOf S w (plain_typed op ls ts asked w scope path) o)
       (then_same (values_of op (length ms) 0 ms w names world) (apply world) w)
-      (fitted_node op plain ls ts ms g h w scope path names world n
+      (fitted_node op plain ls ts ms g h asked w scope path names world n
       (then_values (values_of op (length ms) 0 ms w names world) (apply world))
       (λ js given.
       let given' = subst (λ v. AreGiven S op (length ms) 0 v names world ls js ms) (own_want w) given in

@@ -1,5 +1,5 @@
 -- What is known of an expression is known of each of its nodes.
-use Rattle.std.proofs.Common.{◌≡◌, ℕ, ◌+◌, zero, suc, List, [], ◌∷◌, ◌++◌, length, take, drop, Bool, Option, Result, Ok, Err, refl, arith, sym, subst, ap, ◌∙◌, length-append}
+use Rattle.std.proofs.Common.{◌≡◌, ℕ, ◌+◌, zero, suc, List, [], ◌∷◌, ◌++◌, length, take, drop, Bool, false, Option, Result, Ok, Err, refl, arith, sym, subst, ap, ◌∙◌, length-append}
 use Rattle.decimal_json.specs.declared.paths.PathPart.{PathPart}
 use Rattle.prop_values.specs.Data.{Data}
 use Rattle.prop_values.specs.Faults.{no_faults}
@@ -12,7 +12,7 @@ use Rattle.expr_syntax.specs.declared.expression.Operator.TheVariants as ops
 use Rattle.expr_types.specs.ArgumentPaths.{argument_path}
 use Rattle.expr_types.specs.Judged.{found_places}
 use Rattle.expr_types.specs.OwnTable.{own}
-use Rattle.expr_types.specs.Typing.{Found, Typed, Node, Scope, Typing, places_of, literal_node, with_below, sequence_if, is_sequence_of, looked_at, argument_want, argument_typed, and_found, founds_of, kinds_in, places_after, all_may, all_places, then_found, frame, own_named, fitted, finished_node, finished, plain_typed, with_bindings, body_typed, let_typed, node_typed, literals, typed, typings}
+use Rattle.expr_types.specs.Typing.{Found, Typed, Node, Scope, Typing, places_of, literal_node, with_below, own_where, sequence_if, is_sequence_of, looked_at, argument_want, argument_typed, and_found, founds_of, kinds_in, places_after, all_may, all_places, then_found, frame, own_named, fitted, finished_node, finished, plain_typed, with_bindings, body_typed, let_typed, node_typed, literals, typed_as, typings}
 use Rattle.expr_types.specs.declared.fault.TypeFault.{TypeFault}
 use Rattle.expr_types.specs.declared.placed.Placed.{Placed}
 use Rattle.typing_laws.specs.TypingLaws.{EachNodeHasAPlace}
@@ -23,7 +23,7 @@ HasPlaces (Ok found) n = length (places_of found) ≡ n
 HasPlaces (Err f) n = Unit {0}
 
 abbrev Counts : Typing → ℕ → Type 0
-Counts t n = (w : Want) (scope : Scope) (path : List PathPart) → HasPlaces (t w scope path) n
+Counts t n = (asked : Bool) (w : Want) (scope : Scope) (path : List PathPart) → HasPlaces (t asked w scope path) n
 
 abbrev AllCount : List Typing → List ℕ → Type 0
 AllCount [] [] = Unit {0}
@@ -76,8 +76,10 @@ founds_places : (op : Operator) (m k : ℕ) (ts : List Typing) (ns : List ℕ) �
 founds_places op m k [] [] h w scope path = refl
 founds_places op m k (t ∷ ts) (n ∷ ns) h w scope path =
     found_step (argument_typed op m k t w scope path) (founds_of op m (k + 1) ts w scope path) n (total ns)
-    (looked_places (is_sequence_of op k) (t (argument_want op m k w) scope (argument_path op m k path))
-    (argument_path op m k path) n (h.0 (argument_want op m k w) scope (argument_path op m k path)))
+    (looked_places (is_sequence_of op k)
+    (t (is_sequence_of op k) (argument_want op m k w) scope (argument_path op m k path))
+    (argument_path op m k path) n
+    (h.0 (is_sequence_of op k) (argument_want op m k w) scope (argument_path op m k path)))
     (founds_places op m (k + 1) ts ns h.1 w scope path)
 founds_places op m k [] (n ∷ ns) h w scope path = absurd h
 founds_places op m k (t ∷ ts) [] h w scope path = absurd h
@@ -92,12 +94,12 @@ then_places (Err f) go n m h all = tt
 
 plain_places : (op : Operator) (ls : List (Option Data)) (ts : List Typing) (ns : List ℕ) → AllCount ts ns →
     Counts (plain_typed op ls ts) (1 + total ns)
-plain_places op ls ts ns h w scope path =
+plain_places op ls ts ns h asked w scope path =
     then_places (founds_of op (length ts) 0 ts w scope path)
-    (λ founds. finished op w (own op w ls (kinds_in founds)) founds path) (total ns) (1 + total ns)
+    (λ founds. finished op w (own_where asked (own op w ls (kinds_in founds))) founds path) (total ns) (1 + total ns)
     (founds_places op (length ts) 0 ts ns h w scope path)
     (λ founds e. below_places (all_places founds)
-    (finished_node op w (own op w ls (kinds_in founds)) (all_may founds) path) (1 + total ns)
+    (finished_node op w (own_where asked (own op w ls (kinds_in founds))) (all_may founds) path) (1 + total ns)
     (omega (arith, e)))
 
 with_places : (w : Want) (founds : List Found) (r : Typed) (n m : ℕ) → length (all_places founds) ≡ n →
@@ -117,9 +119,10 @@ body_places bs (t ∷ []) (b ∷ []) h founds n e w scope path =
     subst (λ (x : ℕ). HasPlaces (body_typed bs (t ∷ []) founds w scope path) (1 + (n + x))) sum
     (with_places w founds (argument_typed (ops.Let bs) m k t w inner path) n b e
     (looked_places (is_sequence_of (ops.Let bs) k)
-    (t (argument_want (ops.Let bs) m k w) inner (argument_path (ops.Let bs) m k path))
+    (t (is_sequence_of (ops.Let bs) k) (argument_want (ops.Let bs) m k w) inner (argument_path (ops.Let bs) m k path))
     (argument_path (ops.Let bs) m k path) b
-    (h.0 (argument_want (ops.Let bs) m k w) inner (argument_path (ops.Let bs) m k path))))
+    (h.0 (is_sequence_of (ops.Let bs) k) (argument_want (ops.Let bs) m k w) inner
+    (argument_path (ops.Let bs) m k path))))
 body_places bs (t ∷ t' ∷ ts) ns h founds n e w scope path = tt
 body_places bs (t ∷ []) [] h founds n e w scope path = absurd h
 body_places bs (t ∷ []) (b ∷ c ∷ ns) h founds n e w scope path = absurd h.1
@@ -147,7 +150,7 @@ both_totals (suc n) [] = refl
 both_totals (suc n) (m ∷ ns) = let q = both_totals n ns in omega (arith, q)
 
 let_places : (bs : List (List ℕ)) (ts : List Typing) (ns : List ℕ) → AllCount ts ns →
-    Counts (let_typed bs ts) (1 + total ns)
+    (w : Want) (scope : Scope) (path : List PathPart) → HasPlaces (let_typed bs ts w scope path) (1 + total ns)
 let_places bs ts ns h w scope path =
     let b = length bs in
     subst (λ (x : ℕ). HasPlaces (let_typed bs ts w scope path) (1 + x)) (both_totals b ns)
@@ -166,8 +169,8 @@ no_total ts (n ∷ ns) h e = absurd (omega (arith, e))
 node_places : (bound : List (List ℕ)) (op : Operator) (ls : List (Option Data)) (ts : List Typing)
     (ns : List ℕ) → HasSoundParts bound op (length ns) → AllCount ts ns →
     Counts (node_typed op ls ts) (1 + total ns)
-node_places bound (ops.Let bs) ls ts ns s h = let_places bs ts ns h
-node_places bound (ops.Var name) ls ts ns s h = λ w scope path. below_places []
+node_places bound (ops.Let bs) ls ts ns s h = λ asked. let_places bs ts ns h
+node_places bound (ops.Var name) ls ts ns s h = λ asked w scope path. below_places []
     (fitted w (own_named scope name) no_faults path) (1 + total ns) (no_total ts ns h s.1)
 node_places bound op ls ts ns s h = plain_places op ls ts ns h
 
@@ -186,10 +189,10 @@ counts_total no_terms = refl
 counts_total (term t ts) = ap (λ n. nodes t + n) (counts_total ts)
 
 mutual
-  typed_places : (bound : List (List ℕ)) (t : Term) → IsRead bound t → Counts (typed t) (nodes t)
-  typed_places bound (literal d) read = λ w scope path. below_places [] (literal_node d w path) 1 refl
+  typed_places : (bound : List (List ℕ)) (t : Term) → IsRead bound t → Counts (typed_as t) (nodes t)
+  typed_places bound (literal d) read = λ asked w scope path. below_places [] (literal_node d w path) 1 refl
   typed_places bound (node op ts) read =
-      subst (λ (n : ℕ). Counts (typed (node op ts)) (1 + n)) (counts_total ts)
+      subst (λ (n : ℕ). Counts (typed_as (node op ts)) (1 + n)) (counts_total ts)
       (node_places bound op (literals ts) (typings ts) (node_counts ts)
       (subst (λ (m : ℕ). HasSoundParts bound op m) (counts_length ts) read.1)
       (typings_places bound (names_within op bound) ts read.2))
@@ -204,4 +207,4 @@ mutual
 pub each_node_has_a_place : EachNodeHasAPlace
 each_node_has_a_place t want found h =
     ap (λ r. length (found_places r)) h.1 ∙ subst (λ r. HasPlaces r (nodes t)) h.1
-    (typed_places [] t h.0 want [] [])
+    (typed_places [] t h.0 false want [] [])

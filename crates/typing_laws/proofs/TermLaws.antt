@@ -1,5 +1,5 @@
 -- The laws of types, by the form of the term.
-use Rattle.std.proofs.Common.{◌≡◌, ℕ, List, [], length, Option, Ok, Err, false, refl, arith, subst, ap, ◌∙◌}
+use Rattle.std.proofs.Common.{◌≡◌, ℕ, List, [], length, Bool, Option, Ok, Err, false, refl, arith, subst, ap, ◌∙◌}
 use Rattle.std.proofs.lemmas.Bool.{both_ways}
 use Rattle.decimal_json.specs.declared.paths.PathPart.{PathPart}
 use Rattle.prop_values.specs.Data.{Data, number, text, map, pairs_of}
@@ -12,7 +12,7 @@ use Rattle.expr_syntax.specs.ReadTerms.{names_within, IsRead, AreRead}
 use Rattle.expr_syntax.specs.Term.{Term, literal, node, Terms, no_terms, term}
 use Rattle.expr_syntax.specs.declared.expression.Operator.{Operator}
 use Rattle.expr_syntax.specs.declared.expression.Operator.TheVariants as ops
-use Rattle.expr_types.specs.Typing.{Found, Scope, Typing, literal_node, is_branching, handed, node_typed, plain_typed, literal_of, literals, typed, typings, own_named, fitted}
+use Rattle.expr_types.specs.Typing.{Found, Scope, Typing, literal_node, is_branching, handed, node_typed, plain_typed, literal_of, literals, typed_as, typed, typings, own_named, fitted}
 use Rattle.tile_reader.specs.ShapeName.{shape_name}
 use Rattle.operator_values.specs.Evaluated.{Evaluated, then_value}
 use Rattle.operator_values.specs.Texts.{concat_of}
@@ -44,11 +44,11 @@ module _ (S : FaultSet) where
   deciding_node : (op : Operator) → is_branching op ≡ false → ((w : Want) → handed op w ≡ w) →
       (decides : Data → Option Data) (none : Evaluated) → Decides S op decides none →
       (ls : List (Option Data)) (ts : List Typing) (ms : List Meaning) → LiteralsOf ls ms → AllAgree S ts ms →
-      (w : Want) (scope : Scope) (path : List PathPart) (names : Names) (world : World) →
-      NamesOf S scope names → ResultOf S w (plain_typed op ls ts w scope path)
+      (asked : Bool) (w : Want) (scope : Scope) (path : List PathPart) (names : Names) (world : World) →
+      NamesOf S scope names → ResultOf S w (plain_typed op ls ts asked w scope path)
       (then_value (first_of decides none op (length ms) 0 ms w names world) (fit w))
-  deciding_node op plain own_want decides none law ls ts ms g h w scope path names world n =
-      fitted_node S op plain ls ts ms g h w scope path names world n
+  deciding_node op plain own_want decides none law ls ts ms g h asked w scope path names world n =
+      fitted_node S op plain ls ts ms g h asked w scope path names world n
       (first_of decides none op (length ms) 0 ms w names world)
       (λ js given. law (length ms) w names world ls js ms
       (subst (λ v. AreGiven S op (length ms) 0 v names world ls js ms) (own_want w) given))
@@ -156,20 +156,20 @@ module _ (S : FaultSet) where
       deciding_node ops.Coalesce refl (λ w. refl) _ _ (there S) ls ts ms g h
   node_ok bound (ops.Format pieces) ls ts ms s g h =
       each_node S (ops.Format pieces) refl (λ w. refl) _ (format_ok S pieces) bound ls ts ms s g h
-  node_ok bound ops.Case ls ts ms s g h = λ w scope path names world n.
-      branched_node S ops.Case refl ls ts ms g h w scope path names world n (case_of ms w names world)
+  node_ok bound ops.Case ls ts ms s g h = λ asked w scope path names world n.
+      branched_node S ops.Case refl ls ts ms g h asked w scope path names world n (case_of ms w names world)
       (λ js given. case_ok S ms bound s w names world ls js given)
-  node_ok bound (ops.Match labels) ls ts ms s g h = λ w scope path names world n.
-      branched_node S (ops.Match labels) refl ls ts ms g h w scope path names world n (match_of labels ms w names world)
+  node_ok bound (ops.Match labels) ls ts ms s g h = λ asked w scope path names world n.
+      branched_node S (ops.Match labels) refl ls ts ms g h asked w scope path names world n (match_of labels ms w names world)
       (λ js given. match_ok S labels ms bound s w names world ls js given)
-  node_ok bound (ops.Step inputs) ls ts ms s g h = λ w scope path names world n.
-      branched_node S (ops.Step inputs) refl ls ts ms g h w scope path names world n (step_of inputs ms w names world)
+  node_ok bound (ops.Step inputs) ls ts ms s g h = λ asked w scope path names world n.
+      branched_node S (ops.Step inputs) refl ls ts ms g h asked w scope path names world n (step_of inputs ms w names world)
       (λ js given. step_ok S inputs ms bound s w names world ls js given)
-  node_ok bound (ops.Interpolate r) ls ts ms s g h = λ w scope path names world n.
-      branched_node S (ops.Interpolate r) refl ls ts ms g h w scope path names world n (ramp_of r.0 r.1 ms w names world)
+  node_ok bound (ops.Interpolate r) ls ts ms s g h = λ asked w scope path names world n.
+      branched_node S (ops.Interpolate r) refl ls ts ms g h asked w scope path names world n (ramp_of r.0 r.1 ms w names world)
       (λ js given. ramp_ok S r ls ms g bound s w names world js given)
-  node_ok bound (ops.Let bs) ls ts ms s g h = let_ok S bs ls ts ms (agree_length S ts ms h ∙ s.parts.1) g h
-  node_ok bound (ops.Var name) ls ts ms s g h = λ w scope path names world n.
+  node_ok bound (ops.Let bs) ls ts ms s g h = λ asked. let_ok S bs ls ts ms (agree_length S ts ms h ∙ s.parts.1) g h
+  node_ok bound (ops.Var name) ls ts ms s g h = λ asked w scope path names world n.
       below_ok S w [] (fitted w (own_named scope name) no_faults path) (var_of name w names world) (var_ok S name w scope path names world n)
 
   -- ---- terms
@@ -187,8 +187,8 @@ module _ (S : FaultSet) where
   literals_ok (term t ts) = (literal_means t, literals_ok ts)
 
   mutual
-    mean_ok : (bound : List (List ℕ)) (t : Term) → IsRead bound t → Agree S (typed t) (mean t)
-    mean_ok bound (literal d) read = λ w scope path names world n. below_ok S w [] (literal_node d w path)
+    mean_ok : (bound : List (List ℕ)) (t : Term) → IsRead bound t → Agree S (typed_as t) (mean t)
+    mean_ok bound (literal d) read = λ asked w scope path names world n. below_ok S w [] (literal_node d w path)
         (fit w d) (literal_ok S w d path)
     mean_ok bound (node op ts) read =
         node_ok bound op (literals ts) (typings ts) (means ts)
@@ -208,7 +208,7 @@ root_ok : (t : Term) (want : Want) (world : World) (found : Found) → HasType t
     OutcomeOf found.node.may want found.node.kind (mean t want [] world)
 root_ok t want world found h =
     let law : ResultOf found.node.may want (typed t want [] []) (mean t want [] world) = mean_ok
-    found.node.may [] t h.0 want [] [] [] world tt in
+    found.node.may [] t h.0 false want [] [] [] world tt in
     subst (λ r. ResultOf found.node.may want r (mean t want [] world)) h.1 law (λ f q. q)
 
 pub every_fault_is_listed : EveryFaultIsListed

@@ -8,7 +8,7 @@ use Rattle.expr_syntax.specs.declared.expression.Operator.TheVariants.{Let}
 use Rattle.expr_types.specs.LiteralView.{literals_of, typings_of}
 use Rattle.expr_types.specs.OwnTable.{own}
 use Rattle.expr_types.specs.ScopeView.{scope_of}
-use Rattle.expr_types.specs.Typing.{fault, typed, argument_typed, argument_want, sequence_if, is_sequence_of, looked_at, founds_of, let_typed, finished_node, frame}
+use Rattle.expr_types.specs.Typing.{fault, typed_as, argument_typed, argument_want, sequence_if, is_sequence_of, looked_at, founds_of, let_typed, finished_node, own_where, frame}
 use Rattle.expr_types.specs.TypedView.{typed_of, found_at, argument_found, founds_in, node_of, plain_of, root_of, added, added_below, kinds_after, kinds_of, all_added}
 use Rattle.expr_types.specs.declared.fault.TypeCode.TheVariants as codes
 use Rattle.expr_types.specs.declared.placed.Kinded.{Kinded}
@@ -56,20 +56,26 @@ check_arguments-loop-place-preserved t c =
 
 pub check_at-returns-in-Ok-clause-node : goal.check_at-returns-in-Ok-clause-node
 check_at-returns-in-Ok-clause-node t c =
-    let is : Ok c.in-Ok.node ≡ root_of (typed (term_of c.args.argument.now) (argument_want c.args.context.now.op.now c.args.count c.args.place c.args.context.now.want) (scope_of c.args.context.now.scope.now) (path_of c.args.there.now)) =
-    sym c.in-Ok.is ∙ (c.in_ok-node.ensures.node ∙ ap (λ w. root_of (typed_of c.args.argument.now w c.args.context.now.scope.now c.args.there.now)) c.argument_want-own.ensures) in
-    if_ok_is c.looked_at.result (sequence_if c.is_sequence.result c.in-Ok.node (path_of c.args.there.now)) (root_of (found_at c.args.context.now c.args.count c.args.place c.args.argument.now (path_of c.args.there.now))) c.looked_at.ensures
-    (ap (λ b. sequence_if b c.in-Ok.node (path_of c.args.there.now)) c.is_sequence.ensures ∙
-    looked_root (is_sequence_of c.args.context.now.op.now c.args.place) (typed (term_of c.args.argument.now) (argument_want c.args.context.now.op.now c.args.count c.args.place c.args.context.now.want) (scope_of c.args.context.now.scope.now) (path_of c.args.there.now)) c.in-Ok.node (path_of c.args.there.now) is)
+    let is : Ok c.in-Ok.node ≡ root_of (typed_as (term_of c.args.argument.now) (is_sequence_of c.args.context.now.op.now c.args.place) (argument_want c.args.context.now.op.now c.args.count c.args.place c.args.context.now.want) (scope_of c.args.context.now.scope.now) (path_of c.args.there.now)) =
+    sym c.in-Ok.is ∙ (c.in_ok-node.ensures.node ∙
+    (ap (λ w. root_of (typed_of c.args.argument.now c.is_sequence-asked.result w c.args.context.now.scope.now c.args.there.now)) c.argument_want-own.ensures ∙
+    ap (λ b. root_of (typed_of c.args.argument.now b (argument_want c.args.context.now.op.now c.args.count c.args.place c.args.context.now.want) c.args.context.now.scope.now c.args.there.now)) c.is_sequence-asked.ensures)) in
+    if_ok_is c.looked_at.result (sequence_if c.is_sequence-asked.result c.in-Ok.node (path_of c.args.there.now)) (root_of (found_at c.args.context.now c.args.count c.args.place c.args.argument.now (path_of c.args.there.now))) c.looked_at.ensures
+    (ap (λ b. sequence_if b c.in-Ok.node (path_of c.args.there.now)) c.is_sequence-asked.ensures ∙
+    looked_root (is_sequence_of c.args.context.now.op.now c.args.place) (typed_as (term_of c.args.argument.now) (is_sequence_of c.args.context.now.op.now c.args.place) (argument_want c.args.context.now.op.now c.args.count c.args.place c.args.context.now.want) (scope_of c.args.context.now.scope.now) (path_of c.args.there.now)) c.in-Ok.node (path_of c.args.there.now) is)
 
 pub check_at-returns-in-Ok-clause-places : goal.check_at-returns-in-Ok-clause-places
 check_at-returns-in-Ok-clause-places t c =
-    let is : Ok c.in-Ok.node ≡ root_of (typed (term_of c.args.argument.now) (argument_want c.args.context.now.op.now c.args.count c.args.place c.args.context.now.want) (scope_of c.args.context.now.scope.now) (path_of c.args.there.now)) =
-    sym c.in-Ok.is ∙ (c.in_ok-node.ensures.node ∙ ap (λ w. root_of (typed_of c.args.argument.now w c.args.context.now.scope.now c.args.there.now)) c.argument_want-own.ensures) in
-    let here : Ok c.check_expression.new.self.places.items ≡ added c.args.self.now.places.items (typed (term_of c.args.argument.now) (argument_want c.args.context.now.op.now c.args.count c.args.place c.args.context.now.want) (scope_of c.args.context.now.scope.now) (path_of c.args.there.now)) =
-    ok_of c.in_ok-node.field-0 c.in-Ok.node c.in-Ok.is c.in_ok-node.ensures.places ∙ ap (λ w. added c.args.self.now.places.items (typed_of c.args.argument.now w c.args.context.now.scope.now c.args.there.now)) c.argument_want-own.ensures in
+    let is : Ok c.in-Ok.node ≡ root_of (typed_as (term_of c.args.argument.now) (is_sequence_of c.args.context.now.op.now c.args.place) (argument_want c.args.context.now.op.now c.args.count c.args.place c.args.context.now.want) (scope_of c.args.context.now.scope.now) (path_of c.args.there.now)) =
+    sym c.in-Ok.is ∙ (c.in_ok-node.ensures.node ∙
+    (ap (λ w. root_of (typed_of c.args.argument.now c.is_sequence-asked.result w c.args.context.now.scope.now c.args.there.now)) c.argument_want-own.ensures ∙
+    ap (λ b. root_of (typed_of c.args.argument.now b (argument_want c.args.context.now.op.now c.args.count c.args.place c.args.context.now.want) c.args.context.now.scope.now c.args.there.now)) c.is_sequence-asked.ensures)) in
+    let here : Ok c.check_expression.new.self.places.items ≡ added c.args.self.now.places.items (typed_as (term_of c.args.argument.now) (is_sequence_of c.args.context.now.op.now c.args.place) (argument_want c.args.context.now.op.now c.args.count c.args.place c.args.context.now.want) (scope_of c.args.context.now.scope.now) (path_of c.args.there.now)) =
+    ok_of c.in_ok-node.field-0 c.in-Ok.node c.in-Ok.is c.in_ok-node.ensures.places ∙
+    (ap (λ w. added c.args.self.now.places.items (typed_of c.args.argument.now c.is_sequence-asked.result w c.args.context.now.scope.now c.args.there.now)) c.argument_want-own.ensures ∙
+    ap (λ b. added c.args.self.now.places.items (typed_of c.args.argument.now b (argument_want c.args.context.now.op.now c.args.count c.args.place c.args.context.now.want) c.args.context.now.scope.now c.args.there.now)) c.is_sequence-asked.ensures) in
     if_ok_all c.looked_at.result
-    (λ r same. looked_places (is_sequence_of c.args.context.now.op.now c.args.place) c.args.self.now.places.items c.check_expression.new.self.places.items (typed (term_of c.args.argument.now) (argument_want c.args.context.now.op.now c.args.count c.args.place c.args.context.now.want) (scope_of c.args.context.now.scope.now) (path_of c.args.there.now)) c.in-Ok.node (path_of c.args.there.now) r is here (same ∙ ap (λ b. sequence_if b c.in-Ok.node (path_of c.args.there.now)) c.is_sequence.ensures))
+    (λ r same. looked_places (is_sequence_of c.args.context.now.op.now c.args.place) c.args.self.now.places.items c.check_expression.new.self.places.items (typed_as (term_of c.args.argument.now) (is_sequence_of c.args.context.now.op.now c.args.place) (argument_want c.args.context.now.op.now c.args.count c.args.place c.args.context.now.want) (scope_of c.args.context.now.scope.now) (path_of c.args.there.now)) c.in-Ok.node (path_of c.args.there.now) r is here (same ∙ ap (λ b. sequence_if b c.in-Ok.node (path_of c.args.there.now)) c.is_sequence-asked.ensures))
     c.looked_at.ensures
 
 pub check_let-check_arguments-requires : goal.check_let-check_arguments-requires
@@ -92,7 +98,7 @@ check_let-returns-in-Ok-2-clause-node t c =
     sym (ap kinds_of c.in-Ok.is) ∙ (c.in_ok-found.ensures.kinds ∙ ap (λ o. kinds_after [] no_faults (founds_of o (length c.args.arguments.now) 0 (typings_of c.cut.result.0.now) c.args.context.now.want (scope_of c.args.context.now.scope.now) (path_of c.args.context.now.here.now))) c.requires) in
     let gives : Ok c.in-Ok-2.node ≡ root_of (body_in c.args.names.now c.in-Ok.found.kinds.items c.index-rest-0.result c.args.context.now.want (scope_of c.args.context.now.scope.now) (path_of c.args.context.now.here.now)) =
     sym c.in-Ok-2.is ∙ (c.in_ok-node-in-Ok.ensures.node ∙
-    (ap (λ o. root_of (argument_typed o (length c.args.names.now + 1) (length c.args.names.now) (typed (term_of c.index-rest-0.result)) c.args.context.now.want (frame c.args.names.now c.as_slice.result.now ∷ scope_of c.args.context.now.scope.now) (path_of c.args.context.now.here.now))) c.requires ∙
+    (ap (λ o. root_of (argument_typed o (length c.args.names.now + 1) (length c.args.names.now) (typed_as (term_of c.index-rest-0.result)) c.args.context.now.want (frame c.args.names.now c.as_slice.result.now ∷ scope_of c.args.context.now.scope.now) (path_of c.args.context.now.here.now))) c.requires ∙
     ap (λ ks. root_of (body_in c.args.names.now ks c.index-rest-0.result c.args.context.now.want (scope_of c.args.context.now.scope.now) (path_of c.args.context.now.here.now))) c.as_slice.ensures.value)) in
     ap Ok c.with_bindings.ensures ∙
     let_root c.args.names.now c.args.arguments.now c.args.context.now.want (scope_of c.args.context.now.scope.now) (path_of c.args.context.now.here.now) c.cut.result.0.now c.cut.result.1.now c.index-rest-0.result c.in-Ok.found.kinds.items c.in-Ok.found.may c.in-Ok-2.node c.cut.ensures.first c.cut.ensures.others
@@ -104,13 +110,13 @@ check_let-returns-in-Ok-2-clause-places t c =
     sym (ap kinds_of c.in-Ok.is) ∙ (c.in_ok-found.ensures.kinds ∙ ap (λ o. kinds_after [] no_faults (founds_of o (length c.args.arguments.now) 0 (typings_of c.cut.result.0.now) c.args.context.now.want (scope_of c.args.context.now.scope.now) (path_of c.args.context.now.here.now))) c.requires) in
     let gives : Ok c.in-Ok-2.node ≡ root_of (body_in c.args.names.now c.in-Ok.found.kinds.items c.index-rest-0.result c.args.context.now.want (scope_of c.args.context.now.scope.now) (path_of c.args.context.now.here.now)) =
     sym c.in-Ok-2.is ∙ (c.in_ok-node-in-Ok.ensures.node ∙
-    (ap (λ o. root_of (argument_typed o (length c.args.names.now + 1) (length c.args.names.now) (typed (term_of c.index-rest-0.result)) c.args.context.now.want (frame c.args.names.now c.as_slice.result.now ∷ scope_of c.args.context.now.scope.now) (path_of c.args.context.now.here.now))) c.requires ∙
+    (ap (λ o. root_of (argument_typed o (length c.args.names.now + 1) (length c.args.names.now) (typed_as (term_of c.index-rest-0.result)) c.args.context.now.want (frame c.args.names.now c.as_slice.result.now ∷ scope_of c.args.context.now.scope.now) (path_of c.args.context.now.here.now))) c.requires ∙
     ap (λ ks. root_of (body_in c.args.names.now ks c.index-rest-0.result c.args.context.now.want (scope_of c.args.context.now.scope.now) (path_of c.args.context.now.here.now))) c.as_slice.ensures.value)) in
     let here : Ok c.check_arguments.new.self.places.items ≡ all_added c.args.self.now.places.items (founds_of (Let c.args.names.now) (length c.args.arguments.now) 0 (typings_of c.cut.result.0.now) c.args.context.now.want (scope_of c.args.context.now.scope.now) (path_of c.args.context.now.here.now)) =
     ok_of c.in_ok-found.field-0 c.in-Ok.found c.in-Ok.is c.in_ok-found.ensures.places ∙ ap (λ o. all_added c.args.self.now.places.items (founds_of o (length c.args.arguments.now) 0 (typings_of c.cut.result.0.now) c.args.context.now.want (scope_of c.args.context.now.scope.now) (path_of c.args.context.now.here.now))) c.requires in
     let then : Ok c.check_body.new.self.places.items ≡ added c.check_arguments.new.self.places.items (body_in c.args.names.now c.in-Ok.found.kinds.items c.index-rest-0.result c.args.context.now.want (scope_of c.args.context.now.scope.now) (path_of c.args.context.now.here.now)) =
     ok_of c.in_ok-node-in-Ok.field-0 c.in-Ok-2.node c.in-Ok-2.is c.in_ok-node-in-Ok.ensures.places ∙
-    (ap (λ o. added c.check_arguments.new.self.places.items (argument_typed o (length c.args.names.now + 1) (length c.args.names.now) (typed (term_of c.index-rest-0.result)) c.args.context.now.want (frame c.args.names.now c.as_slice.result.now ∷ scope_of c.args.context.now.scope.now) (path_of c.args.context.now.here.now))) c.requires ∙
+    (ap (λ o. added c.check_arguments.new.self.places.items (argument_typed o (length c.args.names.now + 1) (length c.args.names.now) (typed_as (term_of c.index-rest-0.result)) c.args.context.now.want (frame c.args.names.now c.as_slice.result.now ∷ scope_of c.args.context.now.scope.now) (path_of c.args.context.now.here.now))) c.requires ∙
     ap (λ ks. added c.check_arguments.new.self.places.items (body_in c.args.names.now ks c.index-rest-0.result c.args.context.now.want (scope_of c.args.context.now.scope.now) (path_of c.args.context.now.here.now))) c.as_slice.ensures.value) in
     let_places c.args.names.now c.args.arguments.now c.args.context.now.want (scope_of c.args.context.now.scope.now) (path_of c.args.context.now.here.now) c.cut.result.0.now c.cut.result.1.now c.index-rest-0.result c.in-Ok.found.kinds.items c.in-Ok.found.may c.in-Ok-2.node c.args.self.now.places.items c.check_arguments.new.self.places.items c.check_body.new.self.places.items c.cut.ensures.first c.cut.ensures.others
     (only_is c.cut.result.1.now c.index-rest-0.result (c.if-rest-ne1.false) c.index-rest-0.is) found here gives then
@@ -121,7 +127,7 @@ check_let-returns-in-Ok-clause-node t c =
     sym (ap kinds_of c.in-Ok.is) ∙ (c.in_ok-found.ensures.kinds ∙ ap (λ o. kinds_after [] no_faults (founds_of o (length c.args.arguments.now) 0 (typings_of c.cut.result.0.now) c.args.context.now.want (scope_of c.args.context.now.scope.now) (path_of c.args.context.now.here.now))) c.requires) in
     let gives : Err c.in-Err-2.fault ≡ root_of (body_in c.args.names.now c.in-Ok.found.kinds.items c.index-rest-0.result c.args.context.now.want (scope_of c.args.context.now.scope.now) (path_of c.args.context.now.here.now)) =
     sym c.in-Err-2.is ∙ (c.in_ok-node-in-Ok.ensures.node ∙
-    (ap (λ o. root_of (argument_typed o (length c.args.names.now + 1) (length c.args.names.now) (typed (term_of c.index-rest-0.result)) c.args.context.now.want (frame c.args.names.now c.as_slice.result.now ∷ scope_of c.args.context.now.scope.now) (path_of c.args.context.now.here.now))) c.requires ∙
+    (ap (λ o. root_of (argument_typed o (length c.args.names.now + 1) (length c.args.names.now) (typed_as (term_of c.index-rest-0.result)) c.args.context.now.want (frame c.args.names.now c.as_slice.result.now ∷ scope_of c.args.context.now.scope.now) (path_of c.args.context.now.here.now))) c.requires ∙
     ap (λ ks. root_of (body_in c.args.names.now ks c.index-rest-0.result c.args.context.now.want (scope_of c.args.context.now.scope.now) (path_of c.args.context.now.here.now))) c.as_slice.ensures.value)) in
     let_body_fault c.args.names.now c.args.arguments.now c.args.context.now.want (scope_of c.args.context.now.scope.now) (path_of c.args.context.now.here.now) c.cut.result.0.now c.cut.result.1.now c.index-rest-0.result c.in-Ok.found.kinds.items c.in-Ok.found.may c.in-Err-2.fault c.cut.ensures.first c.cut.ensures.others
     (only_is c.cut.result.1.now c.index-rest-0.result (c.if-rest-ne1.false) c.index-rest-0.is) found gives
@@ -150,9 +156,9 @@ pub check_plain-returns-in_ok-own-in-Ok-clause-node : goal.check_plain-returns-i
 check_plain-returns-in_ok-own-in-Ok-clause-node t c =
     let found : Ok (c.in-Ok.found.kinds.items, c.in-Ok.found.may) ≡ kinds_after [] no_faults (founds_of c.args.context.now.op.now (length (typings_of c.args.arguments.now)) 0 (typings_of c.args.arguments.now) c.args.context.now.want (scope_of c.args.context.now.scope.now) (path_of c.args.context.now.here.now)) =
     sym (ap kinds_of c.in-Ok.is) ∙ (c.in_ok-found.ensures.kinds ∙ ap (λ n. kinds_after [] no_faults (founds_of c.args.context.now.op.now n 0 (typings_of c.args.arguments.now) c.args.context.now.want (scope_of c.args.context.now.scope.now) (path_of c.args.context.now.here.now))) (sym (typings_length c.args.arguments.now))) in
-    if_ok_is c.finished.result (finished_node c.args.context.now.op.now c.args.context.now.want c.in_ok-own-in-Ok.own c.in-Ok.found.may (path_of c.args.context.now.here.now)) (root_of (plain_of c.args.context.now c.args.arguments.now)) c.finished.ensures
-    (ap (λ o. finished_node c.args.context.now.op.now c.args.context.now.want o c.in-Ok.found.may (path_of c.args.context.now.here.now)) (c.in_ok-own-in-Ok.ensures ∙ ap (λ ks. own c.args.context.now.op.now c.args.context.now.want (literals_of c.args.arguments.now) ks) c.as_slice.ensures.value) ∙
-    plain_root c.args.context.now.op.now c.args.context.now.want (literals_of c.args.arguments.now) (path_of c.args.context.now.here.now) (founds_of c.args.context.now.op.now (length (typings_of c.args.arguments.now)) 0 (typings_of c.args.arguments.now) c.args.context.now.want (scope_of c.args.context.now.scope.now) (path_of c.args.context.now.here.now)) c.in-Ok.found.kinds.items c.in-Ok.found.may found)
+    if_ok_is c.finished.result (finished_node c.args.context.now.op.now c.args.context.now.want (own_where c.args.context.now.is_sequence c.in_ok-own-in-Ok.own) c.in-Ok.found.may (path_of c.args.context.now.here.now)) (root_of (plain_of c.args.context.now c.args.arguments.now)) c.finished.ensures
+    (ap (λ o. finished_node c.args.context.now.op.now c.args.context.now.want (own_where c.args.context.now.is_sequence o) c.in-Ok.found.may (path_of c.args.context.now.here.now)) (c.in_ok-own-in-Ok.ensures ∙ ap (λ ks. own c.args.context.now.op.now c.args.context.now.want (literals_of c.args.arguments.now) ks) c.as_slice.ensures.value) ∙
+    plain_root c.args.context.now.is_sequence c.args.context.now.op.now c.args.context.now.want (literals_of c.args.arguments.now) (path_of c.args.context.now.here.now) (founds_of c.args.context.now.op.now (length (typings_of c.args.arguments.now)) 0 (typings_of c.args.arguments.now) c.args.context.now.want (scope_of c.args.context.now.scope.now) (path_of c.args.context.now.here.now)) c.in-Ok.found.kinds.items c.in-Ok.found.may found)
 
 pub check_plain-returns-in_ok-own-in-Ok-clause-places : goal.check_plain-returns-in_ok-own-in-Ok-clause-places
 check_plain-returns-in_ok-own-in-Ok-clause-places t c =
@@ -161,11 +167,11 @@ check_plain-returns-in_ok-own-in-Ok-clause-places t c =
     let here : Ok c.check_arguments.new.self.places.items ≡ all_added c.args.self.now.places.items (founds_of c.args.context.now.op.now (length (typings_of c.args.arguments.now)) 0 (typings_of c.args.arguments.now) c.args.context.now.want (scope_of c.args.context.now.scope.now) (path_of c.args.context.now.here.now)) =
     ok_of c.in_ok-found.field-0 c.in-Ok.found c.in-Ok.is c.in_ok-found.ensures.places ∙ ap (λ n. all_added c.args.self.now.places.items (founds_of c.args.context.now.op.now n 0 (typings_of c.args.arguments.now) c.args.context.now.want (scope_of c.args.context.now.scope.now) (path_of c.args.context.now.here.now))) (sym (typings_length c.args.arguments.now)) in
     if_ok_all c.finished.result
-    (λ r same. plain_places c.args.context.now.op.now c.args.context.now.want (literals_of c.args.arguments.now) (path_of c.args.context.now.here.now) (founds_of c.args.context.now.op.now (length (typings_of c.args.arguments.now)) 0 (typings_of c.args.arguments.now) c.args.context.now.want (scope_of c.args.context.now.scope.now) (path_of c.args.context.now.here.now)) c.in-Ok.found.kinds.items c.in-Ok.found.may c.args.self.now.places.items c.check_arguments.new.self.places.items r found here
-    (same ∙ ap (λ o. finished_node c.args.context.now.op.now c.args.context.now.want o c.in-Ok.found.may (path_of c.args.context.now.here.now)) (c.in_ok-own-in-Ok.ensures ∙ ap (λ ks. own c.args.context.now.op.now c.args.context.now.want (literals_of c.args.arguments.now) ks) c.as_slice.ensures.value)))
+    (λ r same. plain_places c.args.context.now.is_sequence c.args.context.now.op.now c.args.context.now.want (literals_of c.args.arguments.now) (path_of c.args.context.now.here.now) (founds_of c.args.context.now.op.now (length (typings_of c.args.arguments.now)) 0 (typings_of c.args.arguments.now) c.args.context.now.want (scope_of c.args.context.now.scope.now) (path_of c.args.context.now.here.now)) c.in-Ok.found.kinds.items c.in-Ok.found.may c.args.self.now.places.items c.check_arguments.new.self.places.items r found here
+    (same ∙ ap (λ o. finished_node c.args.context.now.op.now c.args.context.now.want (own_where c.args.context.now.is_sequence o) c.in-Ok.found.may (path_of c.args.context.now.here.now)) (c.in_ok-own-in-Ok.ensures ∙ ap (λ ks. own c.args.context.now.op.now c.args.context.now.want (literals_of c.args.arguments.now) ks) c.as_slice.ensures.value)))
     c.finished.ensures
 
 pub check_plain-returns-in-Err-clause-node : goal.check_plain-returns-in-Err-clause-node
 check_plain-returns-in-Err-clause-node t c =
-    plain_fault c.args.context.now.op.now c.args.context.now.want (literals_of c.args.arguments.now) (path_of c.args.context.now.here.now) (founds_of c.args.context.now.op.now (length (typings_of c.args.arguments.now)) 0 (typings_of c.args.arguments.now) c.args.context.now.want (scope_of c.args.context.now.scope.now) (path_of c.args.context.now.here.now)) c.in-Err.fault
+    plain_fault c.args.context.now.is_sequence c.args.context.now.op.now c.args.context.now.want (literals_of c.args.arguments.now) (path_of c.args.context.now.here.now) (founds_of c.args.context.now.op.now (length (typings_of c.args.arguments.now)) 0 (typings_of c.args.arguments.now) c.args.context.now.want (scope_of c.args.context.now.scope.now) (path_of c.args.context.now.here.now)) c.in-Err.fault
     (sym (ap kinds_of c.in-Err.is) ∙ (c.in_ok-found.ensures.kinds ∙ ap (λ n. kinds_after [] no_faults (founds_of c.args.context.now.op.now n 0 (typings_of c.args.arguments.now) c.args.context.now.want (scope_of c.args.context.now.scope.now) (path_of c.args.context.now.here.now))) (sym (typings_length c.args.arguments.now))))
