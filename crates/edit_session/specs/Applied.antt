@@ -6,7 +6,7 @@ use Rattle.decimal_json.specs.Tree.{Tree}
 use Rattle.decimal_json.specs.declared.paths.PathPart.{PathPart}
 use Rattle.edit_script.specs.Edit as edits
 use Rattle.edit_script.specs.Edit.{Edit}
-use Rattle.feature_states.specs.Members.{same_feature, left_of}
+use Rattle.feature_states.specs.Features.{same_feature, left_of}
 use Rattle.listing_text.specs.Listing.{listing}
 use Rattle.prop_values.specs.Changes.{with_member, without_key, merged}
 use Rattle.prop_values.specs.Data.{Data, null, pairs_of, entries_of}
