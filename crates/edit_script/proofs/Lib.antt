@@ -1,3 +1,3 @@
-pub mod Lengths
+pub mod Elements
 pub mod LinesRead
 pub mod TreesRead

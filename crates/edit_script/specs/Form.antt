@@ -1,5 +1,6 @@
 -- Which trees have the form of a command. Source: own.
-use Rattle.std.specs.Prelude.{ℕ, List, Option, Some, None, codes, if◌then◌else◌}
+use Rattle.std.specs.Prelude.{ℕ, List, [], ◌∷◌, Option, Some, None, codes, option_map, option_and_then}
+use Rattle.std.specs.Map.{lookup}
 use Rattle.std.specs.Str.{bytes_eq}
 use Rattle.decimal_json.specs.Tree.{Tree, null, number, text, list, object, Trees, no_trees, tree, Fields}
 use Rattle.edit_script.specs.Edit as edits
@@ -19,7 +20,7 @@ pub data Form : Type 0 where
   -- name, value
   global : List ℕ → Tree → Form
 
--- ---- parts that may be null
+-- ---- elements that may be null
 
 abbrev pub text_or_null : Tree → Option (Option (List ℕ))
 text_or_null (text s) = Some (Some s)
@@ -31,109 +32,91 @@ number_or_null (number n) = Some (Some n)
 number_or_null null = Some None
 number_or_null _ = None
 
--- ---- the rows, by how many elements stand after the name
+-- ---- the forms by the elements after the name
 
--- ["list"], ["stats"]
-abbrev pub bare_form : List ℕ → Option Form
-bare_form name =
-    if bytes_eq name (codes "list") then Some (plain edits.list) else
-    if bytes_eq name (codes "stats") then Some (plain edits.stats) else
-    None
+abbrev pub property_form : (List ℕ → List ℕ → Tree → Edit) → List Tree → Option Form
+property_form edit (text layer ∷ text name ∷ value ∷ []) = Some (plain (edit layer name value))
+property_form edit _ = None
 
--- ["remove-layer",id], ["add-image",name], ["remove-image",name]
-abbrev pub text_form : List ℕ → List ℕ → Option Form
-text_form name s =
-    if bytes_eq name (codes "remove-layer") then Some (plain (edits.remove_layer s)) else
-    if bytes_eq name (codes "add-image") then Some (plain (edits.add_image s)) else
-    if bytes_eq name (codes "remove-image") then Some (plain (edits.remove_image s)) else
-    None
+abbrev pub filter_form : List Tree → Option Form
+filter_form (text layer ∷ filter ∷ []) = Some (plain (edits.set_filter layer filter))
+filter_form _ = None
 
--- these, and ["set-zoom",z]
-abbrev pub form_of_one : List ℕ → Tree → Option Form
-form_of_one name (text s) = text_form name s
-form_of_one name (number z) = if bytes_eq name (codes "set-zoom") then Some (zoom z) else None
-form_of_one name _ = None
+abbrev pub range_form : List Tree → Option Form
+range_form (text layer ∷ min ∷ max ∷ []) =
+    option_and_then (λ least. option_map (range layer least) (number_or_null max)) (number_or_null min)
+range_form _ = None
 
-abbrev pub filter_form : Tree → Tree → Option Form
-filter_form (text layer) filter = Some (plain (edits.set_filter layer filter))
-filter_form _ filter = None
+abbrev pub addition_form : List Tree → Option Form
+addition_form (layer ∷ before ∷ []) = option_map (λ id. plain (edits.add_layer layer id)) (text_or_null before)
+addition_form _ = None
 
-abbrev pub addition_form : Tree → Option (Option (List ℕ)) → Option Form
-addition_form layer (Some before) = Some (plain (edits.add_layer layer before))
-addition_form layer None = None
+abbrev pub move_form : List Tree → Option Form
+move_form (text layer ∷ before ∷ []) = option_map (λ id. plain (edits.move_layer layer id)) (text_or_null before)
+move_form _ = None
 
-abbrev pub move_form : Tree → Option (Option (List ℕ)) → Option Form
-move_form (text id) (Some before) = Some (plain (edits.move_layer id before))
-move_form _ _ = None
+abbrev pub zoom_form : List Tree → Option Form
+zoom_form (number z ∷ []) = Some (zoom z)
+zoom_form _ = None
 
-abbrev pub global_form : Tree → Tree → Option Form
-global_form (text name) value = Some (global name value)
-global_form _ value = None
+abbrev pub state_form : List Tree → Option Form
+state_form (text source ∷ text layer ∷ number id ∷ object members ∷ []) = Some (state source layer id members)
+state_form _ = None
 
--- ["set-filter",layer,filter], ["add-layer",object,before], ["move-layer",id,before], ["set-global",name,value]
-abbrev pub form_of_two : List ℕ → Tree → Tree → Option Form
-form_of_two name a b =
-    if bytes_eq name (codes "set-filter") then filter_form a b else
-    if bytes_eq name (codes "add-layer") then addition_form a (text_or_null b) else
-    if bytes_eq name (codes "move-layer") then move_form a (text_or_null b) else
-    if bytes_eq name (codes "set-global") then global_form a b else
-    None
+abbrev pub removal_form : List Tree → Option Form
+removal_form (text source ∷ text layer ∷ number id ∷ key ∷ []) = option_map (removal source layer id) (text_or_null key)
+removal_form _ = None
 
-abbrev pub property_form : (List ℕ → Tree → Edit) → Tree → Tree → Option Form
-property_form edit (text name) value = Some (plain (edit name value))
-property_form edit _ value = None
+abbrev pub global_form : List Tree → Option Form
+global_form (text name ∷ value ∷ []) = Some (global name value)
+global_form _ = None
 
-abbrev pub range_form : List ℕ → Option (Option (List ℕ)) → Option (Option (List ℕ)) → Option Form
-range_form layer (Some min) (Some max) = Some (range layer min max)
-range_form layer _ _ = None
+-- a text alone
+abbrev pub text_form : (List ℕ → Edit) → List Tree → Option Form
+text_form edit (text s ∷ []) = Some (plain (edit s))
+text_form edit _ = None
 
--- ["set-paint",layer,name,value], ["set-layout",layer,name,value], ["set-range",layer,min,max]
-abbrev pub layer_form : List ℕ → List ℕ → Tree → Tree → Option Form
-layer_form name layer b c =
-    if bytes_eq name (codes "set-paint") then property_form (edits.set_paint layer) b c else
-    if bytes_eq name (codes "set-layout") then property_form (edits.set_layout layer) b c else
-    if bytes_eq name (codes "set-range") then range_form layer (number_or_null b) (number_or_null c) else
-    None
+-- no element
+abbrev pub bare_form : Edit → List Tree → Option Form
+bare_form edit [] = Some (plain edit)
+bare_form edit _ = None
 
-abbrev pub form_of_three : List ℕ → Tree → Tree → Tree → Option Form
-form_of_three name (text layer) b c = layer_form name layer b c
-form_of_three name _ b c = None
+-- ---- the table: a name, and the form of the elements after it
 
-abbrev pub members_form : List ℕ → List ℕ → List ℕ → Tree → Option Form
-members_form source layer id (object members) = Some (state source layer id members)
-members_form source layer id _ = None
-
-abbrev pub removal_form : List ℕ → List ℕ → List ℕ → Option (Option (List ℕ)) → Option Form
-removal_form source layer id (Some key) = Some (removal source layer id key)
-removal_form source layer id None = None
-
--- ["set-state",source,source-layer,id,object], ["remove-state",source,source-layer,id,key]
-abbrev pub state_form : List ℕ → List ℕ → List ℕ → List ℕ → Tree → Option Form
-state_form name source layer id d =
-    if bytes_eq name (codes "set-state") then members_form source layer id d else
-    if bytes_eq name (codes "remove-state") then removal_form source layer id (text_or_null d) else
-    None
-
-abbrev pub form_of_four : List ℕ → Tree → Tree → Tree → Tree → Option Form
-form_of_four name (text source) (text layer) (number id) d = state_form name source layer id d
-form_of_four name _ _ _ d = None
+abbrev pub rows : List (List ℕ × (List Tree → Option Form))
+rows =
+    (codes "set-paint", property_form edits.set_paint) ∷
+    (codes "set-layout", property_form edits.set_layout) ∷
+    (codes "set-filter", filter_form) ∷
+    (codes "set-range", range_form) ∷
+    (codes "add-layer", addition_form) ∷
+    (codes "remove-layer", text_form edits.remove_layer) ∷
+    (codes "move-layer", move_form) ∷
+    (codes "set-zoom", zoom_form) ∷
+    (codes "set-state", state_form) ∷
+    (codes "remove-state", removal_form) ∷
+    (codes "add-image", text_form edits.add_image) ∷
+    (codes "remove-image", text_form edits.remove_image) ∷
+    (codes "set-global", global_form) ∷
+    (codes "list", bare_form edits.list) ∷
+    (codes "stats", bare_form edits.stats) ∷ []
 
 -- ---- a line
 
--- the elements after a name
-abbrev pub named_form : List ℕ → Trees → Option Form
-named_form name no_trees = bare_form name
-named_form name (tree a no_trees) = form_of_one name a
-named_form name (tree a (tree b no_trees)) = form_of_two name a b
-named_form name (tree a (tree b (tree c no_trees))) = form_of_three name a b c
-named_form name (tree a (tree b (tree c (tree d no_trees)))) = form_of_four name a b c d
-named_form name _ = None
+-- the elements of an array
+abbrev pub elements_of : Trees → List Tree
+elements_of no_trees = []
+elements_of (tree t ts) = t ∷ elements_of ts
 
-abbrev pub array_form : Trees → Option Form
-array_form (tree (text name) ts) = named_form name ts
+-- the form of a name and the elements after it
+abbrev pub form_named : List ℕ → List Tree → Option Form
+form_named name elements = option_and_then (λ form. form elements) (lookup (bytes_eq name) rows)
+
+abbrev pub array_form : List Tree → Option Form
+array_form (text name ∷ elements) = form_named name elements
 array_form _ = None
 
 -- The form of a tree, or nothing where it has none.
 abbrev pub form_of : Tree → Option Form
-form_of (list ts) = array_form ts
+form_of (list ts) = array_form (elements_of ts)
 form_of _ = None

@@ -5,7 +5,7 @@ use Rattle.std.specs.Option.{option_or}
 use Rattle.decimal_json.specs.Tree.{Tree}
 use Rattle.edit_script.specs.Edit as edits
 use Rattle.edit_script.specs.Edit.{Edit}
-use Rattle.feature_states.specs.Members.{same_feature}
+use Rattle.feature_states.specs.Features.{same_feature}
 use Rattle.prop_values.specs.Changes.{merged}
 use Rattle.prop_values.specs.Data.{Data, pairs_of}
 use Rattle.prop_values.proofs.ViewLaws.{entries_of-pairs_of}

@@ -6,11 +6,12 @@ use Rattle.decimal_json.specs.Tree.{Tree}
 use Rattle.decimal_json.specs.declared.paths.PathPart.{PathPart}
 use Rattle.edit_script.specs.Edit as edits
 use Rattle.edit_script.specs.Edit.{Edit}
-use Rattle.feature_states.specs.Members.{same_feature, left_of}
+use Rattle.feature_states.specs.Features.{same_feature, left_of}
 use Rattle.listing_text.specs.Listing.{listing}
 use Rattle.prop_values.specs.Changes.{with_member, without_key, merged}
 use Rattle.prop_values.specs.Data.{Data, null, pairs_of, entries_of}
 use Rattle.prop_values.specs.Equality.{at_key}
+use Rattle.style_edits.specs.Causes.{first_cause}
 use Rattle.style_edits.specs.Edited.{edited}
 use Rattle.style_edits.specs.Faults.{edit_fault}
 use Rattle.style_edits.specs.declared.faults.EditFault.{EditFault}
@@ -122,10 +123,10 @@ whole_refusal tiles globals document =
 module _ (tiles : List SourceTile) (scripts : List ℕ → Bool) (can_change : Bool) where
   -- The first cause that holds: a fault of the edit, of the whole edited document, or that images cannot change. Source: own.
   abbrev pub refusal : Presentation → Edit → Option Refusal
-  refusal p edit =
-      option_or (option_map refusal_of (edit_fault p.document edit)) (
-      option_or (whole_refusal tiles (presented_after p edit).globals (presented_after p edit).document) (
-      images_refusal can_change edit))
+  refusal p edit = first_cause (
+      option_map refusal_of (edit_fault p.document edit) ∷
+      whole_refusal tiles (presented_after p edit).globals (presented_after p edit).document ∷
+      images_refusal can_change edit ∷ [])
 
   -- What a session stands for after an edit, and what is answered. A listing is that of the full layout. Source: own.
   abbrev pub applied : Presentation → Edit → Presentation × Reply

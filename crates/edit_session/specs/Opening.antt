@@ -1,9 +1,11 @@
 -- Why a session over a document and tiles cannot be opened: the first cause that holds, in their order.
-use Rattle.std.specs.Prelude.{ℕ, ℤ, List, [], ◌∷◌, codes, Bool, not, nat_le, Option, Some, None, is_some, if◌then◌else◌}
-use Rattle.std.specs.Option.{option_and_then}
+use Rattle.std.specs.Prelude.{ℕ, ℤ, List, [], ◌∷◌, codes, Bool, not, nat_le, Option, Some, None, is_some, option_map, if◌then◌else◌}
+use Rattle.std.specs.Bool.{then_some}
+use Rattle.std.specs.Option.{option_and_then, option_or}
 use Rattle.decimal_json.specs.Tree.{Tree}
 use Rattle.decimal_json.specs.declared.paths.PathPart.{PathPart}
 use Rattle.decimal_json.specs.Accessors.{text_at}
+use Rattle.style_edits.specs.Causes.{first_cause}
 use Rattle.style_parts.specs.Numbers.{is_zoom}
 use Rattle.style_parts.specs.Parts.{is_among, source_at}
 use Rattle.style_layout.specs.Globals.{globals_of}
@@ -46,27 +48,21 @@ pub data Fault : Type 0 where
   too_many_cells : ℕ → Fault
   zoom_range : Fault
 
-abbrev pub source_fault : (List ℕ → Fault) → Option (List ℕ) → Option Fault → Option Fault
-source_fault fault (Some source) later = Some (fault source)
-source_fault fault None later = later
-
-abbrev pub shown_fault : ℕ → ℤ → Option Fault
-shown_fault count zoom =
-    if not (within_limit count) then Some (too_many_cells count) else
-    if not (is_zoom (Some zoom)) then Some zoom_range else
-    None
+abbrev pub cells_fault : ℕ → Option Fault
+cells_fault count = if within_limit count then None else Some (too_many_cells count)
 
 -- the fault of a document without findings
 abbrev pub tiles_fault : Tree → List SourceTile → ℤ → Option Fault
-tiles_fault document tiles zoom =
-    source_fault unknown_source (first_failing (has_source document) tiles) (
-    source_fault not_vector (first_failing (is_vector document) tiles) (
-    shown_fault (cell_count tiles (style_layers (globals_of document) document)) zoom))
+tiles_fault document tiles zoom = first_cause (
+    option_map unknown_source (first_failing (has_source document) tiles) ∷
+    option_map not_vector (first_failing (is_vector document) tiles) ∷
+    cells_fault (cell_count tiles (style_layers (globals_of document) document)) ∷
+    then_some (not (is_zoom (Some zoom))) zoom_range ∷ [])
 
-abbrev pub unless_found : List (List PathPart × ℕ) → Option Fault → Option Fault
-unless_found [] later = later
-unless_found (f ∷ fs) later = Some has_findings
+abbrev pub findings_fault : List (List PathPart × ℕ) → Option Fault
+findings_fault [] = None
+findings_fault (f ∷ fs) = Some has_findings
 
 -- The fault of an opening, or none. Source: own.
 abbrev pub open_fault : Tree → List SourceTile → ℤ → Option Fault
-open_fault document tiles zoom = unless_found (findings document) (tiles_fault document tiles zoom)
+open_fault document tiles zoom = option_or (findings_fault (findings document)) (tiles_fault document tiles zoom)

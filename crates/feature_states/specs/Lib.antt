@@ -1,1 +1,3 @@
+-- To be believed.
+pub mod Features
 pub mod Members

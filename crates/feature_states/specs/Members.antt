@@ -1,10 +1,8 @@
 -- Which members each feature has.
-use Rattle.std.specs.Prelude.{ℕ, List, [], Bool, ◌&&◌, nat_eq, Option, Some, None, unwrap_or, option_map}
+use Rattle.std.specs.Prelude.{ℕ, List, [], nat_eq, unwrap_or, option_map}
 use Rattle.indexmap.specs.IndexMap.{IndexMap, get, get_by_text}
-use Rattle.std.specs.Str.{bytes_eq}
 use Rattle.std.specs.declared.string.String.{String}
 use Rattle.std.specs.declared.alloc.Global.{Global}
-use Rattle.prop_values.specs.Changes.{without_key}
 use Rattle.prop_values.specs.Data.{Data}
 use Rattle.prop_values.specs.declared.value.Entries.{Entries}
 use Rattle.feature_states.specs.declared.states.States.{States}
@@ -23,12 +21,3 @@ members_in_source sources source layer id = unwrap_or (option_map (λ layers. me
 -- feature that no call has named has none. Source: own.
 abbrev pub members_at : States → List ℕ → List ℕ → ℕ → List (List ℕ × Data)
 members_at states = members_in_source states.sources
-
--- Whether two places are one: the same source, layer and id.
-abbrev pub same_feature : List ℕ → List ℕ → ℕ → List ℕ → List ℕ → ℕ → Bool
-same_feature source layer id s l i = bytes_eq source s && (bytes_eq layer l && nat_eq id i)
-
--- The members that are left once one is removed, or, without a key, all. Source: own.
-abbrev pub left_of : Option (List ℕ) → List (List ℕ × Data) → List (List ℕ × Data)
-left_of None members = []
-left_of (Some key) members = without_key key members

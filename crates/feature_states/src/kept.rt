@@ -1,7 +1,8 @@
 ghost use Rattle.std.specs.Prelude.{◌≡◌, ℕ, List, [], true, ◌&&◌, nat_eq, OnOk, OnErr, option_map, if◌then◌else◌};
 ghost use Rattle.std.specs.Str.{bytes_eq};
 ghost use Rattle.prop_values.specs.Changes.{merged, without_key};
-ghost use Rattle.feature_states.specs.Members.{members_of_id, members_in_layer, members_in_source, same_feature, left_of};
+ghost use Rattle.feature_states.specs.Features.{same_feature, left_of};
+ghost use Rattle.feature_states.specs.Members.{members_of_id, members_in_layer, members_in_source};
 
 use indexmap::IndexMap;
 use prop_values::Entries;

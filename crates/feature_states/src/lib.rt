@@ -15,7 +15,7 @@
 //! members that they had. Only `merge` takes memory. A source without layers keeps its features under the
 //! layer of the empty name.
 //!
-//! The text to believe is in `specs/`: `Members`.
+//! The text to believe is in `specs/`: `Features`, `Members`.
 #![tactic(auto)]
 
 mod kept;

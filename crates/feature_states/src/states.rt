@@ -14,7 +14,8 @@ pub struct States {
 }
 
 impl States {
-    ghost use Rattle.feature_states.specs.Members.{members_at, same_feature, left_of};
+    ghost use Rattle.feature_states.specs.Features.{same_feature, left_of};
+    ghost use Rattle.feature_states.specs.Members.{members_at};
 
     /// States in which no feature has a member.
     pub fn new(alloc: Global) -> States

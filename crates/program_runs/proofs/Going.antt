@@ -5,7 +5,8 @@ use Rattle.std.specs.Result.{IsErrAnd}
 use Rattle.outside_io.specs.Counts.{raised}
 use Rattle.program_runs.specs.declared.answer.Answer.{Answer}
 use Rattle.program_runs.specs.declared.halt.Halt.{Halt}
-use Rattle.program_runs.specs.declared.halt.Halt.TheVariants.{NoMemory, Unread, Refused}
+use Rattle.program_runs.specs.declared.halt.Halt.TheVariants.{Stopped, Refused}
+use Rattle.program_runs.specs.declared.halt.Stop.TheVariants.{NoMemory, Unread}
 use Rattle.program_runs.specs.FailedReads.{NoneFailed}
 use Rattle.program_runs.specs.Progress.{outcome_of, LeadsTo, HaltsAt, GoesOn, Halts}
 use Rattle.program_runs.specs.Runs.{Run, HasOutcome}
@@ -18,8 +19,8 @@ module _ (files : List ℕ → Option (List ℕ)) where
   leads_on a b c f g = record { outcomes = λ o d. f.outcomes o (g.outcomes o d); reads = λ n r. f.reads n (g.reads n r) }
 
   pub halts_on : (run rest : Run) (old mid new : ℕ) (failed_old failed_mid failed_new : Option (List ℕ)) (h : Halt) → LeadsTo files run rest → NoneFailed old mid failed_old failed_mid → HaltsAt files rest mid new failed_mid failed_new h → HaltsAt files run old new failed_old failed_new h
-  halts_on run rest old mid new failed_old failed_mid failed_new NoMemory leads before halts = none_on old mid new failed_old failed_mid failed_new before halts
-  halts_on run rest old mid new failed_old failed_mid failed_new (Unread name) leads before halts =
+  halts_on run rest old mid new failed_old failed_mid failed_new (Stopped NoMemory) leads before halts = none_on old mid new failed_old failed_mid failed_new before halts
+  halts_on run rest old mid new failed_old failed_mid failed_new (Stopped (Unread name)) leads before halts =
       record { counted = halts.counted ∙ ap raised before.0; noted = halts.noted; reached = leads.reads name.now halts.reached }
   halts_on run rest old mid new failed_old failed_mid failed_new (Refused answer) leads before halts =
       (none_on old mid new failed_old failed_mid failed_new before halts.0, leads.outcomes (outcome_of answer) halts.1)

@@ -1,10 +1,10 @@
 -- How far a run came, and how it stopped.
 use Rattle.std.specs.Prelude.{ℕ, List, Option}
 use Rattle.program_runs.specs.declared.answer.Answer.{Answer}
-use Rattle.program_runs.specs.declared.finishing.Stop.{Stop}
-use Rattle.program_runs.specs.declared.finishing.Stop.TheVariants as stops
 use Rattle.program_runs.specs.declared.halt.Halt.{Halt}
-use Rattle.program_runs.specs.declared.halt.Halt.TheVariants.{NoMemory, Unread, Refused}
+use Rattle.program_runs.specs.declared.halt.Halt.TheVariants.{Stopped, Refused}
+use Rattle.program_runs.specs.declared.halt.Stop.{Stop}
+use Rattle.program_runs.specs.declared.halt.Stop.TheVariants.{NoMemory, Unread}
 use Rattle.program_runs.specs.FailedReads.{NoneFailed, ReadFails}
 use Rattle.program_runs.specs.Outcome.{Outcome}
 use Rattle.program_runs.specs.Runs.{Run, HasOutcome, IsReached}
@@ -18,18 +18,16 @@ pub record LeadsTo (files : List ℕ → Option (List ℕ)) (run rest : Run) : T
   pub outcomes : (o : Outcome) → HasOutcome files rest o → HasOutcome files run o
   pub reads : (name : List ℕ) → IsReached files rest name → IsReached files run name
 
--- An allocation failed; a read of the run's failed; or what was read is refused, and that is an outcome. The
--- last four are the count of failed reads before and after, and the name of the last of them before and
--- after.
-abbrev pub HaltsAt : (List ℕ → Option (List ℕ)) → Run → (old new : ℕ) → (failed_old failed_new : Option (List ℕ)) → Halt → Type 0
-HaltsAt files run old new failed_old failed_new NoMemory = NoneFailed old new failed_old failed_new
-HaltsAt files run old new failed_old failed_new (Unread name) = ReadFails files run old new failed_new name.now
-HaltsAt files run old new failed_old failed_new (Refused answer) = NoneFailed old new failed_old failed_new × HasOutcome files run (outcome_of answer)
-
--- no answer: an allocation or a read of the run's failed
+-- No answer: an allocation failed, or a read of the run's failed. The last four are the count of failed reads before and after, and the name
+-- of the last of them before and after.
 abbrev pub IsStop : (List ℕ → Option (List ℕ)) → Run → (old new : ℕ) → (failed_old failed_new : Option (List ℕ)) → Stop → Type 0
-IsStop files run old new failed_old failed_new stops.NoMemory = NoneFailed old new failed_old failed_new
-IsStop files run old new failed_old failed_new (stops.Unread name) = ReadFails files run old new failed_new name.now
+IsStop files run old new failed_old failed_new NoMemory = NoneFailed old new failed_old failed_new
+IsStop files run old new failed_old failed_new (Unread name) = ReadFails files run old new failed_new name.now
+
+-- no answer, or what was read is refused, and that is an outcome
+abbrev pub HaltsAt : (List ℕ → Option (List ℕ)) → Run → (old new : ℕ) → (failed_old failed_new : Option (List ℕ)) → Halt → Type 0
+HaltsAt files run old new failed_old failed_new (Stopped stop) = IsStop files run old new failed_old failed_new stop
+HaltsAt files run old new failed_old failed_new (Refused answer) = NoneFailed old new failed_old failed_new × HasOutcome files run (outcome_of answer)
 
 module _ {A : Type 0} (files : List ℕ → Option (List ℕ)) (part : (A → Run) → Run) where
   -- whatever the run goes on with, it comes to that, at this value

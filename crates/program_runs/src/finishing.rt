@@ -1,4 +1,4 @@
-//! What ends a run, and how it is written.
+//! How the end of a run is written.
 
 ghost use Rattle.std.specs.Prelude.{◌≡◌, ◌⊎◌, ◌<◌, length, OnOk, OnErr, IfOk};
 ghost use Rattle.outside_io.specs.Counts.{raised};
@@ -10,14 +10,6 @@ use crate::status::Status;
 use decimal_json::write_text;
 use outside_io::{Sink, SinkFailed};
 use std::alloc::{AllocError, Global};
-
-/// Why a run has no answer.
-#[derive(Clone, Copy, Debug)]
-pub enum Stop<'a> {
-    NoMemory,
-    /// The file of this name could not be read.
-    Unread(&'a str),
-}
 
 /// Writes both texts, that of standard output first.
 pub fn write_answer<O: Sink, E: Sink>(

@@ -27,8 +27,8 @@ mod status;
 mod subject;
 
 pub use answer::{Answer, answer_out, answer_refused, answer_said, answer_usage, begin_refusal};
-pub use finishing::{Stop, write_answer, write_unread};
-pub use halt::Halt;
+pub use finishing::{write_answer, write_unread};
+pub use halt::{Halt, Stop};
 pub use laws::each_run_has_one_outcome;
 pub use reading::{parse_json, read_file, read_json};
 pub use refusals::{no_json, too_long};

@@ -10,7 +10,7 @@ ghost use Rattle.program_runs.specs.Progress.{GoesOn, Halts};
 ghost use Rattle.program_runs.specs.Runs.{reads, parses};
 ghost use Rattle.program_runs.specs.Subjects.{subject_text, subject_number};
 
-use crate::halt::Halt;
+use crate::halt::{Halt, Stop};
 use crate::refusals::{no_json, too_long};
 use crate::subject::Subject;
 use decimal_json::{Json, JsonFault, parse, parse_owned};
@@ -35,8 +35,8 @@ pub fn read_file<'a, F: Files>(
     match files.read(alloc, name, at_most, &mut bytes) {
         ReadAnswer::Done => Ok(bytes),
         ReadAnswer::TooLong => Err(Halt::Refused(too_long(alloc, what)?)),
-        ReadAnswer::Failed => Err(Halt::Unread(name)),
-        ReadAnswer::NoMemory => Err(Halt::NoMemory),
+        ReadAnswer::Failed => Err(Halt::Stopped(Stop::Unread(name))),
+        ReadAnswer::NoMemory => Err(Halt::Stopped(Stop::NoMemory)),
     }
 }
 

@@ -1,6 +1,8 @@
 //! The run of a script.
 
 ghost use Rattle.std.specs.Prelude.{◌≡◌, ◌+◌, ◌<◌, ◌∷◌, ℕ, List, Bool, Option, OnOk, IfOk, ◌||◌};
+ghost use Rattle.edit_script.specs.Line.{AnswersLine};
+ghost use Rattle.edit_script.specs.View.{read_seen};
 ghost use Rattle.edit_session.specs.View.{presented, tiles_of, IsSound};
 ghost use Rattle.program_runs.specs.Outcome.{Outcome};
 ghost use Rattle.program_runs.specs.Progress.{outcome_of};
@@ -9,7 +11,7 @@ ghost use Rattle.script_runs.specs.ScriptRun.{lines_run, script_run, ending_by};
 
 use crate::answers::{is_refused, write_fault, write_reply};
 use crate::lines::next_line;
-use edit_script::read_line;
+use edit_script::{Command, LineFault, read_line};
 use edit_session::Session;
 use host_ops::HostOp;
 use program_runs::{Answer, Ending, answer_out};
@@ -33,7 +35,8 @@ pub fn answer_script(
     let mut number: usize = 1;
     let mut rest = script;
     while let Some((line, behind)) = next_line(rest) {
-        let refused = answer_line(alloc, session, line, number, images, scripts, &mut out)?;
+        let read = read_line(alloc, line)?;
+        let refused = answer_line(session, &read, number, images, scripts, &mut out)?;
         any = any || refused;
         number += 1;
         rest = behind;
@@ -47,11 +50,10 @@ fn ending_by(any: bool) -> Ending
     if any { Ending::Found } else { Ending::Fine }
 }
 
-// Appends what the line of this number is answered, and says whether it is refused.
+// Appends what the line of this number is answered, by what was read of it, and says whether it is refused.
 fn answer_line(
-    alloc: Global,
     session: &mut Session<'_>,
-    line: &[u8],
+    read: &Result<Command, LineFault>,
     number: usize,
     images: &mut dyn HostOp,
     scripts: &dyn HostOp,
@@ -61,20 +63,21 @@ fn answer_line(
     ensures sound { IsSound session.new (test images.new) (test scripts.now) }
     ensures tiles { tiles_of session.new ≡ tiles_of session.old }
     ensures changes { changes images.new ≡ changes images.old }
-    ensures leads { (files : List ℕ → Option (List ℕ)) (any : Bool) (lines : List (List ℕ)) (o : Outcome) → IfOk result (λ refused.
+    ensures leads { (files : List ℕ → Option (List ℕ)) (any : Bool) (line : List ℕ) (lines : List (List ℕ)) (o : Outcome)
+        → AnswersLine line (read_seen read.now) → IfOk result (λ refused.
         HasOutcome files (lines_run (tiles_of session.old) (test scripts.now) (changes images.old) (number + 1)
         (presented session.new (test images.new)) out.new.items (any || refused) lines) o →
         HasOutcome files (lines_run (tiles_of session.old) (test scripts.now) (changes images.old) number
-        (presented session.old (test images.old)) out.old.items any (line.now ∷ lines)) o) }
+        (presented session.old (test images.old)) out.old.items any (line ∷ lines)) o) }
 {
-    match read_line(alloc, line)? {
+    match read {
         Ok(command) => {
-            let answer = session.apply(&command, images, scripts)?;
+            let answer = session.apply(command, images, scripts)?;
             write_reply(number, &answer, out)?;
             Ok(is_refused(&answer))
         }
         Err(fault) => {
-            write_fault(number, fault, out)?;
+            write_fault(number, *fault, out)?;
             Ok(true)
         }
     }

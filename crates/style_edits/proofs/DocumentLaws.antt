@@ -5,16 +5,18 @@ use Rattle.decimal_json.specs.Accessors.{member, trees_in}
 use Rattle.decimal_json.specs.Tree.{Tree, null, list, trees_of}
 use Rattle.decimal_json.specs.View.{items_view, trees}
 use Rattle.decimal_json.specs.declared.tree.Json.{Json}
-use Rattle.style_edits.specs.Layers.{list_of, layer_list, with_list, with_changed, with_layers}
+use Rattle.edit_script.specs.Form.{elements_of}
+use Rattle.edit_script.proofs.Elements.{elements_made}
+use Rattle.style_edits.specs.Layers.{layer_list, with_list, with_changed, with_layers}
 use Rattle.style_edits.specs.Taking.{HasLayers, TakesLayers}
 use Rattle.style_edits.specs.Undone.{undone_layers, IsWithin, IsUndo}
 use Rattle.style_edits.specs.declared.undo.Undo.{Undo}
 use Rattle.style_parts.specs.Parts.{layers_of}
-use Rattle.style_edits.proofs.ObjectLaws.{items_trees, object_replaced_again, member_replaced, object_itself}
+use Rattle.style_edits.proofs.ObjectLaws.{object_replaced_again, member_replaced, object_itself}
 
 -- the layers of a document of the program, as a list
 pub layers_listed : (document : Tree) (js : List Json) → trees js ≡ layers_of document → items_view js ≡ layer_list document
-layers_listed document js h = sym (items_trees (items_view js)) ∙ ap list_of h
+layers_listed document js h = sym (elements_made (items_view js)) ∙ ap elements_of h
 
 -- the layers are there after they were put
 layers_put : (before after : Tree) (ts ls : List Tree) → HasLayers before ts → after ≡ with_list ls before → HasLayers after ls
@@ -22,12 +24,12 @@ layers_put before after ts ls h e =
     ap (member (codes "layers")) e ∙ member_replaced (codes "layers") (list (trees_of ts)) (list (trees_of ls)) before h
 
 pub listed : (document : Tree) (ts : List Tree) → HasLayers document ts → layer_list document ≡ ts
-listed document ts h = ap (λ o. list_of (trees_in o)) h ∙ items_trees ts
+listed document ts h = ap (λ o. elements_of (trees_in o)) h ∙ elements_made ts
 
 changed_with : (document : Tree) (ts : List Tree) (change : List Tree → List Tree) → HasLayers document ts
     → with_layers change document ≡ with_list (change ts) document
 changed_with document ts change h =
-    ap (λ o. with_changed change o document) h ∙ ap (λ xs. with_list (change xs) document) (items_trees ts)
+    ap (λ o. with_changed change o document) h ∙ ap (λ xs. with_list (change xs) document) (elements_made ts)
 
 put_itself : (document : Tree) (ts : List Tree) → HasLayers document ts → with_list ts document ≡ document
 put_itself document ts h = object_itself (codes "layers") (list (trees_of ts)) document h

@@ -1,14 +1,16 @@
 -- What an edit does is what it does by the places of the layers that it names.
 use Rattle.std.proofs.Common.{◌≡◌, ◌<◌, ℕ, suc, List, [], ◌∷◌, length, refl, ap, sym, ◌∙◌, subst, Bool, true, false}
 use Rattle.std.specs.Prelude.{codes, not, ◌&&◌, Option, Some, None, IfSome, is_none, option_map, if◌then◌else◌}
+use Rattle.std.specs.Bool.{then_some}
 use Rattle.std.specs.List.{list_all}
 use Rattle.std.specs.Option.{option_and_then}
 use Rattle.decimal_json.specs.Tree.{Tree}
 use Rattle.edit_script.specs.Edit.{Edit, set_paint, set_layout, set_filter, set_range, add_layer, remove_layer, move_layer, set_zoom, set_state, remove_state, add_image, remove_image, set_global, list, stats}
 use Rattle.style_edits.specs.ByPlace.{layer_at, changed_at, removed_at, inserted_at, moved_at, edited_at, is_missing, unsets_nothing_at, fault_at}
 use Rattle.style_edits.specs.Places.{layer_place, places_in, places_of}
+use Rattle.style_edits.specs.Causes.{first_cause}
 use Rattle.style_edits.specs.Edited.{edited_layers}
-use Rattle.style_edits.specs.Faults.{named_layer, named_before, named_source, named_zooms, lacks_layer, lacks_source, lacks_property, is_zoom_or_none, unsets_nothing, first_cause, edit_fault}
+use Rattle.style_edits.specs.Faults.{named_layer, named_before, named_source, named_zooms, lacks_layer, lacks_source, lacks_property, is_zoom_or_none, unsets_nothing, edit_fault}
 use Rattle.style_edits.specs.Layer.{is_null, with_property, with_filter, with_range}
 use Rattle.style_edits.specs.Layers.{layer_list, layer_named, changed_layer}
 use Rattle.style_edits.specs.declared.faults.EditFault.TheVariants.{UnknownLayer, UnknownBefore, UnknownSource, ZoomRange, UnknownProperty}
@@ -81,11 +83,11 @@ unsets_is stats ts = refl
 
 pub fault_by_place : (document : Tree) (edit : Edit) → edit_fault document edit ≡ fault_at document edit (places_of document edit)
 fault_by_place document edit = λ i. first_cause (
-    (UnknownLayer, lacks_is (layer_list document) (named_layer edit) i) ∷
-    (UnknownBefore, lacks_is (layer_list document) (named_before edit) i) ∷
-    (UnknownSource, lacks_source document (named_source edit)) ∷
-    (ZoomRange, not (list_all is_zoom_or_none (named_zooms edit))) ∷
-    (UnknownProperty, unsets_is edit (layer_list document) i) ∷ [])
+    then_some (lacks_is (layer_list document) (named_layer edit) i) UnknownLayer ∷
+    then_some (lacks_is (layer_list document) (named_before edit) i) UnknownBefore ∷
+    then_some (lacks_source document (named_source edit)) UnknownSource ∷
+    then_some (not (list_all is_zoom_or_none (named_zooms edit))) ZoomRange ∷
+    then_some (unsets_is edit (layer_list document) i) UnknownProperty ∷ [])
 
 -- ---- places that a caller hands in
 

@@ -6,8 +6,7 @@ use Rattle.std.proofs.lemmas.Bool.{cond-true, cond-false}
 use Rattle.decimal_json.specs.Accessors.{member}
 use Rattle.decimal_json.specs.Editing.{members_with, replaced_members, members_without}
 use Rattle.decimal_json.specs.Sound.{members_of}
-use Rattle.decimal_json.specs.Tree.{Tree, null, boolean, number, text, list, object, Trees, no_trees, tree, trees_of, Fields, no_fields, field, fields_of, field_at}
-use Rattle.style_edits.specs.Layers.{list_of}
+use Rattle.decimal_json.specs.Tree.{Tree, null, boolean, number, text, list, object, Fields, no_fields, field, fields_of, field_at}
 use Rattle.style_edits.specs.Objects.{object_with, object_replacing, object_without}
 
 -- ---- lists and the parts of a tree
@@ -19,14 +18,6 @@ members_fields (m ∷ ms) = ap (λ xs. m ∷ xs) (members_fields ms)
 pub fields_members : (fs : Fields) → fields_of (members_of fs) ≡ fs
 fields_members no_fields = refl
 fields_members (field k t fs) = ap (field k t) (fields_members fs)
-
-pub items_trees : (ts : List Tree) → list_of (trees_of ts) ≡ ts
-items_trees [] = refl
-items_trees (t ∷ ts) = ap (λ xs. t ∷ xs) (items_trees ts)
-
-pub trees_items : (ts : Trees) → trees_of (list_of ts) ≡ ts
-trees_items no_trees = refl
-trees_items (tree t ts) = ap (tree t) (trees_items ts)
 
 -- ---- members that are replaced
 

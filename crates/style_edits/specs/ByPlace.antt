@@ -1,11 +1,13 @@
 -- What an edit does by the places of the layers that it names.
 use Rattle.std.specs.Prelude.{ℕ, ◌-◌, List, [], ◌∷◌, ◌++◌, length, insert, remove, slice_set, slice_get, slice_index_or, nat_eq, nat_lt, codes, Bool, true, false, ◌&&◌, not, Option, Some, None, if◌then◌else◌}
+use Rattle.std.specs.Bool.{then_some}
 use Rattle.std.specs.List.{list_all}
 use Rattle.std.specs.Option.{option_and_then}
 use Rattle.decimal_json.specs.Editing.{moved_items}
 use Rattle.decimal_json.specs.Tree.{Tree, null}
 use Rattle.edit_script.specs.Edit.{Edit, set_paint, set_layout, set_filter, set_range, add_layer, remove_layer, move_layer}
-use Rattle.style_edits.specs.Faults.{named_layer, named_before, named_source, named_zooms, lacks_source, lacks_property, is_zoom_or_none, first_cause}
+use Rattle.style_edits.specs.Causes.{first_cause}
+use Rattle.style_edits.specs.Faults.{named_layer, named_before, named_source, named_zooms, lacks_source, lacks_property, is_zoom_or_none}
 use Rattle.style_edits.specs.Layer.{is_null, with_property, with_filter, with_range}
 use Rattle.style_edits.specs.Layers.{layer_list}
 use Rattle.style_edits.specs.declared.faults.EditFault.{EditFault}
@@ -68,8 +70,8 @@ unsets_nothing_at layer _ = false
 
 abbrev pub fault_at : Tree → Edit → EditPlaces → Option EditFault
 fault_at document edit places = first_cause (
-    (UnknownLayer, is_missing (named_layer edit) places.layer) ∷
-    (UnknownBefore, is_missing (named_before edit) places.before) ∷
-    (UnknownSource, lacks_source document (named_source edit)) ∷
-    (ZoomRange, not (list_all is_zoom_or_none (named_zooms edit))) ∷
-    (UnknownProperty, unsets_nothing_at (layer_at places.layer (layer_list document)) edit) ∷ [])
+    then_some (is_missing (named_layer edit) places.layer) UnknownLayer ∷
+    then_some (is_missing (named_before edit) places.before) UnknownBefore ∷
+    then_some (lacks_source document (named_source edit)) UnknownSource ∷
+    then_some (not (list_all is_zoom_or_none (named_zooms edit))) ZoomRange ∷
+    then_some (unsets_nothing_at (layer_at places.layer (layer_list document)) edit) UnknownProperty ∷ [])

@@ -1,5 +1,5 @@
 -- The document after an edit.
-use Rattle.std.specs.Prelude.{List, codes, Bool, true, false}
+use Rattle.std.specs.Prelude.{List, codes}
 use Rattle.decimal_json.specs.Tree.{Tree}
 use Rattle.edit_script.specs.Edit.{Edit, set_paint, set_layout, set_filter, set_range, add_layer, remove_layer, move_layer}
 use Rattle.style_edits.specs.Layer.{with_property, with_filter, with_range}
@@ -19,19 +19,3 @@ edited_layers _ ts = ts
 -- The document after an edit that has no fault. Source: own.
 abbrev pub edited : Tree → Edit → Tree
 edited document edit = with_layers (edited_layers edit) document
-
--- ---- what an edit needs
-
--- it puts something into a layer, or a layer into the document
-abbrev pub takes_memory : Edit → Bool
-takes_memory (set_paint layer name value) = true
-takes_memory (set_layout layer name value) = true
-takes_memory (set_filter layer filter) = true
-takes_memory (set_range layer min max) = true
-takes_memory (add_layer layer before) = true
-takes_memory _ = false
-
--- it takes a layer away
-abbrev pub removes_layer : Edit → Bool
-removes_layer (remove_layer id) = true
-removes_layer _ = false

@@ -1,10 +1,12 @@
 -- Why an edit cannot be made: the first cause that holds, in their order.
-use Rattle.std.specs.Prelude.{ℕ, ℤ, List, [], ◌∷◌, codes, Bool, true, false, ◌&&◌, not, Option, Some, None, is_none, if◌then◌else◌}
+use Rattle.std.specs.Prelude.{ℕ, ℤ, List, [], ◌∷◌, codes, Bool, true, false, ◌&&◌, not, Option, Some, None, is_none}
+use Rattle.std.specs.Bool.{then_some}
 use Rattle.std.specs.List.{list_all}
 use Rattle.std.specs.Option.{option_and_then}
 use Rattle.decimal_json.specs.Accessors.{member}
 use Rattle.decimal_json.specs.Tree.{Tree}
 use Rattle.edit_script.specs.Edit.{Edit, set_paint, set_layout, set_filter, set_range, add_layer, remove_layer, move_layer, set_zoom, set_state, remove_state}
+use Rattle.style_edits.specs.Causes.{first_cause}
 use Rattle.style_edits.specs.Layer.{is_null}
 use Rattle.style_edits.specs.Layers.{layer_list, layer_named}
 use Rattle.style_edits.specs.declared.faults.EditFault.{EditFault}
@@ -68,15 +70,10 @@ unsets_nothing ts _ = false
 
 -- ---- the fault of an edit of a document, or none. Source: own.
 
--- the first of these causes that holds
-abbrev pub first_cause : List (EditFault × Bool) → Option EditFault
-first_cause [] = None
-first_cause (cause ∷ causes) = if cause.1 then Some cause.0 else first_cause causes
-
 abbrev pub edit_fault : Tree → Edit → Option EditFault
 edit_fault document edit = first_cause (
-    (UnknownLayer, lacks_layer (layer_list document) (named_layer edit)) ∷
-    (UnknownBefore, lacks_layer (layer_list document) (named_before edit)) ∷
-    (UnknownSource, lacks_source document (named_source edit)) ∷
-    (ZoomRange, not (list_all is_zoom_or_none (named_zooms edit))) ∷
-    (UnknownProperty, unsets_nothing (layer_list document) edit) ∷ [])
+    then_some (lacks_layer (layer_list document) (named_layer edit)) UnknownLayer ∷
+    then_some (lacks_layer (layer_list document) (named_before edit)) UnknownBefore ∷
+    then_some (lacks_source document (named_source edit)) UnknownSource ∷
+    then_some (not (list_all is_zoom_or_none (named_zooms edit))) ZoomRange ∷
+    then_some (unsets_nothing (layer_list document) edit) UnknownProperty ∷ [])

@@ -3,27 +3,23 @@
 use Rattle.std.specs.Prelude.{ℕ, List, [], ◌∷◌, ◌++◌, codes, Bool, false, Option, Some, None, if◌then◌else◌}
 use Rattle.std.specs.Str.{bytes_eq}
 use Rattle.decimal_json.specs.Accessors.{member}
-use Rattle.decimal_json.specs.Tree.{Tree, list, Trees, no_trees, tree, trees_of}
+use Rattle.decimal_json.specs.Tree.{Tree, list, trees_of}
+use Rattle.edit_script.specs.Form.{elements_of}
 use Rattle.style_edits.specs.Objects.{object_replacing}
 use Rattle.style_parts.specs.Parts.{is_id_of, layers_of}
 
 -- ---- the layers of a document
 
--- the items of an array, as a list
-abbrev pub list_of : Trees → List Tree
-list_of no_trees = []
-list_of (tree t ts) = t ∷ list_of ts
-
 -- the layers; none where `layers` is no array
 abbrev pub layer_list : Tree → List Tree
-layer_list document = list_of (layers_of document)
+layer_list document = elements_of (layers_of document)
 
 -- a document with these layers in place of what `layers` is
 abbrev pub with_list : List Tree → Tree → Tree
 with_list ts document = object_replacing (codes "layers") (list (trees_of ts)) document
 
 abbrev pub with_changed : (List Tree → List Tree) → Option Tree → Tree → Tree
-with_changed change (Some (list ts)) document = with_list (change (list_of ts)) document
+with_changed change (Some (list ts)) document = with_list (change (elements_of ts)) document
 with_changed change _ document = document
 
 -- A document with its layers changed. One that has no array of layers stays.

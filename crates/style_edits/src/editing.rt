@@ -5,8 +5,9 @@ ghost use Rattle.std.specs.Result.{result_err};
 ghost use Rattle.decimal_json.specs.View.{tree_of};
 ghost use Rattle.edit_script.specs.View.{command_seen};
 ghost use Rattle.style_edits.specs.Places.{places_of};
-ghost use Rattle.style_edits.specs.Edited.{edited, removes_layer, takes_memory};
+ghost use Rattle.style_edits.specs.Edited.{edited};
 ghost use Rattle.style_edits.specs.Faults.{edit_fault};
+ghost use Rattle.style_edits.specs.Needs.{removes_layer, takes_memory};
 ghost use Rattle.style_edits.specs.Undone.{IsUndo, restores_layer};
 
 use crate::document::{put_layers, take_layers};

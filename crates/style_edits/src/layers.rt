@@ -5,7 +5,7 @@ ghost use Rattle.decimal_json.specs.Tree.{Tree};
 ghost use Rattle.decimal_json.specs.View.{tree_of};
 ghost use Rattle.edit_script.specs.View.{command_seen};
 ghost use Rattle.style_edits.specs.ByPlace.{edited_at, changed_at, removed_at, inserted_at, place_moved_to, moved_at};
-ghost use Rattle.style_edits.specs.Edited.{removes_layer, takes_memory};
+ghost use Rattle.style_edits.specs.Needs.{removes_layer, takes_memory};
 ghost use Rattle.style_edits.specs.Layer.{with_property, with_filter, with_range};
 ghost use Rattle.style_edits.specs.Undone.{undone_layers, restores_layer, IsWithin};
 

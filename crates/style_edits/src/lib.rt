@@ -18,7 +18,7 @@
 //! `edit_fault` and `edit_at`, which are its parts after `edit_places`. One layer is copied, the one that is edited;
 //! texts and numbers are shared with the document and the command.
 //!
-//! The text to believe is in `specs/`: `Objects`, `Layer`, `Layers`, `Edited`, `Faults`, `Places`, `Undone`.
+//! The text to believe is in `specs/`: `Objects`, `Layer`, `Layers`, `Edited`, `Causes`, `Faults`, `Places`, `Undone`.
 #![tactic(auto)]
 
 mod document;

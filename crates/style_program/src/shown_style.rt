@@ -19,7 +19,7 @@ use crate::validate_command::answer_broken;
 use crate::words::{EvalRequest, TileWord, count_of};
 use decimal_json::Json;
 use outside_io::Files;
-use program_runs::{Halt, Subject, read_file, read_json};
+use program_runs::{Halt, Stop, Subject, read_file, read_json};
 use std::alloc::Global;
 use style_layout::SourceTile;
 use style_rules::{Finding, findings};
@@ -121,7 +121,7 @@ fn read_next<'a, F: Files>(
     let (size, tile) = read_one(alloc, word.source, number, word.tile, limit, files)?;
     let source = word.source;
     let Ok(()) = tiles.push(SourceTile { source, tile }) else {
-        return Err(Halt::NoMemory);
+        return Err(Halt::Stopped(Stop::NoMemory));
     };
     Ok(left.saturating_sub(size))
 }

@@ -80,7 +80,6 @@ fn settled<'a, F: Files>(
     match answer_to(alloc, &request, files, images, scripts) {
         Ok(answer) => Ok(answer),
         Err(Halt::Refused(answer)) => Ok(answer),
-        Err(Halt::NoMemory) => Err(Stop::NoMemory),
-        Err(Halt::Unread(name)) => Err(Stop::Unread(name)),
+        Err(Halt::Stopped(stop)) => Err(stop),
     }
 }

@@ -3,7 +3,8 @@ use Rattle.std.proofs.Common.{[], ap, ◌∙◌, rules, nat_eq, Some}
 use Rattle.std.specs.Prelude.{option_map, if◌then◌else◌}
 use Rattle.indexmap.specs.IndexMap.{get_by_text}
 use Rattle.std.proofs.lemmas.Map.Text.{hash_map_updates_text}
-use Rattle.feature_states.specs.Members.{members_of_id, left_of}
+use Rattle.feature_states.specs.Features.{left_of}
+use Rattle.feature_states.specs.Members.{members_of_id}
 use Rattle.feature_states.proofs.Levels.{changed, seen}
 use Rattle.feature_states.proofs.kept.remove_in_layer.Goals as goal
 

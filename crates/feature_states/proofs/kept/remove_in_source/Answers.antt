@@ -4,7 +4,8 @@ use Rattle.std.specs.Prelude.{◌&&◌, option_map, if◌then◌else◌}
 use Rattle.indexmap.specs.IndexMap.{get_by_text}
 use Rattle.std.specs.Str.{bytes_eq}
 use Rattle.std.proofs.lemmas.Map.Text.{hash_map_updates_text}
-use Rattle.feature_states.specs.Members.{members_in_layer, left_of}
+use Rattle.feature_states.specs.Features.{left_of}
+use Rattle.feature_states.specs.Members.{members_in_layer}
 use Rattle.feature_states.proofs.Levels.{changed, seen}
 use Rattle.feature_states.proofs.kept.remove_in_source.Goals as goal
 
