@@ -1,4 +1,4 @@
--- Laws. The statements are to be believed; their proofs stand in proofs/.
+-- Laws. The statements are to be believed; their proofs are in proofs/.
 use Rattle.std.specs.Prelude.{◌≢◌, Err}
 use Rattle.decimal_json.specs.Tree.{Tree}
 use Rattle.edit_script.specs.declared.command.LineFault.TheVariants.{Json}

@@ -32,7 +32,7 @@ abbrev pub inserted_at : Option ℕ → Tree → List Tree → List Tree
 inserted_at (Some place) layer ts = insert ts place layer
 inserted_at None layer ts = ts ++ layer ∷ []
 
--- the place to which a layer is moved, before another or to the end: what stands behind it moves up
+-- the place to which a layer is moved, before another or to the end: those after it move up
 abbrev pub place_moved_to : ℕ → Option ℕ → ℕ → ℕ
 place_moved_to from (Some before) count = if nat_lt from before then before - 1 else before
 place_moved_to from None count = count - 1

@@ -1,4 +1,4 @@
--- What an edit needs, for what is promised when memory lacks.
+-- What an edit needs, for what is promised when an allocation fails.
 use Rattle.std.specs.Prelude.{Bool, true, false}
 use Rattle.edit_script.specs.Edit.{Edit, set_paint, set_layout, set_filter, set_range, add_layer, remove_layer}
 
