@@ -8,7 +8,7 @@ ghost use Rattle.operator_values.specs.Evaluated.{Gives};
 ghost use Rattle.eval_face.specs.World.{state_of};
 ghost use Rattle.eval_face.specs.Lookups.{entry_at, get_of, has_of, state_at, id_value, shape_name, image_of, script_of};
 
-use crate::surroundings::Surroundings;
+use crate::world_view::WorldView;
 use decimal_json::Text;
 use fixed_num::Fixed;
 use operator_values::Halt;
@@ -128,7 +128,7 @@ pub(crate) fn shape_name(shape: Shape) -> &'static str
 }
 
 /// `image`: the name itself, or null where there is no such image.
-pub(crate) fn image<W: Surroundings>(world: &W, values: &[Value]) -> Result<Value, Halt>
+pub(crate) fn image<W: WorldView>(world: &W, values: &[Value]) -> Result<Value, Halt>
     ensures { Gives result (image_of (W.world world.now).has_image (values_view values.now)) }
 {
     match values {
@@ -139,7 +139,7 @@ pub(crate) fn image<W: Surroundings>(world: &W, values: &[Value]) -> Result<Valu
 }
 
 /// `is-supported-script`.
-pub(crate) fn supported_script<W: Surroundings>(
+pub(crate) fn supported_script<W: WorldView>(
     world: &W,
     values: &[Value],
 ) -> Result<Value, EvalFault>
