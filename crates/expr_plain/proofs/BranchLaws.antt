@@ -1,23 +1,24 @@
 -- What decides between outputs, as slices of the code have it.
-use Rattle.std.proofs.Common.{◌≡◌, ℕ, ◌-◌, ◌≤◌, ◌<◌, ℤ, List, [], ◌∷◌, length, true, false, Result, Ok, Err, refl, zero, suc, sym, ap, ◌∙◌, subst, arith, get_or, take, drop, take_all}
+use Rattle.std.proofs.Common.{◌≡◌, ℕ, ◌-◌, ◌≤◌, ◌<◌, ℤ, List, [], ◌∷◌, length, Bool, true, false, Result, Ok, Err, refl, zero, suc, sym, ap, ◌∙◌, subst, arith, get_or, take, drop, take_all}
 use Rattle.fixed_num.specs.declared.fixed.Arith.{Arith}
 use Rattle.prop_values.specs.Data.{Data, null, boolean, number, text, color, list, map}
+use Rattle.prop_values.specs.declared.fault.EvalFault.{EvalFault}
 use Rattle.prop_values.specs.declared.fault.EvalFault.TheVariants.{WrongType}
 use Rattle.prop_values.specs.declared.kinds.Want.{Want}
 use Rattle.prop_values.specs.declared.kinds.Want.TheVariants as wants
+use Rattle.prop_values.specs.View.{data_of}
 use Rattle.prop_values.specs.declared.outcome.Curve.{Curve}
 use Rattle.prop_values.specs.declared.value.Value.{Value}
 use Rattle.interpolate_fixed.specs.Places.{place_of}
 use Rattle.interpolate_fixed.specs.Warp.{warp_of}
-use Rattle.interpolate_fixed.specs.declared.place.StopPlace.{StopPlace}
 use Rattle.property_tables.specs.Fitting.{fit}
 use Rattle.expr_syntax.specs.declared.expression.Expr.{Expr}
 use Rattle.expr_syntax.specs.declared.parts.Labelled.{Labelled}
 use Rattle.expr_syntax.specs.Chosen.{output_of}
 use Rattle.expr_syntax.specs.Operators.{ramp_want}
-use Rattle.expr_syntax.specs.TermView.{term_of, weight}
+use Rattle.expr_syntax.specs.TermView.{term_of}
+use Rattle.expr_syntax.specs.TermView.{weight}
 use Rattle.halts.specs.declared.halt.Halt.{Halt}
-use Rattle.prop_values.specs.declared.fault.EvalFault.{EvalFault}
 use Rattle.operator_values.specs.Arithmetic.{then_number}
 use Rattle.operator_values.specs.Evaluated.{Evaluated, Gives, then_value, or_fault}
 use Rattle.eval_face.specs.World.{World}
@@ -25,22 +26,37 @@ use Rattle.eval_face.specs.Names.{Names}
 use Rattle.eval_face.specs.Branches.{branch, case_of, output_at, match_of, with_number, ramp_of, ramp_at}
 use Rattle.eval_face.specs.Meaning.{mean}
 use Rattle.expr_plain.specs.Terms.{meanings, condition_in, number_in}
-use Rattle.expr_plain.proofs.Values.{meanings_length}
+use Rattle.expr_plain.specs.Evaluates.{Evaluates}
+use Rattle.expr_plain.specs.Frames.{names_of}
+use Rattle.expr_plain.specs.declared.evaluation.Evaluation.{Evaluation}
+use Rattle.expr_plain.specs.declared.frames.Frames.{Frames}
+use Rattle.expr_plain.proofs.ArgumentLaws.{meanings_length}
+use Rattle.expr_plain.proofs.Evaluating.{as_meant, given}
 
 -- ---- `case`
 
-branch_false : (d : Data) (output later : Evaluated) → condition_in d ≡ Ok false → branch (Ok d) output later ≡ later
-branch_false (boolean true) output later h = absurd (cc)
-branch_false (boolean false) output later h = refl
-branch_false null output later h = absurd (cc)
-branch_false (number z) output later h = absurd (cc)
-branch_false (text s) output later h = absurd (cc)
-branch_false (color c) output later h = absurd (cc)
-branch_false (list ds) output later h = absurd (cc)
-branch_false (map ps) output later h = absurd (cc)
+-- what a condition chooses
+abbrev pub by_flag : Result Bool EvalFault → Evaluated → Evaluated → Evaluated
+by_flag (Ok true) output later = output
+by_flag (Ok false) output later = later
+by_flag (Err fault) output later = Err fault
+
+branch_by : (d : Data) (output later : Evaluated) → branch (Ok d) output later ≡ by_flag (condition_in d) output later
+branch_by (boolean true) output later = refl
+branch_by (boolean false) output later = refl
+branch_by null output later = refl
+branch_by (number z) output later = refl
+branch_by (text s) output later = refl
+branch_by (color c) output later = refl
+branch_by (list ds) output later = refl
+branch_by (map ps) output later = refl
+
+-- what is left after the first condition and its output
+abbrev pub rest_of : List Expr → List Expr
+rest_of es = take (length es - 2) (drop 2 es)
 
 -- a `case` by its first condition
-case_first : (es : List Expr) (e f : Expr) (want : Want) (names : Names) (world : World) → e ≡ get_or es 0 e → f ≡ get_or es 1 f → 2 ≤ length es → case_of (meanings es) want names world ≡ branch (mean (term_of e) wants.Boolean names world) (mean (term_of f) want names world) (case_of (meanings (take (length es - 2) (drop 2 es))) want names world)
+case_first : (es : List Expr) (e f : Expr) (want : Want) (names : Names) (world : World) → e ≡ get_or es 0 e → f ≡ get_or es 1 f → 2 ≤ length es → case_of (meanings es) want names world ≡ branch (mean (term_of e) wants.Boolean names world) (mean (term_of f) want names world) (case_of (meanings (rest_of es)) want names world)
 case_first [] e f want names world p q h = absurd (omega arith)
 case_first (x ∷ []) e f want names world p q h = absurd (omega arith)
 case_first (x ∷ y ∷ es) e f want names world p q h =
@@ -48,14 +64,15 @@ case_first (x ∷ y ∷ es) e f want names world p q h =
     ∙ (ap (λ b. branch (mean (term_of e) wants.Boolean names world) (mean (term_of b) want names world) (case_of (meanings es) want names world)) (sym q)
     ∙ ap (λ zs. branch (mean (term_of e) wants.Boolean names world) (mean (term_of f) want names world) (case_of (meanings zs) want names world)) (sym (take_all (length (x ∷ y ∷ es) - 2) es (omega arith))))
 
-pub case_false : (es : List Expr) (e f : Expr) (want : Want) (names : Names) (world : World) (d : Data) → e ≡ get_or es 0 e → f ≡ get_or es 1 f → 2 ≤ length es → mean (term_of e) wants.Boolean names world ≡ Ok d → condition_in d ≡ Ok false → case_of (meanings (take (length es - 2) (drop 2 es))) want names world ≡ case_of (meanings es) want names world
-case_false es e f want names world d p q h m t =
-    let rest = case_of (meanings (take (length es - 2) (drop 2 es))) want names world in
+pub case_by : (es : List Expr) (e f : Expr) (want : Want) (names : Names) (world : World) (d : Data) (flag : Result Bool EvalFault) → e ≡ get_or es 0 e → f ≡ get_or es 1 f → 2 ≤ length es → mean (term_of e) wants.Boolean names world ≡ Ok d → flag ≡ condition_in d → by_flag flag (mean (term_of f) want names world) (case_of (meanings (rest_of es)) want names world) ≡ case_of (meanings es) want names world
+case_by es e f want names world d flag p q h m t =
+    let rest = case_of (meanings (rest_of es)) want names world in
     let output = mean (term_of f) want names world in
-    sym (case_first es e f want names world p q h ∙ (ap (λ x. branch x output rest) m ∙ branch_false d output rest t))
+    ap (λ x. by_flag x output rest) t
+    ∙ sym (case_first es e f want names world p q h ∙ (ap (λ x. branch x output rest) m ∙ branch_by d output rest))
 
 -- the rest has no more nodes
-pub rest_weight : (es : List Expr) → 2 ≤ length es → weight (take (length es - 2) (drop 2 es)) ≤ weight es
+pub rest_weight : (es : List Expr) → 2 ≤ length es → weight (rest_of es) ≤ weight es
 rest_weight [] h = absurd (omega arith)
 rest_weight (x ∷ []) h = absurd (omega arith)
 rest_weight (x ∷ y ∷ es) h = rw (take_all (length (x ∷ y ∷ es) - 2) es (omega arith)) (omega arith)
@@ -77,53 +94,81 @@ output_none (x ∷ es) (suc k) want names world h = output_none es k want names 
 abbrev pub outputs_in : List Expr → List Expr
 outputs_in es = take (length es - 1) (drop 1 es)
 
-input_first : (es : List Expr) (e : Expr) → e ≡ get_or es 0 e → 1 ≤ length es → meanings es ≡ mean (term_of e) ∷ meanings (outputs_in es)
+input_first : (es : List Expr) (e : Expr) → e ≡ get_or es 0 e → 1 ≤ length es → mean (term_of e) ∷ meanings (outputs_in es) ≡ meanings es
 input_first [] e p h = absurd (omega arith)
 input_first (x ∷ es) e p h =
-    ap (λ a. mean (term_of a) ∷ meanings es) (sym p)
-    ∙ ap (λ zs. mean (term_of e) ∷ meanings zs) (sym (take_all (length (x ∷ es) - 1) es (omega arith)))
+    ap (λ zs. mean (term_of e) ∷ meanings zs) (take_all (length (x ∷ es) - 1) es (omega arith))
+    ∙ ap (λ a. mean (term_of a) ∷ meanings es) p
 
-match_first : (labels : List Labelled) (es : List Expr) (e : Expr) (want : Want) (names : Names) (world : World) → e ≡ get_or es 0 e → 1 ≤ length es → then_value (mean (term_of e) wants.Any names world) (λ d. output_at (meanings (outputs_in es)) (output_of labels d (length (outputs_in es) - 1)) want names world) ≡ match_of labels (meanings es) want names world
+pub match_first : (labels : List Labelled) (es : List Expr) (e : Expr) (want : Want) (names : Names) (world : World) → e ≡ get_or es 0 e → 1 ≤ length es → then_value (mean (term_of e) wants.Any names world) (λ d. output_at (meanings (outputs_in es)) (output_of labels d (length (outputs_in es) - 1)) want names world) ≡ match_of labels (meanings es) want names world
 match_first labels es e want names world p h =
-    sym (ap (λ ms. match_of labels ms want names world) (input_first es e p h)
-    ∙ ap (λ n. then_value (mean (term_of e) wants.Any names world) (λ d. output_at (meanings (outputs_in es)) (output_of labels d (n - 1)) want names world)) (meanings_length (outputs_in es)))
-
-ramp_first : (curve : Curve) (inputs : List ℤ) (es : List Expr) (e : Expr) (want : Want) (names : Names) (world : World) → e ≡ get_or es 0 e → 1 ≤ length es → with_number (mean (term_of e) wants.Number names world) (λ v. then_number (warp_of curve inputs v) (λ x. then_value (ramp_at inputs (meanings (outputs_in es)) x (place_of inputs x) (ramp_want want) names world) (fit want))) ≡ ramp_of curve inputs (meanings es) want names world
-ramp_first curve inputs es e want names world p h = sym (ap (λ ms. ramp_of curve inputs ms want names world) (input_first es e p h))
-
--- ---- numbers
-
-number_here : (d : Data) (z : ℤ) (go : ℤ → Evaluated) → number_in d ≡ Ok z → with_number (Ok d) go ≡ go z
-number_here (number y) z go h = let q : y ≡ z = cc in ap go q
-number_here null z go h = absurd (cc)
-number_here (boolean b) z go h = absurd (cc)
-number_here (text s) z go h = absurd (cc)
-number_here (color c) z go h = absurd (cc)
-number_here (list ds) z go h = absurd (cc)
-number_here (map ps) z go h = absurd (cc)
-
-number_given : (a : Evaluated) (d : Data) (z : ℤ) (go : ℤ → Evaluated) → a ≡ Ok d → number_in d ≡ Ok z → with_number a go ≡ go z
-number_given a d z go p h = ap (λ x. with_number x go) p ∙ number_here d z go h
-
-moved_given : (r : Result ℤ Arith) (z : ℤ) (go : ℤ → Evaluated) → or_fault r ≡ Ok z → then_number r go ≡ go z
-moved_given (Ok y) z go h = let q : y ≡ z = cc in ap go q
-moved_given (Err a) z go h = absurd (cc)
-
--- ---- what is given of the output that is chosen
-
-pub match_given : (r : Result Value (Halt EvalFault)) (labels : List Labelled) (es : List Expr) (e : Expr) (want : Want) (names : Names) (world : World) (d : Data) (place : ℕ) → e ≡ get_or es 0 e → 1 ≤ length es → mean (term_of e) wants.Any names world ≡ Ok d → place ≡ output_of labels d (length (outputs_in es) - 1) → Gives r (output_at (meanings (outputs_in es)) place want names world) → Gives r (match_of labels (meanings es) want names world)
-match_given r labels es e want names world d place p h m s k =
     let outputs = outputs_in es in
-    subst (Gives r) (match_first labels es e want names world p h)
-    (subst (Gives r) (sym (ap (λ x. then_value x (λ y. output_at (meanings outputs) (output_of labels y (length outputs - 1)) want names world)) m))
-    (subst (λ (n : ℕ). Gives r (output_at (meanings outputs) n want names world)) s k))
+    ap (λ n. then_value (mean (term_of e) wants.Any names world) (λ d. output_at (meanings outputs) (output_of labels d (n - 1)) want names world)) (sym (meanings_length outputs))
+    ∙ ap (λ ms. match_of labels ms want names world) (input_first es e p h)
 
-pub ramp_given : (r : Result Value (Halt EvalFault)) (curve : Curve) (inputs : List ℤ) (es : List Expr) (e : Expr) (want own : Want) (names : Names) (world : World) (d v : Data) (z x : ℤ) (place : StopPlace) → e ≡ get_or es 0 e → 1 ≤ length es → mean (term_of e) wants.Number names world ≡ Ok d → number_in d ≡ Ok z → or_fault (warp_of curve inputs z) ≡ Ok x → place ≡ place_of inputs x → own ≡ ramp_want want → ramp_at inputs (meanings (outputs_in es)) x place own names world ≡ Ok v → Gives r (fit want v) → Gives r (ramp_of curve inputs (meanings es) want names world)
-ramp_given r curve inputs es e want own names world d v z x place p h m n w s o a k =
-    let outputs = meanings (outputs_in es) in
-    let value_at = λ (y : ℤ). then_value (ramp_at inputs outputs y (place_of inputs y) (ramp_want want) names world) (fit want) in
-    let at_place : ramp_at inputs outputs x (place_of inputs x) (ramp_want want) names world ≡ Ok v =
-    ap (λ q. ramp_at inputs outputs x q (ramp_want want) names world) (sym s) ∙ (ap (λ q. ramp_at inputs outputs x place q names world) (sym o) ∙ a) in
-    let meant = number_given (mean (term_of e) wants.Number names world) d z (λ y. then_number (warp_of curve inputs y) value_at) m n
-    ∙ (moved_given (warp_of curve inputs z) x value_at w ∙ ap (λ y. then_value y (fit want)) at_place) in
-    subst (Gives r) (ramp_first curve inputs es e want names world p h) (subst (Gives r) (sym meant) k)
+pub match_with : (labels : List Labelled) (es : List Expr) (e : Expr) (want : Want) (names : Names) (world : World) (d : Data) (place : ℕ) → e ≡ get_or es 0 e → 1 ≤ length es → mean (term_of e) wants.Any names world ≡ Ok d → place ≡ output_of labels d (length (outputs_in es) - 1) → output_at (meanings (outputs_in es)) place want names world ≡ match_of labels (meanings es) want names world
+match_with labels es e want names world d place p h m s =
+    let outputs = outputs_in es in
+    ap (λ (n : ℕ). output_at (meanings outputs) n want names world) s
+    ∙ (ap (λ x. then_value x (λ y. output_at (meanings outputs) (output_of labels y (length outputs - 1)) want names world)) (sym m)
+    ∙ match_first labels es e want names world p h)
+
+-- what a number goes on to
+abbrev pub by_number : Result ℤ EvalFault → (ℤ → Evaluated) → Evaluated
+by_number (Ok z) go = go z
+by_number (Err fault) go = Err fault
+
+number_by : (d : Data) (go : ℤ → Evaluated) → with_number (Ok d) go ≡ by_number (number_in d) go
+number_by (number z) go = refl
+number_by null go = refl
+number_by (boolean b) go = refl
+number_by (text s) go = refl
+number_by (color c) go = refl
+number_by (list ds) go = refl
+number_by (map ps) go = refl
+
+number_with : (a : Evaluated) (d : Data) (x : Result ℤ EvalFault) (go : ℤ → Evaluated) → a ≡ Ok d → x ≡ number_in d → by_number x go ≡ with_number a go
+number_with a d x go p q = ap (λ y. by_number y go) q ∙ (sym (number_by d go) ∙ ap (λ y. with_number y go) (sym p))
+
+-- ---- `interpolate`
+
+-- what is at an input that was moved, before it is fitted, and the ramp of a value
+abbrev pub output_in : List ℤ → List Expr → Want → Names → World → ℤ → Evaluated
+output_in inputs es want names world x = ramp_at inputs (meanings (outputs_in es)) x (place_of inputs x) (ramp_want want) names world
+
+abbrev pub moved_to : Result ℤ EvalFault → (ℤ → Evaluated) → Want → Evaluated
+moved_to at output want = by_number at (λ x. then_value (output x) (fit want))
+
+abbrev pub ramp_from : Curve → List ℤ → List Expr → Want → Names → World → ℤ → Evaluated
+ramp_from curve inputs es want names world v = then_number (warp_of curve inputs v) (λ x. then_value (output_in inputs es want names world x) (fit want))
+
+ramp_first : (curve : Curve) (inputs : List ℤ) (es : List Expr) (e : Expr) (want : Want) (names : Names) (world : World) → e ≡ get_or es 0 e → 1 ≤ length es → with_number (mean (term_of e) wants.Number names world) (ramp_from curve inputs es want names world) ≡ ramp_of curve inputs (meanings es) want names world
+ramp_first curve inputs es e want names world p h = ap (λ ms. ramp_of curve inputs ms want names world) (input_first es e p h)
+
+pub ramp_with : (curve : Curve) (inputs : List ℤ) (es : List Expr) (e : Expr) (want : Want) (names : Names) (world : World) (d : Data) (x : Result ℤ EvalFault) → e ≡ get_or es 0 e → 1 ≤ length es → mean (term_of e) wants.Number names world ≡ Ok d → x ≡ number_in d → by_number x (ramp_from curve inputs es want names world) ≡ ramp_of curve inputs (meanings es) want names world
+ramp_with curve inputs es e want names world d x p h m n =
+    number_with (mean (term_of e) wants.Number names world) d x (ramp_from curve inputs es want names world) m n ∙ ramp_first curve inputs es e want names world p h
+
+moved_by : (r : Result ℤ Arith) (go : ℤ → Evaluated) → by_number (or_fault r) go ≡ then_number r go
+moved_by (Ok z) go = refl
+moved_by (Err a) go = refl
+
+-- a ramp by the input that its curve moved
+pub ramp_moved : (curve : Curve) (inputs : List ℤ) (es : List Expr) (e : Expr) (want : Want) (names : Names) (world : World) (d : Data) (z : ℤ) (at : Result ℤ EvalFault) → e ≡ get_or es 0 e → 1 ≤ length es → mean (term_of e) wants.Number names world ≡ Ok d → Ok z ≡ number_in d → at ≡ or_fault (warp_of curve inputs z) → moved_to at (output_in inputs es want names world) want ≡ ramp_of curve inputs (meanings es) want names world
+ramp_moved curve inputs es e want names world d z at p h m n w =
+    let go = λ (x : ℤ). then_value (output_in inputs es want names world x) (fit want) in
+    ap (λ a. by_number a go) w
+    ∙ (moved_by (warp_of curve inputs z) go ∙ ramp_with curve inputs es e want names world d (Ok z) p h m n)
+
+-- ---- what is given of what decides and of the output that it chooses
+
+pub match_evaluates : {r : Result Value (Halt EvalFault)} {v : Value} (labels : List Labelled) (es : List Expr) {e : Expr} {want : Want} {frames : Frames} {world : World} {a : Evaluation} {b : Evaluation} {c : Evaluation} {place : ℕ} → e ≡ get_or es 0 e → 1 ≤ length es → Evaluates (Ok v) (mean (term_of e)) wants.Any frames world a b → place ≡ output_of labels (data_of v) (length (outputs_in es) - 1) → Evaluates r (output_at (meanings (outputs_in es)) place) want frames world b c → Evaluates r (match_of labels (meanings es)) want frames world a c
+match_evaluates {v = v} labels es {e} {want} {frames} {world} {place = place} p l h s i =
+    as_meant (match_with labels es e want (names_of frames.scope.now world) world (data_of v) place p l h.meant s) h.stands i
+
+-- the whole ramp, where what is at the input is evaluated
+pub ramp_evaluates : {r : Result Value (Halt EvalFault)} {v : Value} {w : Value} {z : ℤ} {x : ℤ} (curve : Curve) (inputs : List ℤ) (es : List Expr) {e : Expr} {want : Want} {own : Want} {frames : Frames} {world : World} {a : Evaluation} {b : Evaluation} {c : Evaluation} → e ≡ get_or es 0 e → 1 ≤ length es → Evaluates (Ok v) (mean (term_of e)) wants.Number frames world a b → Ok z ≡ number_in (data_of v) → Ok x ≡ or_fault (warp_of curve inputs z) → own ≡ ramp_want want → Evaluates (Ok w) (ramp_at inputs (meanings (outputs_in es)) x (place_of inputs x)) own frames world b c → Gives r (fit want (data_of w)) → Evaluates r (ramp_of curve inputs (meanings es)) want frames world a c
+ramp_evaluates {r} {v} {w} {z} {x} curve inputs es {e} {want} {own} {frames} {world} p l h n m o i g =
+    let names = names_of frames.scope.now world in
+    let at = ap (λ (y : Want). then_value (ramp_at inputs (meanings (outputs_in es)) x (place_of inputs x) y names world) (fit want)) o in
+    given (subst (Gives r) (ap (λ y. then_value y (fit want)) (sym i.meant) ∙ (at ∙ ramp_moved curve inputs es e want names world (data_of v) z (Ok x) p l h.meant n m)) g) i.entered (i.stands ∙ h.stands)

@@ -14,10 +14,13 @@ use Rattle.eval_face.specs.Names.{Names}
 use Rattle.eval_face.specs.Bindings.{outcomes_of}
 use Rattle.eval_face.specs.Meaning.{mean}
 use Rattle.expr_plain.specs.Terms.{meanings}
-use Rattle.expr_plain.specs.Frames.{names_of, Has, IsReady, AreKept, done_in, waiting}
-use Rattle.expr_plain.specs.declared.scope.Slot.{Slot}
-use Rattle.expr_plain.specs.declared.scope.Slot.TheVariants.{Waiting, Done}
-use Rattle.expr_plain.specs.declared.scope.Scope.{Scope, Empty, Frame'}
+use Rattle.expr_plain.specs.Frames.{names_of, promises, Has, IsReady, AreKept, IsEntered, IsWithin}
+use Rattle.expr_plain.specs.Slots.{done_in, waiting}
+use Rattle.expr_plain.specs.declared.evaluation.Evaluation.{Evaluation}
+use Rattle.expr_plain.specs.declared.evaluation.Slot.{Slot}
+use Rattle.expr_plain.specs.declared.evaluation.Slot.TheVariants.{Waiting, Done}
+use Rattle.expr_plain.specs.declared.frames.Frames.{Frames}
+use Rattle.expr_plain.specs.declared.frames.Scope.{Scope, Empty, Frame'}
 
 -- Places.
 
@@ -62,12 +65,12 @@ get_within [] i x h = absurd (cc)
 get_within (a ∷ xs) zero x h = omega arith
 get_within (a ∷ xs) (suc i) x h = let r = get_within xs i x h in omega arith
 
-pub has_within : (os : List Evaluated) (i : ℕ) (ps : List Evaluated) (k : ℕ) → Has os i ps → k < length os → i + k < length ps
+has_within : (os : List Evaluated) (i : ℕ) (ps : List Evaluated) (k : ℕ) → Has os i ps → k < length os → i + k < length ps
 has_within [] i ps k h l = absurd (omega arith)
 has_within (o ∷ os) i ps zero h l = let r = get_within ps i o h.0 in omega arith
 has_within (o ∷ os) i ps (suc k) h l = let r = has_within os (i + 1) ps k h.1 (omega arith) in omega arith
 
-pub outcomes_length : (es : List Expr) (names : Names) (world : World) → length (outcomes_of (meanings es) names world) ≡ length es
+outcomes_length : (es : List Expr) (names : Names) (world : World) → length (outcomes_of (meanings es) names world) ≡ length es
 outcomes_length [] names world = refl
 outcomes_length (e ∷ es) names world = ap suc (outcomes_length es names world)
 
@@ -77,7 +80,7 @@ ready_append : (s : Scope) (world : World) (ps qs : List Evaluated) → IsReady 
 ready_append Empty world ps qs h = tt
 ready_append (Frame' names es first p outer q below) world ps qs h = (has_append (outcomes_of (meanings es.now) (names_of outer world) world) first ps qs h.0, h.1, ready_append outer world ps qs h.2)
 
-pub kept_length : (ps : List Evaluated) (ss : List Slot) → AreKept ps ss → length ps ≡ length ss
+kept_length : (ps : List Evaluated) (ss : List Slot) → AreKept ps ss → length ps ≡ length ss
 kept_length [] [] h = refl
 kept_length (p ∷ ps) (s ∷ ss) h = ap suc (kept_length ps ss h.1)
 kept_length [] (s ∷ ss) h = absurd h
@@ -107,6 +110,17 @@ kept_take (p ∷ ps) qs (s ∷ ss) h = (h.0, kept_take ps qs ss h.1)
 
 pub leave_kept : (ps qs : List Evaluated) (ss us : List Slot) → AreKept ps ss → AreKept (ps ++ qs) us → AreKept ps (take (length ss) us)
 leave_kept ps qs ss us k h = let P : ℕ → Type 0 = λ n. AreKept ps (take n us) in subst P (kept_length ps ss k) (kept_take ps qs us h)
+
+ready_within : (s : Scope) (world : World) (ps : List Evaluated) → IsReady s world ps → IsWithin (length ps) s
+ready_within Empty world ps h = tt
+ready_within (Frame' names es first p outer q below) world ps h =
+    let os = outcomes_of (meanings es.now) (names_of outer world) world in
+    (λ k l. has_within os first ps k h.0 (let o = outcomes_length es.now (names_of outer world) world in omega arith), h.1, ready_within outer world ps h.2)
+
+pub entered_within : (frames : Frames) (world : World) (evaluation : Evaluation) (n : ℕ) → IsEntered frames world evaluation → n ≡ length evaluation.slots.items → IsWithin n frames.scope.now
+entered_within frames world evaluation n h e =
+    let P : ℕ → Type 0 = λ m. IsWithin m frames.scope.now in
+    subst P (kept_length (promises frames.entered.now world) evaluation.slots.items h.kept ∙ sym e) (ready_within frames.scope.now world (promises frames.entered.now world) h.ready)
 
 -- Asking.
 

@@ -1,5 +1,5 @@
 -- What a look-up finds, and what a `let` binds.
-use Rattle.std.specs.Prelude.{◌≡◌, ℕ, ◌+◌, List, [], ◌∷◌, length, Some, None, Err, refl}
+use Rattle.std.specs.Prelude.{◌≡◌, ℕ, ◌+◌, List, [], ◌∷◌, length, ◌<◌, Option, Some, None, Err, refl}
 use Rattle.std.proofs.Common.{inl, inr, zero, suc, sym, ap, ◌∙◌, arith, subst, take, drop, get_or}
 use Rattle.prop_values.specs.Equality.{same_text}
 use Rattle.prop_values.specs.declared.fault.EvalFault.TheVariants.{WrongType}
@@ -7,15 +7,21 @@ use Rattle.prop_values.specs.declared.kinds.Want.{Want}
 use Rattle.prop_values.specs.declared.kinds.Want.TheVariants as wants
 use Rattle.expr_syntax.specs.declared.expression.Expr.{Expr}
 use Rattle.expr_syntax.specs.BoundNames.{last_place}
+use Rattle.expr_syntax.specs.TermView.{weight}
+use Rattle.expr_syntax.proofs.Falls.{argument_weight}
 use Rattle.expr_syntax.proofs.LastPlaces.{none_first, some_cases, last_above}
 use Rattle.expr_syntax.specs.Term.{nodes}
-use Rattle.expr_syntax.specs.TermView.{term_of, weight}
+use Rattle.expr_syntax.specs.TermView.{term_of}
 use Rattle.operator_values.specs.Evaluated.{Evaluated}
 use Rattle.eval_face.specs.World.{World}
 use Rattle.eval_face.specs.Names.{Names, bound, last_named, or_outer, named}
 use Rattle.eval_face.specs.Bindings.{outcomes_of, body_of, let_of}
 use Rattle.eval_face.specs.Meaning.{mean}
+use Rattle.expr_plain.specs.Frames.{names_of, promise_of, scope_size, IsReady, IsNamed, Finds}
 use Rattle.expr_plain.specs.Terms.{meanings}
+use Rattle.expr_plain.specs.declared.frames.Binding.{Binding}
+use Rattle.expr_plain.specs.declared.frames.Scope.{Scope, Empty, Frame'}
+use Rattle.expr_plain.proofs.FrameLaws.{has_at, outcome_at}
 
 -- Of names and outcomes.
 
@@ -36,12 +42,51 @@ last_some (n ∷ ns) (a ∷ es) x i j (suc k) e names world l h q g =
     elim (some_cases (last_place (i + 1) ns x) (same_text n x) i j h) [ inl r ↦ rw (last_some ns es x (i + 1) j k e names world (omega arith) r (omega arith) g) refl | inr r ↦ absurd (omega (arith, r.2)) ]
 
 -- a name means what its binding means in the outer names
-pub var_found : (ns : List (List ℕ)) (es : List Expr) (x : List ℕ) (k : ℕ) (e : Expr) (names : Names) (world : World) → length ns ≡ length es → last_place 0 ns x ≡ Some k → e ≡ get_or es k e → named (bound ns (outcomes_of (meanings es) names world) ∷ names) x ≡ mean (term_of e) wants.Any names world
+var_found : (ns : List (List ℕ)) (es : List Expr) (x : List ℕ) (k : ℕ) (e : Expr) (names : Names) (world : World) → length ns ≡ length es → last_place 0 ns x ≡ Some k → e ≡ get_or es k e → named (bound ns (outcomes_of (meanings es) names world) ∷ names) x ≡ mean (term_of e) wants.Any names world
 var_found ns es x k e names world l h g = ap (λ o. or_outer o (named names x)) (last_some ns es x 0 k k e names world l h (omega arith) g)
 
 -- or what it means in them
-pub var_later : (ns : List (List ℕ)) (os : List Evaluated) (x : List ℕ) (names : Names) → last_place 0 ns x ≡ None → named (bound ns os ∷ names) x ≡ named names x
+var_later : (ns : List (List ℕ)) (os : List Evaluated) (x : List ℕ) (names : Names) → last_place 0 ns x ≡ None → named (bound ns os ∷ names) x ≡ named names x
 var_later ns os x names h = ap (λ o. or_outer o (named names x)) (last_none ns os x 0 h)
+
+-- Of frames.
+
+-- a name is that of binding k in the innermost frame
+abbrev pub IsHere : Scope → List ℕ → ℕ → Binding → Type 0
+IsHere Empty name k b = ⊥
+IsHere (Frame' names es first p outer q below) name k b =
+    (last_place 0 names.now name ≡ Some k)
+    × (length names.now ≡ length es.now)
+    × (k < length es.now)
+    × (b.expression.now ≡ get_or es.now k b.expression.now)
+    × (b.slot ≡ first + k)
+    × (b.outer.now ≡ outer)
+
+pub named_here : (scope : Scope) (name : List ℕ) (k : ℕ) (b : Binding) → IsHere scope name k b → IsNamed name scope b
+named_here Empty name k b h = absurd h
+named_here (Frame' names es first p outer q below) name k b h =
+    let e = b.expression.now in
+    record {
+      meant = λ world. var_found names.now es.now name k e (names_of outer world) world h.1 h.0 h.3 ∙ ap (λ o. promise_of e o world) (sym h.5);
+      promised = λ world ps r. has_at (outcomes_of (meanings es.now) (names_of outer world) world) first ps k b.slot (promise_of e outer world) r.0 (outcome_at es.now k e (names_of outer world) world h.3 h.2) h.4 ∙ ap (λ o. Some (promise_of e o world)) (sym h.5);
+      ready = λ world ps r. let R : Scope → Type 0 = λ s. IsReady s world ps in subst R (sym h.5) r.2;
+      smaller = let w = argument_weight es.now k e h.3 h.2 in let s = ap scope_size h.5 in omega arith;
+    }
+
+-- or it is none of that frame
+abbrev pub IsLater : Scope → List ℕ → Option Binding → Type 0
+IsLater Empty name found = ⊥
+IsLater (Frame' names es first p outer q below) name found = (last_place 0 names.now name ≡ None) × Finds name outer found
+
+pub named_later : (scope : Scope) (name : List ℕ) (found : Option Binding) → IsLater scope name found → Finds name scope found
+named_later Empty name found h = absurd h
+named_later (Frame' names es first p outer q below) name (Some b) h = record {
+  meant = λ world. var_later names.now (outcomes_of (meanings es.now) (names_of outer world) world) name (names_of outer world) h.0 ∙ h.1.meant world;
+  promised = λ world ps r. h.1.promised world ps r.2;
+  ready = λ world ps r. h.1.ready world ps r.2;
+  smaller = let l = h.1.smaller in omega arith;
+}
+named_later (Frame' names es first p outer q below) name None h = λ world. var_later names.now (outcomes_of (meanings es.now) (names_of outer world) world) name (names_of outer world) h.0 ∙ h.1 world
 
 -- The parts of a `let`.
 

@@ -1,9 +1,6 @@
 -- Where no part of an operator decides, its rule is that of the manner in its row.
-use Rattle.std.proofs.Common.{Result, subst, ◌≡◌, ℕ, ℤ, List, refl}
+use Rattle.std.proofs.Common.{◌≡◌, ℕ, ℤ, List, refl}
 use Rattle.prop_values.specs.declared.outcome.Curve.{Curve}
-use Rattle.prop_values.specs.declared.kinds.Want.{Want}
-use Rattle.prop_values.specs.declared.value.Value.{Value}
-use Rattle.expr_syntax.specs.declared.expression.Expr.{Expr}
 use Rattle.expr_syntax.specs.declared.expression.Operator.{Operator}
 use Rattle.expr_syntax.specs.declared.expression.Operator.TheVariants.{Boolean, Number, String, Object, ToColor, ToNumber, All, Any, Case, Match, Coalesce, Step, Interpolate, Let, Var}
 use Rattle.expr_syntax.specs.declared.parts.Labelled.{Labelled}
@@ -11,16 +8,8 @@ use Rattle.expr_syntax.specs.declared.rows.Manner.{Manner}
 use Rattle.expr_syntax.specs.declared.rows.Manner.TheVariants as manners
 use Rattle.expr_syntax.specs.Names.{row}
 use Rattle.expr_syntax.specs.Operators.{operator_name}
-use Rattle.halts.specs.declared.halt.Halt.{Halt}
-use Rattle.prop_values.specs.declared.fault.EvalFault.{EvalFault}
-use Rattle.operator_values.specs.Evaluated.{Gives}
-use Rattle.eval_face.specs.World.{World}
-use Rattle.eval_face.specs.Rules.{Rule, each, rule_of}
-use Rattle.eval_face.specs.Meaning.{meaning_by, node_meaning}
-use Rattle.expr_plain.specs.Frames.{in_scope}
-use Rattle.expr_plain.specs.Manners.{applied_by}
-use Rattle.expr_plain.specs.Terms.{meanings}
-use Rattle.expr_plain.specs.declared.scope.Scope.{Scope}
+use Rattle.eval_face.specs.Rules.{each, rule_of}
+use Rattle.expr_plain.specs.RuleParts.{applied_by}
 
 abbrev pub manner_of : Operator → Manner
 manner_of op = (row (operator_name op)).manner
@@ -52,7 +41,3 @@ each_rule All p d = absurd (d refl)
 each_rule Any p d = absurd (d refl)
 each_rule Coalesce p d = absurd (d refl)
 each_rule _ p d = refl
-
--- what is given of a node by the rule of its operator
-pub by_rule : (r : Result Value (Halt EvalFault)) (op : Operator) (rule : Rule) (es : List Expr) (want : Want) (scope : Scope) (world : World) → rule ≡ rule_of op → Gives r (in_scope (meaning_by rule op (meanings es)) want scope world) → Gives r (in_scope (node_meaning op (meanings es)) want scope world)
-by_rule r op rule es want scope world p h = subst (λ (x : Rule). Gives r (in_scope (meaning_by x op (meanings es)) want scope world)) p h

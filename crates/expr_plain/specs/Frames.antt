@@ -1,21 +1,25 @@
 -- The bindings around an expression, and what the slots of those that were asked for hold.
-use Rattle.std.specs.Prelude.{◌≡◌, ℕ, ◌+◌, ◌*◌, List, [], ◌∷◌, ◌++◌, length, Option, Some, None, Ok}
+use Rattle.std.specs.Prelude.{◌≡◌, ℕ, ◌+◌, ◌*◌, ◌<◌, List, [], ◌∷◌, ◌++◌, length, Option, Some, None, Ok, Err}
 use Rattle.std.specs.List.{slice_get}
-use Rattle.prop_values.specs.declared.kinds.Want.{Want}
+use Rattle.prop_values.specs.declared.fault.EvalFault.TheVariants.{WrongType}
 use Rattle.prop_values.specs.declared.kinds.Want.TheVariants as wants
-use Rattle.prop_values.specs.Data.{Data}
 use Rattle.prop_values.specs.View.{data_of}
 use Rattle.expr_syntax.specs.declared.expression.Expr.{Expr}
-use Rattle.expr_syntax.specs.TermView.{term_of, weight}
+use Rattle.expr_syntax.specs.TermView.{weight}
+use Rattle.expr_syntax.specs.Term.{nodes}
+use Rattle.expr_syntax.specs.TermView.{term_of}
 use Rattle.operator_values.specs.Evaluated.{Evaluated}
 use Rattle.eval_face.specs.World.{World}
-use Rattle.eval_face.specs.Names.{Names, bound}
+use Rattle.eval_face.specs.Names.{Names, bound, named}
 use Rattle.eval_face.specs.Bindings.{outcomes_of}
 use Rattle.eval_face.specs.Meaning.{mean}
 use Rattle.expr_plain.specs.Terms.{meanings}
-use Rattle.expr_plain.specs.declared.scope.Slot.{Slot}
-use Rattle.expr_plain.specs.declared.scope.Slot.TheVariants.{Waiting, Done}
-use Rattle.expr_plain.specs.declared.scope.Scope.{Scope, Empty, Frame'}
+use Rattle.expr_plain.specs.declared.evaluation.Evaluation.{Evaluation}
+use Rattle.expr_plain.specs.declared.evaluation.Slot.{Slot}
+use Rattle.expr_plain.specs.declared.evaluation.Slot.TheVariants.{Waiting, Done}
+use Rattle.expr_plain.specs.declared.frames.Binding.{Binding}
+use Rattle.expr_plain.specs.declared.frames.Frames.{Frames}
+use Rattle.expr_plain.specs.declared.frames.Scope.{Scope, Empty, Frame'}
 
 -- the names that an expression sees
 abbrev pub names_of : Scope → World → Names
@@ -23,20 +27,9 @@ names_of Empty world = []
 names_of (Frame' names es first p outer q below) world =
     bound names.now (outcomes_of (meanings es.now) (names_of outer world) world) ∷ names_of outer world
 
--- what something means in the names that an expression sees
-abbrev pub in_scope : {A : Type 0} → (Want → Names → World → A) → Want → Scope → World → A
-in_scope meaning want scope world = meaning want (names_of scope world) world
-
--- what a binding gives, and what some of them give, in the frames around theirs
+-- what a binding gives in the frames around its own
 abbrev pub promise_of : Expr → Scope → World → Evaluated
 promise_of binding outer world = mean (term_of binding) wants.Any (names_of outer world) world
-
-abbrev pub promised : List Expr → Scope → World → List Evaluated
-promised bindings outer world = outcomes_of (meanings bindings) (names_of outer world) world
-
--- the names of a frame before those of the frames around it
-abbrev pub frame_names : List (List ℕ) → List Expr → Scope → World → Names
-frame_names names bindings outer world = bound names (promised bindings outer world) ∷ names_of outer world
 
 -- what the slots of all frames that were entered and not left are to hold, those of the first one first
 abbrev pub promises : Scope → World → List Evaluated
@@ -44,12 +37,12 @@ promises Empty world = []
 promises (Frame' names es first p outer q below) world =
     promises below world ++ outcomes_of (meanings es.now) (names_of outer world) world
 
--- from a place on stand these promises
+-- these promises are there from a place on
 abbrev pub Has : List Evaluated → ℕ → List Evaluated → Type 0
 Has [] i ps = Unit {0}
 Has (o ∷ os) i ps = (slice_get ps i ≡ Some o) × Has os (i + 1) ps
 
--- the promises of each frame stand where it says
+-- the promises of each frame are where it says
 abbrev pub IsReady : Scope → World → List Evaluated → Type 0
 IsReady Empty world ps = Unit {0}
 IsReady (Frame' names es first p outer q below) world ps =
@@ -68,26 +61,35 @@ AreKept (p ∷ ps) (s ∷ ss) = IsKept p s × AreKept ps ss
 AreKept [] (s ∷ ss) = ⊥
 AreKept (p ∷ ps) [] = ⊥
 
--- the slots hold what the frames that were entered and not left promise
-abbrev pub HoldPromises : Scope → World → List Slot → Type 0
-HoldPromises stack world slots = AreKept (promises stack world) slots
-
 -- An expression is evaluated in frames that were entered and not left, and the slots hold what they promise.
-abbrev pub IsEntered : Scope → Scope → World → List Slot → Type 0
-IsEntered scope stack world slots = IsReady scope world (promises stack world) × HoldPromises stack world slots
+pub record IsEntered (frames : Frames) (world : World) (evaluation : Evaluation) : Type 0 where
+  pub ready : IsReady frames.scope.now world (promises frames.entered.now world)
+  pub kept : AreKept (promises frames.entered.now world) evaluation.slots.items
 
--- what a slot holds
-abbrev pub done_in : Option Slot → Option Data
-done_in (Some (Done v)) = Some (data_of v)
-done_in (Some Waiting) = None
-done_in None = None
-
--- a slot for each of some bindings
-abbrev pub waiting : {A : Type 0} → List A → List Slot
-waiting [] = []
-waiting (x ∷ xs) = Waiting ∷ waiting xs
+-- each binding has a name, and its slot is among so many
+abbrev pub IsWithin : ℕ → Scope → Type 0
+IsWithin count Empty = Unit {0}
+IsWithin count (Frame' names es first p outer q below) =
+    ((k : ℕ) → k < length es.now → first + k < count)
+    × (length names.now ≡ length es.now)
+    × IsWithin count outer
 
 -- how far an evaluation in these frames may go
 abbrev pub scope_size : Scope → ℕ
 scope_size Empty = 0
 scope_size (Frame' names es first p outer q below) = 2 + 6 * weight es.now + scope_size outer
+
+-- A name represents a binding: what it means is what the binding gives, and that is promised of the binding's slot in
+-- frames that are ready.
+pub record IsNamed (name : List ℕ) (scope : Scope) (binding : Binding) : Type 0 where
+  pub meant : (world : World)
+      → named (names_of scope world) name ≡ promise_of binding.expression.now binding.outer.now world
+  pub promised : (world : World) (ps : List Evaluated) → IsReady scope world ps
+      → slice_get ps binding.slot ≡ Some (promise_of binding.expression.now binding.outer.now world)
+  pub ready : (world : World) (ps : List Evaluated) → IsReady scope world ps
+      → IsReady binding.outer.now world ps
+  pub smaller : 6 * nodes (term_of binding.expression.now) + scope_size binding.outer.now < scope_size scope
+
+abbrev pub Finds : List ℕ → Scope → Option Binding → Type 0
+Finds name scope (Some binding) = IsNamed name scope binding
+Finds name scope None = (world : World) → named (names_of scope world) name ≡ Err WrongType

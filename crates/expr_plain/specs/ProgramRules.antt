@@ -1,26 +1,23 @@
 -- The rule of an operator, as the program has it.
-use Rattle.std.specs.Prelude.{◌<◌, length}
 use Rattle.interpolate_fixed.specs.Places.{IsAscending}
-use Rattle.interpolate_fixed.specs.Warp.{HasPositiveBase}
 use Rattle.expr_syntax.specs.declared.expression.Operator.{Operator}
 use Rattle.eval_face.specs.Rules.{Rule, each, deciding, cases, labels, stops, ramp, bindings, variable, rule_of}
-use Rattle.expr_plain.specs.Manners.{applied_by, decided_by, undecided_by}
+use Rattle.expr_plain.specs.RuleParts.{applied_by, decided_by, undecided_by}
 use Rattle.expr_plain.specs.declared.rule.Rule.{Rule as ProgramRule}
 use Rattle.expr_plain.specs.declared.rule.Rule.TheVariants.{Each, Deciding, Cases, Labels, Stops, Ramp, Bindings, Variable}
 
--- what the program's rule of an operator stands for
+-- the definition of the program's rule of an operator
 abbrev pub rule_in : Operator → ProgramRule → Rule
 rule_in op Each = each (applied_by (rule_of op))
 rule_in op Deciding = deciding (decided_by (rule_of op)) (undecided_by (rule_of op))
 rule_in op Cases = cases
 rule_in op (Labels ls) = labels ls.now
 rule_in op (Stops inputs) = stops inputs.now
-rule_in op (Ramp curve inputs) = ramp curve.now inputs.now
+rule_in op (Ramp r) = ramp r.now.0 r.now.1
 rule_in op (Bindings names) = bindings names.now
 rule_in op (Variable name) = variable name.now
 
--- the inputs of stops ascend, and those of a ramp are at least one
+-- the inputs of stops ascend
 abbrev pub IsSound : ProgramRule → Type 0
 IsSound (Stops inputs) = IsAscending inputs.now
-IsSound (Ramp curve inputs) = (0 < length inputs.now) × IsAscending inputs.now × HasPositiveBase curve.now
 IsSound _ = Unit {0}

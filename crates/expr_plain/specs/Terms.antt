@@ -14,7 +14,7 @@ use Rattle.eval_face.specs.Meaning.{means}
 abbrev pub meanings : List Expr → List Meaning
 meanings es = means (terms es)
 
--- values that were to be evaluated have the fault with which the evaluation ended, unless memory lacked
+-- values that were to be evaluated have the fault with which the evaluation ended, unless an allocation failed
 abbrev pub EndsAll : Halt EvalFault → Result (List Data) EvalFault → Type 0
 EndsAll (Fault fault) meant = meant ≡ Err fault
 EndsAll NoMemory meant = Unit {0}

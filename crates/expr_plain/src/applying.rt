@@ -1,20 +1,18 @@
 //! What the operators that evaluate all their arguments give of the values.
 
-ghost use Rattle.std.specs.Prelude.{◌≡◌, ◌≤◌, Ok, drop, is_none, length, true};
+ghost use Rattle.std.specs.Prelude.{◌≡◌, Ok, true};
 ghost use Rattle.std.specs.Option.{option_map};
 ghost use Rattle.prop_values.specs.View.{data_of, values_view, evaluated_of};
 ghost use Rattle.property_tables.specs.Fitting.{fit};
 ghost use Rattle.operator_values.specs.Evaluated.{Gives, then_value};
-ghost use Rattle.eval_face.specs.Decisions.{if_boolean, if_number, if_text, if_object, if_color, if_readable, if_false, if_true, if_there};
 ghost use Rattle.eval_face.specs.Rules.{rule_of, array_of};
-ghost use Rattle.expr_plain.specs.Manners.{applied_by, decided_by, undecided_by};
+ghost use Rattle.expr_plain.specs.RuleParts.{applied_by, decided_by, undecided_by, asserts, decides_as_it_is};
 
 use crate::lookups::{
-    all_properties, has_property, id_value, image, property, shape_name, state_member,
-    supported_script,
+    all_properties, has_property, id_value, image, property, state_member, supported_script,
 };
 use crate::sections::sections;
-use crate::surroundings::Surroundings;
+use crate::world_view::WorldView;
 use decimal_json::Text;
 use expr_syntax::Operator;
 use operator_values::{
@@ -48,7 +46,8 @@ pub(crate) fn fitted_copy(alloc: Global, value: &Value, want: &Want) -> Result<V
     }
 }
 
-// Whether it is seen at once that a value is as it is wanted. Most are, and need not be moved through the forms of an answer.
+// Whether it is seen at once that a value is as it is wanted. Most are, and need not be moved through the forms of an
+// answer.
 fn is_fitted(value: &Value, want: &Want) -> bool
     ensures { result ≡ true → fit want.now (data_of value.now) ≡ Ok (data_of value.now) }
 {
@@ -62,7 +61,7 @@ fn is_fitted(value: &Value, want: &Want) -> bool
 }
 
 /// What an operator gives of the values of all its arguments, fitted to the want of its node.
-pub(crate) fn node_value<W: Surroundings>(
+pub(crate) fn node_value<W: WorldView>(
     alloc: Global,
     op: &Operator,
     values: &[Value],
@@ -76,24 +75,8 @@ pub(crate) fn node_value<W: Surroundings>(
     fitted(alloc, value, want)
 }
 
-/// What an operator gives of the values of a stack from a base on.
-pub(crate) fn value_above<W: Surroundings>(
-    alloc: Global,
-    op: &Operator,
-    values: &[Value],
-    base: usize,
-    want: &Want,
-    world: &W,
-) -> Result<Value, Halt>
-    requires { base ≤ length values.now }
-    ensures { Gives result
-        (then_value (applied_by (rule_of op.now) (W.world world.now) (values_view (drop base values.now))) (fit want.now)) }
-{
-    node_value(alloc, op, &values[base..], want, world)
-}
-
 /// What an operator that evaluates all its arguments gives of their values.
-pub(crate) fn applied<W: Surroundings>(
+pub(crate) fn applied<W: WorldView>(
     alloc: Global,
     op: &Operator,
     values: &[Value],
@@ -110,7 +93,7 @@ pub(crate) fn applied<W: Surroundings>(
         Operator::Has => Ok(has_property(world.properties(), values)?),
         Operator::Properties => Ok(all_properties(alloc, world.properties())?),
         Operator::Id => Ok(id_value(world.id())),
-        Operator::GeometryType => Ok(Value::Text(Text::copy_of(alloc, shape_name(world.shape()))?)),
+        Operator::GeometryType => Ok(Value::Text(Text::copy_of(alloc, world.shape().name())?)),
         Operator::FeatureState => state_member(alloc, world.state(), values),
         Operator::At => item(values),
         Operator::In => Ok(contains(values)?),
@@ -171,107 +154,45 @@ pub(crate) fn decided(op: &Operator, value: Value) -> Option<Value>
     ensures { option_map data_of result ≡ decided_by (rule_of op.now) (data_of value) }
 {
     match op {
-        Operator::Boolean => if_boolean(value),
-        Operator::Number => if_number(value),
-        Operator::String => if_text(value),
-        Operator::Object => if_object(value),
-        Operator::ToColor => if_color(&value),
-        Operator::ToNumber => if_readable(&value),
-        Operator::All => if_false(value),
-        Operator::Any => if_true(value),
-        Operator::Coalesce => if_there(value),
+        Operator::ToColor => match color_in(&value) {
+            Some(color) => Some(Value::Color(PackedColor::of(&color))),
+            None => None,
+        },
+        Operator::ToNumber => match number_in(&value) {
+            Some(number) => Some(Value::Num(number)),
+            None => None,
+        },
+        _ if decides(op, &value) => Some(value),
         _ => None,
     }
 }
 
-fn if_boolean(value: Value) -> Option<Value>
-    ensures { option_map data_of result ≡ if_boolean (data_of value) }
+// Whether a value decides as it is.
+fn decides(op: &Operator, value: &Value) -> bool
+    ensures { decides_as_it_is op.now (data_of value.now) ≡ result }
 {
-    match value {
-        Value::Bool(flag) => Some(Value::Bool(flag)),
-        _ => None,
+    match op {
+        Operator::Object => matches!(value, Value::Map(_)),
+        Operator::All => matches!(value, Value::Bool(false)),
+        Operator::Any => matches!(value, Value::Bool(true)),
+        Operator::Coalesce => !matches!(value, Value::Null),
+        _ => asserts(op, value),
     }
 }
 
-fn if_number(value: Value) -> Option<Value>
-    ensures { option_map data_of result ≡ if_number (data_of value) }
+/// Whether an operator asserts the form that a value has, so that it gives the value as it is.
+pub(crate) fn asserts(op: &Operator, value: &Value) -> bool
+    ensures { result ≡ asserts op.now (data_of value.now) }
 {
-    match value {
-        Value::Num(number) => Some(Value::Num(number)),
-        _ => None,
-    }
-}
-
-fn if_text(value: Value) -> Option<Value>
-    ensures { option_map data_of result ≡ if_text (data_of value) }
-{
-    match value {
-        Value::Text(text) => Some(Value::Text(text)),
-        _ => None,
-    }
-}
-
-fn if_object(value: Value) -> Option<Value>
-    ensures { option_map data_of result ≡ if_object (data_of value) }
-{
-    match value {
-        Value::Map(entries) => Some(Value::Map(entries)),
-        _ => None,
-    }
-}
-
-fn if_color(value: &Value) -> Option<Value>
-    ensures { option_map data_of result ≡ if_color (data_of value.now) }
-{
-    match color_in(value) {
-        Some(color) => Some(Value::Color(PackedColor::of(&color))),
-        None => None,
-    }
-}
-
-fn if_readable(value: &Value) -> Option<Value>
-    ensures { option_map data_of result ≡ if_readable (data_of value.now) }
-{
-    match number_in(value) {
-        Some(number) => Some(Value::Num(number)),
-        None => None,
-    }
-}
-
-fn if_false(value: Value) -> Option<Value>
-    ensures { option_map data_of result ≡ if_false (data_of value) }
-{
-    match value {
-        Value::Bool(false) => Some(Value::Bool(false)),
-        _ => None,
-    }
-}
-
-fn if_true(value: Value) -> Option<Value>
-    ensures { option_map data_of result ≡ if_true (data_of value) }
-{
-    match value {
-        Value::Bool(true) => Some(Value::Bool(true)),
-        _ => None,
-    }
-}
-
-fn if_there(value: Value) -> Option<Value>
-    ensures { option_map data_of result ≡ if_there (data_of value) }
-{
-    if is_null(&value) { None } else { Some(value) }
-}
-
-fn is_null(value: &Value) -> bool
-    ensures { result ≡ is_none (if_there (data_of value.now)) }
-{
-    match value {
-        Value::Null => true,
+    match op {
+        Operator::Number => matches!(value, Value::Num(_)),
+        Operator::String => matches!(value, Value::Text(_)),
+        Operator::Boolean => matches!(value, Value::Bool(_)),
         _ => false,
     }
 }
 
-/// What stands where no argument decides.
+/// What an operator gives where no argument decides.
 pub(crate) fn undecided(op: &Operator) -> Result<Value, EvalFault>
     ensures { evaluated_of result ≡ undecided_by (rule_of op.now) }
 {

@@ -1,4 +1,4 @@
-//! The values of expressions, and what they decide: what stands for a property, and what a filter lets pass.
+//! The values of expressions, and what they decide: what is listed for a property, and what a filter lets pass.
 //!
 //! ```text
 //! // ["case",["<",["get","r"],10],["get","r"],10] over a feature whose property `r` is 3
@@ -9,34 +9,37 @@
 //! ```
 //!
 //! What is promised, for all expressions, wants, contexts and tests: `eval_plain` gives exactly the value or the fault that is the
-//! expression's meaning, `mean` of `eval_face`, with no names bound around it, unless memory lacks. `resolved` and `passes`
+//! expression's meaning, `mean` of `eval_face`, with no names bound around it, unless an allocation fails. `resolved` and `passes`
 //! are the definitions of `specs/Resolved.antt`.
 //!
 //! Arguments are evaluated from left to right, each fitted to its want at once, and the first fault ends the evaluation. `case` evaluates
 //! one output alone, and `number` nothing after the first number. A `match` finds its output in logarithmic time. A binding of a `let`
-//! is evaluated when a `var` first asks for it, and never again. Values are shared and not copied. A property of a literal key is looked
-//! at where it is, also as the first argument of a `number`, `string` or `boolean`. An operator of one or two arguments takes no memory
-//! for them, and the values of more stand on one stack. The recursion is as deep as the expression.
+//! is evaluated when a `var` first asks for it, and never again. Values are shared and not copied. A property of a literal key is
+//! borrowed, also as the first argument of a `number`, `string` or `boolean`. An operator of one or two arguments takes no memory
+//! for them, and the values of more are on one stack. The recursion is as deep as the expression.
 //!
 //! A new operator has its row in `expr_syntax` and its rule in `eval_face`. One that evaluates all its arguments has its line in
-//! `applied`, and one that stops at the argument that decides has its line in `decided` and in `undecided`. One whose parts decide has
-//! a variant of `Rule`.
+//! `applied`, and one that stops at the argument that decides has its line in `decides` and in `undecided`, all three in `applying.rt`.
+//! One whose parts decide has a variant of `Rule`.
 //!
 //! The text to believe is in `specs/`: `Resolved`.
 #![tactic(auto)]
 
 mod applying;
+mod arguments;
 mod bindings;
+mod borrowed;
 mod branches;
+mod eval;
 mod evaluation;
-mod lending;
+mod frames;
 mod lookups;
+mod nodes;
 mod outcome;
 mod rule;
-mod scope;
 mod sections;
 mod sequences;
-mod surroundings;
+mod world_view;
 
-pub use evaluation::eval_plain;
+pub use eval::eval_plain;
 pub use outcome::{passes, resolved};

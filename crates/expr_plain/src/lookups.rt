@@ -4,18 +4,16 @@ ghost use Rattle.std.specs.Prelude.{◌≡◌, IfOk, is_some};
 ghost use Rattle.prop_values.specs.Data.{map, pairs_of};
 ghost use Rattle.prop_values.specs.Equality.{at_key};
 ghost use Rattle.prop_values.specs.View.{data_of, values_view, evaluated_of};
-ghost use Rattle.tile_reader.specs.ShapeName.{shape_name};
 ghost use Rattle.operator_values.specs.Evaluated.{Gives};
 ghost use Rattle.eval_face.specs.World.{state_of};
 ghost use Rattle.eval_face.specs.Lookups.{entry_at, get_of, has_of, state_at, id_value, image_of, script_of};
 
-use crate::surroundings::Surroundings;
+use crate::world_view::WorldView;
 use decimal_json::Text;
 use fixed_num::Fixed;
 use operator_values::Halt;
 use prop_values::{Entries, EvalFault, SharedEntries, Value, copy, copy_entries};
 use std::alloc::{AllocError, Global};
-use tile_reader::Shape;
 
 /// `get`: of the properties, or of the object that is the second value.
 pub(crate) fn property(
@@ -116,20 +114,8 @@ pub(crate) fn id_value(id: Option<u64>) -> Value
     }
 }
 
-/// `geometry-type`.
-pub(crate) fn shape_name(shape: Shape) -> &'static str
-    ensures { result.now ≡ shape_name shape }
-{
-    match shape {
-        Shape::Unknown => "Unknown",
-        Shape::Point => "Point",
-        Shape::LineString => "LineString",
-        Shape::Polygon => "Polygon",
-    }
-}
-
 /// `image`: the name itself, or null where there is no such image.
-pub(crate) fn image<W: Surroundings>(world: &W, values: &[Value]) -> Result<Value, Halt>
+pub(crate) fn image<W: WorldView>(world: &W, values: &[Value]) -> Result<Value, Halt>
     ensures { Gives result (image_of (W.world world.now).has_image (values_view values.now)) }
 {
     match values {
@@ -140,7 +126,7 @@ pub(crate) fn image<W: Surroundings>(world: &W, values: &[Value]) -> Result<Valu
 }
 
 /// `is-supported-script`.
-pub(crate) fn supported_script<W: Surroundings>(
+pub(crate) fn supported_script<W: WorldView>(
     world: &W,
     values: &[Value],
 ) -> Result<Value, EvalFault>

@@ -5,9 +5,8 @@ ghost use Rattle.eval_face.specs.Rules.{rule_of};
 ghost use Rattle.expr_plain.specs.ProgramRules.{rule_in, IsSound};
 
 use decimal_json::Text;
-use expr_syntax::{Labels, Manner, Names, Operator};
+use expr_syntax::{Labels, Manner, Names, Operator, Ramp};
 use fixed_num::Fixed;
-use prop_values::Curve;
 
 /// How an operator evaluates its arguments, and what decides between them.
 #[derive(Drop)]
@@ -23,7 +22,7 @@ pub(crate) enum Rule<'a> {
     /// `step`.
     Stops(&'a [Fixed]),
     /// `interpolate`.
-    Ramp(&'a Curve, &'a [Fixed]),
+    Ramp(&'a Ramp),
     /// `let`.
     Bindings(&'a Names),
     /// `var`.
@@ -39,7 +38,7 @@ pub(crate) fn rule_of<'a>(op: &'a Operator) -> Rule<'a>
         Operator::Case => Rule::Cases,
         Operator::Match(labels) => Rule::Labels(labels),
         Operator::Step(inputs) => Rule::Stops(inputs.as_slice()),
-        Operator::Interpolate(ramp) => Rule::Ramp(ramp.curve(), ramp.inputs()),
+        Operator::Interpolate(ramp) => Rule::Ramp(ramp),
         Operator::Let(names) => Rule::Bindings(names),
         Operator::Var(name) => Rule::Variable(name),
         _ => match op.row().manner {

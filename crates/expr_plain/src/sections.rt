@@ -6,7 +6,7 @@ ghost use Rattle.prop_values.specs.View.{data_of, values_view};
 ghost use Rattle.format_text.specs.Sections.{section_of, section_with};
 ghost use Rattle.expr_syntax.specs.declared.parts.Role.TheVariants.{Scale, Font, Color};
 ghost use Rattle.operator_values.specs.Evaluated.{Gives};
-ghost use Rattle.operator_values.specs.declared.halt.Halt.TheVariants.{NoMemory};
+ghost use Rattle.halts.specs.declared.halt.Halt.TheVariants.{NoMemory};
 ghost use Rattle.eval_face.specs.Sections.{add_piece, add_pieces, closed, format_of};
 ghost use Rattle.expr_plain.specs.OpenSection.{GivesOpen};
 

@@ -1,4 +1,4 @@
-//! Values that are there without an evaluation: they are looked at where they are, and nothing is copied.
+//! Values that are there without an evaluation: they are borrowed, and nothing is copied.
 
 ghost use Rattle.std.specs.Prelude.{◌≡◌, IfSome, Ok};
 ghost use Rattle.prop_values.specs.View.{data_of};
@@ -7,26 +7,27 @@ ghost use Rattle.property_tables.specs.Fitting.{fit};
 ghost use Rattle.expr_syntax.specs.TermView.{term_of};
 ghost use Rattle.eval_face.specs.Names.{Names};
 ghost use Rattle.eval_face.specs.Meaning.{mean, node_meaning};
-ghost use Rattle.expr_plain.specs.Manners.{asserts, decision_of};
+ghost use Rattle.expr_plain.specs.RuleParts.{decision_of};
 ghost use Rattle.expr_plain.specs.Terms.{meanings};
 
-use crate::surroundings::Surroundings;
+use crate::applying::asserts;
+use crate::world_view::WorldView;
 use expr_syntax::{Expr, Operator};
 use prop_values::Value;
 
 /// A literal, or the property of a literal key: the value of the expression before it is fitted.
-pub(crate) fn lent<'a, W: Surroundings>(expression: &'a Expr, world: &'a W) -> Option<&'a Value>
+fn borrowed_value<'a, W: WorldView>(expression: &'a Expr, world: &'a W) -> Option<&'a Value>
     ensures { IfSome result (λ value. (want : Want) (names : Names) →
         mean (term_of expression.now) want names (W.world world.now) ≡ fit want (data_of value.now)) }
 {
     match expression {
         Expr::Literal(value) => Some(value),
-        Expr::Node(op, arguments) => lent_property(op, arguments.as_slice(), world),
+        Expr::Node(op, arguments) => borrowed_property(op, arguments.as_slice(), world),
     }
 }
 
 /// The property that a `get` of a literal key alone gives, where the feature has it.
-pub(crate) fn lent_property<'a, W: Surroundings>(
+pub(crate) fn borrowed_property<'a, W: WorldView>(
     op: &Operator,
     arguments: &[Expr],
     world: &'a W,
@@ -47,7 +48,7 @@ pub(crate) fn lent_property<'a, W: Surroundings>(
 }
 
 /// The first argument, where the operator gives it as it is whatever follows.
-pub(crate) fn lent_decision<'a, W: Surroundings>(
+pub(crate) fn borrowed_decision<'a, W: WorldView>(
     op: &Operator,
     arguments: &'a [Expr],
     world: &'a W,
@@ -58,20 +59,8 @@ pub(crate) fn lent_decision<'a, W: Surroundings>(
     let [first, ..] = arguments else {
         return None;
     };
-    match lent(first, world) {
+    match borrowed_value(first, world) {
         Some(value) if asserts(op, value) => Some(value),
         _ => None,
-    }
-}
-
-// Whether an operator asserts the form that a value has.
-fn asserts(op: &Operator, value: &Value) -> bool
-    ensures { result ≡ asserts op.now (data_of value.now) }
-{
-    match op {
-        Operator::Number => matches!(value, Value::Num(_)),
-        Operator::String => matches!(value, Value::Text(_)),
-        Operator::Boolean => matches!(value, Value::Bool(_)),
-        _ => false,
     }
 }

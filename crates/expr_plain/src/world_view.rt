@@ -11,7 +11,7 @@ use prop_values::Entries;
 use tile_reader::Shape;
 
 /// What an expression reads of the world, each part by a call of its own.
-pub(crate) trait Surroundings {
+pub(crate) trait WorldView {
     /// The world that is read.
     ghost world: { Self → World };
 
@@ -41,13 +41,13 @@ pub(crate) trait Surroundings {
 
 /// A context and the two tests.
 #[derive(Drop)]
-pub(crate) struct Here<'a, 'c, I, S> {
+pub(crate) struct TestedContext<'a, 'c, I, S> {
     pub(crate) context: &'a Context<'c>,
     pub(crate) images: &'a I,
     pub(crate) scripts: &'a S,
 }
 
-impl<I: TextTest, S: TextTest> Surroundings for Here<'_, '_, I, S> {
+impl<I: TextTest, S: TextTest> WorldView for TestedContext<'_, '_, I, S> {
     ghost use Rattle.eval_face.specs.World.{world_of};
 
     ghost world = { λ s. world_of s.context.now (I.holds s.images.now) (S.holds s.scripts.now) };

@@ -1,0 +1,67 @@
+ghost use Rattle.std.specs.Prelude.{◌≡◌, [], IfOk};
+ghost use Rattle.prop_values.specs.View.{evaluated_of};
+ghost use Rattle.expr_syntax.specs.TermView.{term_of};
+ghost use Rattle.operator_values.specs.Evaluated.{Gives};
+ghost use Rattle.eval_face.specs.World.{world_of};
+ghost use Rattle.eval_face.specs.Meaning.{mean};
+ghost use Rattle.expr_plain.specs.declared.frames.Scope.{Empty};
+
+use crate::evaluation::Evaluation;
+use crate::frames::{Environment, Frames, Scope};
+use crate::world_view::{TestedContext, WorldView};
+use eval_face::Context;
+use expr_syntax::Expr;
+use host_ops::HostOp;
+use operator_values::Halt;
+use prop_values::{EvalFault, Value, Want};
+use std::alloc::{AllocError, Global};
+
+/// The value that an expression has under a want, or its first fault (MapLibre style specification, version 8, expressions). The
+/// tests answer for the names of images and for the texts whose scripts can be shown.
+pub fn eval_plain(
+    alloc: Global,
+    expression: &Expr,
+    want: &Want,
+    context: &Context<'_>,
+    images: &dyn HostOp,
+    scripts: &dyn HostOp,
+) -> Result<Result<Value, EvalFault>, AllocError>
+    ensures { IfOk result (λ evaluated. evaluated_of evaluated
+        ≡ mean (term_of expression.now) want.now []
+        (world_of context.now (test images.now) (test scripts.now))) }
+{
+    let world = TestedContext {
+        context,
+        images: &images,
+        scripts: &scripts,
+    };
+    match evaluated(alloc, &*expression, want, &world, &Scope::Empty) {
+        Ok(value) => Ok(Ok(value)),
+        Err(Halt::Fault(fault)) => Ok(Err(fault)),
+        Err(Halt::NoMemory) => Err(AllocError),
+    }
+}
+
+// The value in a world, with no names around the expression. The frames borrow the empty scope as long as
+// the expression.
+fn evaluated<'x, W: WorldView>(
+    alloc: Global,
+    expression: &'x Expr,
+    want: &Want,
+    world: &'x W,
+    empty: &'x Scope<'x>,
+) -> Result<Value, Halt>
+    requires { empty.now ≡ Empty }
+    ensures { Gives result (mean (term_of expression.now) want.now [] (W.world world.now)) }
+{
+    let frames = Frames {
+        scope: &*empty,
+        entered: &*empty,
+    };
+    let environment = Environment {
+        world: &*world,
+        frames,
+    };
+    let mut evaluation = Evaluation::new(alloc);
+    evaluation.evaluate(expression, want, &environment)
+}

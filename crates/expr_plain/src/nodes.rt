@@ -1,0 +1,66 @@
+//! The meaning of expressions: a literal as it is wanted, and a node by the rule of its operator.
+
+ghost use Rattle.expr_syntax.specs.TermView.{term_of};
+ghost use Rattle.eval_face.specs.Meaning.{mean, node_meaning};
+ghost use Rattle.expr_plain.specs.Terms.{meanings};
+ghost use Rattle.expr_plain.specs.Frames.{IsEntered};
+ghost use Rattle.expr_plain.specs.Evaluates.{Evaluates};
+
+use crate::applying::fitted_copy;
+use crate::borrowed::borrowed_property;
+use crate::evaluation::Evaluation;
+use crate::frames::Environment;
+use crate::rule::{Rule, rule_of};
+use crate::world_view::WorldView;
+use expr_syntax::{Expr, Operator};
+use operator_values::Halt;
+use prop_values::{Value, Want};
+
+impl Evaluation {
+    /// The value of an expression under a want, or its first fault.
+    #[cycle(evaluation)]
+    pub(crate) fn evaluate<'x, W: WorldView>(
+        &mut self,
+        expression: &'x Expr,
+        want: &Want,
+        environment: &Environment<'x, W>,
+    ) -> Result<Value, Halt>
+        requires { IsEntered environment.now.frames (W.world environment.now.world.now) self.old }
+        ensures { Evaluates result (mean (term_of expression.now)) want.now
+            environment.now.frames (W.world environment.now.world.now) self.old self.new }
+    {
+        match expression {
+            Expr::Literal(value) => fitted_copy(self.alloc, value, want),
+            Expr::Node(op, arguments) => {
+                self.evaluate_node(op, arguments.as_slice(), want, environment)
+            }
+        }
+    }
+
+    #[cycle(evaluation)]
+    fn evaluate_node<'x, W: WorldView>(
+        &mut self,
+        op: &'x Operator,
+        arguments: &'x [Expr],
+        want: &Want,
+        environment: &Environment<'x, W>,
+    ) -> Result<Value, Halt>
+        requires { IsEntered environment.now.frames (W.world environment.now.world.now) self.old }
+        ensures { Evaluates result (node_meaning op.now (meanings arguments.now)) want.now
+            environment.now.frames (W.world environment.now.world.now) self.old self.new }
+    {
+        if let Some(value) = borrowed_property(op, arguments, environment.world) {
+            return fitted_copy(self.alloc, value, want);
+        }
+        match rule_of(op) {
+            Rule::Each => self.evaluate_each(op, arguments, want, environment),
+            Rule::Deciding => self.evaluate_deciding(op, arguments, want, environment),
+            Rule::Cases => self.evaluate_case(arguments, want, environment),
+            Rule::Labels(labels) => self.evaluate_match(labels, arguments, want, environment),
+            Rule::Stops(inputs) => self.evaluate_step(inputs, arguments, want, environment),
+            Rule::Ramp(ramp) => self.evaluate_ramp(ramp, arguments, want, environment),
+            Rule::Bindings(names) => self.evaluate_let(names, arguments, want, environment),
+            Rule::Variable(name) => self.evaluate_var(name, want, environment),
+        }
+    }
+}
