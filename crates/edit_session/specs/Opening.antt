@@ -1,5 +1,5 @@
 -- Why a session over a document and tiles cannot be opened: the first cause that holds, in their order.
-use Rattle.std.specs.Prelude.{ℕ, ℤ, List, [], ◌∷◌, codes, Bool, not, nat_le, Option, Some, None, is_some, if◌then◌else◌}
+use Rattle.std.specs.Prelude.{ℕ, ℤ, ◌-◌, ◌^◌, min, List, [], ◌∷◌, codes, Bool, not, nat_le, Option, Some, None, is_some, if◌then◌else◌}
 use Rattle.std.specs.Option.{option_and_then}
 use Rattle.decimal_json.specs.Tree.{Tree}
 use Rattle.decimal_json.specs.declared.paths.PathPart.{PathPart}
@@ -42,7 +42,7 @@ pub data Fault : Type 0 where
   unknown_source : List ℕ → Fault
   -- the source of a tile is not of type vector
   not_vector : List ℕ → Fault
-  -- so many cells
+  -- so many cells, or the greatest number of 128 bits where there are more
   too_many_cells : ℕ → Fault
   zoom_range : Fault
 
@@ -52,7 +52,7 @@ source_fault fault None later = later
 
 abbrev pub shown_fault : ℕ → ℤ → Option Fault
 shown_fault count zoom =
-    if not (within_limit count) then Some (too_many_cells count) else
+    if not (within_limit count) then Some (too_many_cells (min count (2 ^ 128 - 1))) else
     if not (is_zoom (Some zoom)) then Some zoom_range else
     None
 

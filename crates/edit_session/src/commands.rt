@@ -96,17 +96,12 @@ impl Session<'_> {
         let scene = Scene {
             zoom: self.zoom,
             states: &self.states,
-        };
-        let mut out = Vec::new(self.alloc);
-        write_listing(
-            self.alloc,
-            &self.prepared,
-            &scene,
             images,
             scripts,
-            self.tiles.as_slice(),
-            &mut out,
-        )?;
+        };
+        let tiles = self.tiles.as_slice();
+        let mut out = Vec::new(self.alloc);
+        write_listing(self.alloc, &self.prepared, &scene, tiles, &mut out)?;
         Ok(Answer::Listing(out))
     }
 
