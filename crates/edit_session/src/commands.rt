@@ -87,13 +87,17 @@ impl Session<'_> {
         }
     }
 
-    fn listing(&self, images: &dyn HostOp, scripts: &dyn HostOp) -> Result<Answer, AllocError>
+    fn listing<'b>(
+        &'b self,
+        images: &'b dyn HostOp,
+        scripts: &'b dyn HostOp,
+    ) -> Result<Answer, AllocError>
         requires { IsReady self.now }
         ensures { IfOk result (λ answer. reply_seen answer ≡ listed (listing (layout_of
             (scene_of (test scripts.now) (presented self.now (test images.now))) (tiles_of self.now)
             self.now.globals (tree_of self.now.document)))) }
     {
-        let scene = Scene {
+        let scene: Scene<'b, &'b dyn HostOp> = Scene {
             zoom: self.zoom,
             states: &self.states,
             images,

@@ -5,8 +5,8 @@ use Rattle.stable_order.specs.InOrder.{put, in_order}
 use Rattle.stable_order.specs.Keys.{key_before}
 use Rattle.style_layout.specs.CodeView.{feature_seen, keyed_before, keyed_seen}
 use Rattle.style_layout.specs.Forms.{Scene, Property}
-use Rattle.style_layout.specs.Shown.{LayerFeature, sort_key, goes_before}
-use Rattle.style_layout.specs.Walk.{with_keys}
+use Rattle.style_layout.specs.Shown.{LayerFeature, goes_before}
+use Rattle.style_layout.specs.Walk.{with_key, with_keys}
 use Rattle.style_layout.specs.declared.sorted.Keyed.{Keyed}
 
 -- what is made of each of a list in order is in the order that agrees
@@ -44,8 +44,7 @@ module _ (scene : Scene) (p : Property) where
   pub in_key_order : (ks : List Keyed) (fs : List LayerFeature) → map keyed_seen ks ≡ with_keys scene p fs
       → map (λ (k : Keyed). feature_seen k.feature) (in_order keyed_before ks) ≡ in_order (goes_before scene p) fs
   in_key_order ks fs keyed =
-      let with_key = λ (f : LayerFeature). (sort_key scene p f, f) in
       without_key (in_order keyed_before ks)
       ∙ (ap (map (λ (q : KeyedFeature). q.1)) (map_in_order keyed_seen keyed_before before (λ x y. refl) ks
-      ∙ (ap (in_order before) keyed ∙ sym (map_in_order with_key (goes_before scene p) before (λ x y. refl) fs)))
+      ∙ (ap (in_order before) keyed ∙ sym (map_in_order (with_key scene p) (goes_before scene p) before (λ x y. refl) fs)))
       ∙ again (in_order (goes_before scene p) fs))

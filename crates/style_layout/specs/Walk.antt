@@ -24,5 +24,8 @@ module _ (scene : Scene) (layer : StyleLayer) where
   lines_of fs = flat_map feature_lines (map (feature_out scene layer) fs)
 
 -- features with their keys
+abbrev pub with_key : Scene → Property → LayerFeature → Option ℤ × LayerFeature
+with_key scene p f = (sort_key scene p f, f)
+
 abbrev pub with_keys : Scene → Property → List LayerFeature → List (Option ℤ × LayerFeature)
-with_keys scene p fs = map (λ (f : LayerFeature). (sort_key scene p f, f)) fs
+with_keys scene p fs = map (with_key scene p) fs

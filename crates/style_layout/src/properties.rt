@@ -57,8 +57,17 @@ fn push_numbered(
     ensures { (other : RowData) → OnOk result (map property_seen properties.new.items ≡ map property_seen properties.old.items
         ++ set_property globals.now (object (fields_of layer.now)) (get_or (rows_of layer_type) number other)) }
 {
-    let row = row_numbered(layer_type, number);
-    push_if_set(alloc, globals, layer, &row, properties)
+    match row_at(layer_type, number) {
+        Some(row) => push_if_set(alloc, globals, layer, &row, properties),
+        None => Ok(()),
+    }
+}
+
+fn row_at(layer_type: LayerType, number: u16) -> Option<Row>
+    requires { number < length (rows_of layer_type) }
+    ensures row { (other : RowData) → option_map row_seen result ≡ Some (get_or (rows_of layer_type) number other) }
+{
+    Some(row_numbered(layer_type, number))
 }
 
 // `visibility` says whether the layer is shown, and has no value of its own.
