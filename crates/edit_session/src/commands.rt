@@ -24,7 +24,7 @@ use host_ops::{HostOp, TellFault};
 use prop_values::{Entries, Value, copy_entries};
 use std::alloc::{AllocError, Global};
 use style_edits::{EditFault, EditPlaces, edit_at, edit_fault, edit_places, undo_edit};
-use style_layout::{Scene, Zoom, write_listing};
+use style_layout::{Scene, TreeWalk, Zoom, write_listing};
 
 impl Session<'_> {
     /// The answer to a command, of a session that has memory.
@@ -87,21 +87,16 @@ impl Session<'_> {
         }
     }
 
-    fn listing<'b>(
-        &'b self,
-        images: &'b dyn HostOp,
-        scripts: &'b dyn HostOp,
-    ) -> Result<Answer, AllocError>
+    fn listing(&self, images: &dyn HostOp, scripts: &dyn HostOp) -> Result<Answer, AllocError>
         requires { IsReady self.now }
         ensures { IfOk result (λ answer. reply_seen answer ≡ listed (listing (layout_of
             (scene_of (test scripts.now) (presented self.now (test images.now))) (tiles_of self.now)
             self.now.globals (tree_of self.now.document)))) }
     {
-        let scene: Scene<'b, &'b dyn HostOp> = Scene {
+        let scene = Scene {
             zoom: self.zoom,
             states: &self.states,
-            images,
-            scripts,
+            evaluator: TreeWalk { images, scripts },
         };
         let tiles = self.tiles.as_slice();
         let mut out = Vec::new(self.alloc);

@@ -3,6 +3,7 @@ use Rattle.std.specs.Prelude.{ℕ, ℤ, List, map, Bool, Option, option_map}
 use Rattle.prop_values.specs.View.{data_of}
 use Rattle.stable_order.specs.Keys.{key_before}
 use Rattle.expr_syntax.specs.TermView.{term_of}
+use Rattle.feature_states.specs.Members.{members_at}
 use Rattle.eval_face.specs.World as world
 use Rattle.legacy_filters.specs.View.{filter_of}
 use Rattle.legacy_functions.specs.View.{function_of, row_of}
@@ -18,6 +19,8 @@ use Rattle.style_layout.specs.declared.forms.PropertyValue.TheVariants as values
 use Rattle.style_layout.specs.declared.properties.Property.{Property}
 use Rattle.style_layout.specs.declared.layers.StyleLayer.{StyleLayer}
 use Rattle.style_layout.specs.declared.prepared.PreparedStyle.{PreparedStyle}
+use Rattle.style_layout.specs.Tests.{Tests}
+use Rattle.style_layout.specs.declared.scene.Scene.{Scene}
 use Rattle.style_layout.specs.declared.scene.SourceTile.{SourceTile}
 use Rattle.style_layout.specs.declared.sorted.Keyed.{Keyed}
 
@@ -60,6 +63,15 @@ layers_seen style = map layer_seen style.layers.items
 
 abbrev pub tile_seen : SourceTile → shown.SourceTile
 tile_seen t = (t.source.now, t.tile)
+
+-- a scene, by the tests of its evaluator
+abbrev pub scene_seen : {E : Type 0} → (E → Tests) → Scene E → forms.Scene
+scene_seen tests s = record {
+  zoom = s.zoom;
+  states = members_at s.states.now;
+  has_image = (tests s.evaluator).has_image;
+  is_supported = (tests s.evaluator).is_supported;
+}
 
 abbrev pub feature_seen : LayerFeature → shown.LayerFeature
 feature_seen f = record { number = f.number; feature = f.feature.now; state = world.state_of f.state }

@@ -6,5 +6,6 @@ pub mod SortKeys
 pub mod Shown
 pub mod StyleLayout
 -- What clauses see of the program's values, and the words of private functions' clauses.
+pub mod Tests
 pub mod CodeView
 pub mod Walk

@@ -2,13 +2,13 @@
 
 ghost use Rattle.std.specs.Prelude.{◌≡◌, ◌++◌, OnOk, map};
 ghost use Rattle.listing_text.specs.Listing.{value_lines, layer_margin, feature_margin, feature_lines};
-ghost use Rattle.style_layout.specs.CodeView.{feature_seen, layer_seen};
+ghost use Rattle.style_layout.specs.CodeView.{feature_seen, layer_seen, scene_seen};
 ghost use Rattle.style_layout.specs.Layers.{feature_properties};
 ghost use Rattle.style_layout.specs.Shown.{listed_value, layer_values, feature_out};
 
 use crate::features::LayerFeature;
 use crate::layers::StyleLayer;
-use crate::scene::AnyScene;
+use crate::scene::{Evaluator, Scene};
 use crate::values::outcome_of;
 use listing_text::{write_feature_line, write_value};
 use prop_values::Entries;
@@ -16,14 +16,14 @@ use std::alloc::{AllocError, Global};
 use tile_reader::{Feature, Shape};
 
 /// Appends the lines of the values that are listed with a layer.
-pub(crate) fn write_layer_values<S: AnyScene>(
+pub(crate) fn write_layer_values<E: Evaluator>(
     alloc: Global,
     layer: &StyleLayer,
-    scene: &S,
+    scene: &Scene<'_, E>,
     out: &mut Vec<u8>,
 ) -> Result<(), AllocError>
     ensures { OnOk result (out.new.items ≡ out.old.items
-        ++ value_lines layer_margin (layer_values (S.scene scene.now) (layer_seen layer.now))) }
+        ++ value_lines layer_margin (layer_values (scene_seen E.tests scene.now) (layer_seen layer.now))) }
 {
     let nothing = Feature {
         id: None,
@@ -40,15 +40,15 @@ pub(crate) fn write_layer_values<S: AnyScene>(
 }
 
 /// Appends the lines of a feature of a layer.
-pub(crate) fn write_feature<S: AnyScene>(
+pub(crate) fn write_feature<E: Evaluator>(
     alloc: Global,
     layer: &StyleLayer,
-    scene: &S,
+    scene: &Scene<'_, E>,
     feature: &LayerFeature<'_>,
     out: &mut Vec<u8>,
 ) -> Result<(), AllocError>
     ensures { OnOk result (out.new.items ≡ out.old.items
-        ++ feature_lines (feature_out (S.scene scene.now) (layer_seen layer.now) (feature_seen feature.now))) }
+        ++ feature_lines (feature_out (scene_seen E.tests scene.now) (layer_seen layer.now) (feature_seen feature.now))) }
 {
     write_feature_line(
         feature.number,
@@ -59,15 +59,15 @@ pub(crate) fn write_feature<S: AnyScene>(
     write_feature_values(alloc, layer, scene, feature, out)
 }
 
-fn write_feature_values<S: AnyScene>(
+fn write_feature_values<E: Evaluator>(
     alloc: Global,
     layer: &StyleLayer,
-    scene: &S,
+    scene: &Scene<'_, E>,
     feature: &LayerFeature<'_>,
     out: &mut Vec<u8>,
 ) -> Result<(), AllocError>
     ensures { OnOk result (out.new.items ≡ out.old.items ++ value_lines feature_margin
-        (map (listed_value (S.scene scene.now) (feature_seen feature.now).feature (feature_seen feature.now).state)
+        (map (listed_value (scene_seen E.tests scene.now) (feature_seen feature.now).feature (feature_seen feature.now).state)
         (feature_properties (layer_seen layer.now).properties))) }
 {
     for property in layer.properties.as_slice() {

@@ -1,14 +1,14 @@
 //! The features of a layer over tiles.
 
 ghost use Rattle.std.specs.Prelude.{◌≡◌, ◌+◌, ◌-◌, ◌<◌, ◌^◌, [], ◌∷◌, length, map, MatchOption, IfOk, IfSome, if◌then◌else◌};
-ghost use Rattle.style_layout.specs.CodeView.{feature_seen, layer_seen, tile_seen};
+ghost use Rattle.style_layout.specs.CodeView.{feature_seen, layer_seen, scene_seen, tile_seen};
 ghost use Rattle.style_layout.specs.Layers.{has_features};
 ghost use Rattle.style_layout.specs.Shown.{features_named, layer_features, numbered, state_of, tile_features, those_shown};
 ghost use Rattle.eval_face.specs.World as world;
 ghost use Rattle.style_layout.specs.Walk.{features_left, HasFewLeft};
 
 use crate::layers::StyleLayer;
-use crate::scene::{AnyScene, SourceTile};
+use crate::scene::{Evaluator, Scene, SourceTile};
 use crate::values::lets_pass;
 use prop_values::Entries;
 use property_tables::LayerType;
@@ -53,17 +53,17 @@ impl<'a> LayerFeatures<'a> {
     }
 
     /// Takes the next feature that the filter of the layer lets pass.
-    pub(crate) fn next_shown<S: AnyScene>(
+    pub(crate) fn next_shown<E: Evaluator>(
         &mut self,
         alloc: Global,
         layer: &StyleLayer,
-        scene: &'a S,
+        scene: &'a Scene<'_, E>,
     ) -> Result<Option<LayerFeature<'a>>, AllocError>
         requires { HasFewLeft self.old }
         ensures left { IfOk result (λ found. MatchOption found
-            (those_shown (S.scene scene.now) (layer_seen layer.now) (features_left self.old) ≡ [])
-            (λ feature. those_shown (S.scene scene.now) (layer_seen layer.now) (features_left self.old)
-            ≡ feature_seen feature ∷ those_shown (S.scene scene.now) (layer_seen layer.now) (features_left self.new))) }
+            (those_shown (scene_seen E.tests scene.now) (layer_seen layer.now) (features_left self.old) ≡ [])
+            (λ feature. those_shown (scene_seen E.tests scene.now) (layer_seen layer.now) (features_left self.old)
+            ≡ feature_seen feature ∷ those_shown (scene_seen E.tests scene.now) (layer_seen layer.now) (features_left self.new))) }
         ensures few { HasFewLeft self.new }
     {
         while let Some((number, feature)) = self.next() {
@@ -131,15 +131,15 @@ impl<'a> LayerFeatures<'a> {
 }
 
 // The members of the state of a feature, which one without an id has not.
-fn state_of<'a, S: AnyScene>(
+fn state_of<'a, E: Evaluator>(
     layer: &StyleLayer,
-    scene: &'a S,
+    scene: &'a Scene<'_, E>,
     id: Option<u64>,
 ) -> Option<&'a Entries>
-    ensures { world.state_of result ≡ state_of (S.scene scene.now) (layer_seen layer.now) id }
+    ensures { world.state_of result ≡ state_of (scene_seen E.tests scene.now) (layer_seen layer.now) id }
 {
     scene
-        .states()
+        .states
         .get(layer.source.as_str(), layer.source_layer.as_str(), id?)
 }
 

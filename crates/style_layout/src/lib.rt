@@ -2,7 +2,7 @@
 //!
 //! ```text
 //! let style = prepare(alloc, &document, &globals)?;          // a document without findings
-//! let scene = Scene { zoom: Zoom::new(zoom), states: &states, images, scripts };
+//! let scene = Scene { zoom: Zoom::new(zoom), states: &states, evaluator: TreeWalk { images, scripts } };
 //! if cell_count(&style, &tiles) <= 8_000_000 {
 //!     write_listing(alloc, &style, &scene, &tiles, &mut out)?;
 //!     // zoom 12.24
@@ -37,5 +37,5 @@ pub use cells::cell_count;
 pub use globals::globals_of;
 pub use listing::write_listing;
 pub use prepared::{PreparedStyle, prepare};
-pub use scene::{AnyScene, Scene, SourceTile};
+pub use scene::{Evaluator, Scene, SourceTile, TreeWalk};
 pub use zoom::Zoom;

@@ -4,9 +4,8 @@ ghost use Rattle.std.specs.Prelude.{◌≡◌, [], IfOk};
 ghost use Rattle.expr_syntax.specs.TermView.{term_of};
 ghost use Rattle.eval_face.specs.Meaning.{mean};
 ghost use Rattle.eval_face.specs.World.{world_of};
-ghost use Rattle.feature_states.specs.Members.{members_at};
 ghost use Rattle.prop_values.specs.View.{evaluated_of};
-ghost use Rattle.style_layout.specs.Forms as forms;
+ghost use Rattle.style_layout.specs.Tests.{Tests};
 
 use crate::zoom::Zoom;
 use eval_face::Context;
@@ -25,26 +24,18 @@ pub struct SourceTile<'a> {
     pub tile: Tile,
 }
 
-/// What all layers see: a zoom, the states of features, and the tests on the names of images and on texts whose scripts
-/// can be shown, both of type `&dyn HostOp`.
+/// What all layers see: a zoom, the states of features, and what evaluates expressions.
 #[derive(Clone, Copy)]
-pub struct Scene<'a, T> {
+pub struct Scene<'a, E> {
     pub zoom: Zoom,
     pub states: &'a States,
-    pub images: T,
-    pub scripts: T,
+    pub evaluator: E,
 }
 
-/// What all layers see, each part by a call of its own.
-pub trait AnyScene {
-    /// The scene that is seen.
-    ghost scene: { Self → forms.Scene };
-
-    fn zoom(&self) -> Zoom
-        ensures { result ≡ (scene self.now).zoom };
-
-    fn states(&self) -> &States
-        ensures { members_at result.now ≡ (scene self.now).states };
+/// Evaluates expressions, with a test on the names of images and one on texts whose scripts can be shown.
+pub trait Evaluator {
+    /// Both tests.
+    ghost tests: { Self → Tests };
 
     /// The value that an expression has under a want, or its first fault.
     fn evaluated(
@@ -55,26 +46,21 @@ pub trait AnyScene {
         context: &Context<'_>,
     ) -> Result<Result<Value, EvalFault>, AllocError>
         ensures { IfOk result (λ evaluated. evaluated_of evaluated ≡ mean (term_of expression.now) want.now []
-            (world_of context.now (scene self.now).has_image (scene self.now).is_supported)) };
+            (world_of context.now (tests self.now).has_image (tests self.now).is_supported)) };
 }
 
-impl AnyScene for Scene<'_, &dyn HostOp> {
-    ghost use Rattle.feature_states.specs.Members.{members_at};
+/// Evaluates each expression by walking its tree. Both tests are of type `&dyn HostOp`.
+#[derive(Clone, Copy)]
+pub struct TreeWalk<T> {
+    pub images: T,
+    pub scripts: T,
+}
 
-    ghost scene = { λ s. record {
-      zoom = s.zoom;
-      states = members_at s.states.now;
-      has_image = (HostOp-dyn s.images.now).test s.images.now.1;
-      is_supported = (HostOp-dyn s.scripts.now).test s.scripts.now.1;
+impl Evaluator for TreeWalk<&dyn HostOp> {
+    ghost tests = { λ w. record {
+      has_image = (HostOp-dyn w.images.now).test w.images.now.1;
+      is_supported = (HostOp-dyn w.scripts.now).test w.scripts.now.1;
     } };
-
-    fn zoom(&self) -> Zoom {
-        self.zoom
-    }
-
-    fn states(&self) -> &States {
-        self.states
-    }
 
     fn evaluated(
         &self,

@@ -4,13 +4,13 @@ ghost use Rattle.std.specs.Prelude.{◌≡◌, Ok, Err, IfOk, option_map};
 ghost use Rattle.prop_values.specs.View.{data_of, evaluated_of};
 ghost use Rattle.fixed_num.specs.Number.{floor_of};
 ghost use Rattle.eval_face.specs.World.{state_of};
-ghost use Rattle.style_layout.specs.CodeView.{property_seen, filter_seen};
+ghost use Rattle.style_layout.specs.CodeView.{filter_seen, property_seen, scene_seen};
 ghost use Rattle.style_layout.specs.Forms.{lets_pass};
 ghost use Rattle.style_layout.specs.Shown.{outcome_at, world_at, zoom_at};
 
 use crate::forms::{LayerFilter, PropertyValue};
 use crate::properties::Property;
-use crate::scene::AnyScene;
+use crate::scene::{Evaluator, Scene};
 use crate::zoom::Zoom;
 use eval_face::Context;
 use expr_plain::{passes, resolved};
@@ -23,17 +23,17 @@ use tile_reader::Feature;
 
 /// What is listed for a property of a feature with its state.
 #[tactic(auto, using(prop_values::proofs::ViewLaws::value_again))]
-pub(crate) fn outcome_of<S: AnyScene>(
+pub(crate) fn outcome_of<E: Evaluator>(
     alloc: Global,
     property: &Property,
-    scene: &S,
+    scene: &Scene<'_, E>,
     feature: &Feature,
     state: Option<&Entries>,
 ) -> Result<Outcome, AllocError>
     ensures { IfOk result (λ outcome. outcome
-        ≡ outcome_at (S.scene scene.now) (property_seen property.now) feature.now (state_of state.entry)) }
+        ≡ outcome_at (scene_seen E.tests scene.now) (property_seen property.now) feature.now (state_of state.entry)) }
 {
-    let zoom = zoom_at(scene.zoom(), property.row.place);
+    let zoom = zoom_at(scene.zoom, property.row.place);
     let evaluated = match &property.value {
         PropertyValue::Literal(value) => return Ok(Outcome::Given(copy(value)?)),
         PropertyValue::Expression(expression) => {
@@ -42,7 +42,9 @@ pub(crate) fn outcome_of<S: AnyScene>(
                 feature: Some(feature),
                 state,
             };
-            scene.evaluated(alloc, expression, &property.row.want, &context)?
+            scene
+                .evaluator
+                .evaluated(alloc, expression, &property.row.want, &context)?
         }
         PropertyValue::Function(function) => function.value(alloc, zoom, feature)?,
         PropertyValue::TokenText(text) => {
@@ -77,15 +79,15 @@ fn zoom_at(zoom: Zoom, place: Place) -> Fixed
 }
 
 /// Whether a filter lets a feature with its state pass. A fault is false.
-pub(crate) fn lets_pass<S: AnyScene>(
+pub(crate) fn lets_pass<E: Evaluator>(
     alloc: Global,
     filter: &LayerFilter,
-    scene: &S,
+    scene: &Scene<'_, E>,
     feature: &Feature,
     state: Option<&Entries>,
 ) -> Result<bool, AllocError>
     ensures { IfOk result (λ passes. passes ≡ lets_pass (filter_seen filter.now)
-        (world_at (S.scene scene.now) (floor_of (S.scene scene.now).zoom) feature.now (state_of state.entry))) }
+        (world_at (scene_seen E.tests scene.now) (floor_of (scene_seen E.tests scene.now).zoom) feature.now (state_of state.entry))) }
 {
     match filter {
         LayerFilter::Every => Ok(true),
@@ -93,11 +95,13 @@ pub(crate) fn lets_pass<S: AnyScene>(
         LayerFilter::Outside => Ok(false),
         LayerFilter::Condition(expression) => {
             let context = Context {
-                zoom: scene.zoom().floor(),
+                zoom: scene.zoom.floor(),
                 feature: Some(feature),
                 state,
             };
-            let evaluated = scene.evaluated(alloc, expression, &Want::Boolean, &context)?;
+            let evaluated = scene
+                .evaluator
+                .evaluated(alloc, expression, &Want::Boolean, &context)?;
             Ok(passes(&evaluated))
         }
     }

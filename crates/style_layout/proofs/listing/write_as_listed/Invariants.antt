@@ -1,5 +1,5 @@
 use Rattle.std.proofs.Common.{◌≡◌, ◌++◌, length}
-use Rattle.style_layout.specs.CodeView.{layer_seen, tile_seen}
+use Rattle.style_layout.specs.CodeView.{layer_seen, scene_seen, tile_seen}
 use Rattle.style_layout.specs.Shown.{those_shown, shown_features}
 use Rattle.style_layout.specs.Walk.{features_left, HasFewLeft, lines_of}
 use Rattle.std.specs.Prelude.{map}
@@ -7,7 +7,7 @@ use Rattle.style_layout.proofs.listing.write_as_listed.Given as goal
 
 abbrev pub invariant-loop-feature : goal.invariant-loop-feature
 invariant-loop-feature g l =
-    let scene = g.S.AnyScene.scene l.scene in
+    let scene = scene_seen g.E.Evaluator.tests l.scene in
     let layer = layer_seen l.layer in
     record {
       lines : l.out.items ++ lines_of scene layer (those_shown scene layer (features_left l.features))
@@ -16,4 +16,4 @@ invariant-loop-feature g l =
     }
 
 abbrev pub decreases-loop-feature : goal.decreases-loop-feature
-decreases-loop-feature g l = length (those_shown (g.S.AnyScene.scene l.scene) (layer_seen l.layer) (features_left l.features))
+decreases-loop-feature g l = length (those_shown (scene_seen g.E.Evaluator.tests l.scene) (layer_seen l.layer) (features_left l.features))

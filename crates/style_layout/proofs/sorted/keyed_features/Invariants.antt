@@ -1,12 +1,12 @@
 use Rattle.std.proofs.Common.{◌≡◌, ◌++◌, length, map}
-use Rattle.style_layout.specs.CodeView.{keyed_seen, layer_seen, property_seen, tile_seen}
+use Rattle.style_layout.specs.CodeView.{keyed_seen, layer_seen, property_seen, scene_seen, tile_seen}
 use Rattle.style_layout.specs.Shown.{those_shown, shown_features}
 use Rattle.style_layout.specs.Walk.{features_left, HasFewLeft, with_keys}
 use Rattle.style_layout.proofs.sorted.keyed_features.Given as goal
 
 abbrev pub invariant-loop-keyed : goal.invariant-loop-keyed
 invariant-loop-keyed g l =
-    let scene = g.S.AnyScene.scene l.scene in
+    let scene = scene_seen g.E.Evaluator.tests l.scene in
     let layer = layer_seen l.layer in
     let keyed = with_keys scene (property_seen l.property) in
     record {
@@ -16,4 +16,4 @@ invariant-loop-keyed g l =
     }
 
 abbrev pub decreases-loop-keyed : goal.decreases-loop-keyed
-decreases-loop-keyed g l = length (those_shown (g.S.AnyScene.scene l.scene) (layer_seen l.layer) (features_left l.features))
+decreases-loop-keyed g l = length (those_shown (scene_seen g.E.Evaluator.tests l.scene) (layer_seen l.layer) (features_left l.features))

@@ -1,6 +1,6 @@
 use Rattle.std.proofs.Common.{◌≡◌, ◌++◌, ◌∙◌, ap, map, subst}
 use Rattle.std.specs.Prelude.{OnOk}
-use Rattle.style_layout.specs.CodeView.{feature_seen, layer_seen, property_seen, tile_seen}
+use Rattle.style_layout.specs.CodeView.{feature_seen, layer_seen, property_seen, scene_seen, tile_seen}
 use Rattle.style_layout.specs.Shown.{shown_features}
 use Rattle.style_layout.specs.Walk.{lines_of}
 use Rattle.style_layout.specs.declared.sorted.Keyed.{Keyed}
@@ -9,7 +9,7 @@ use Rattle.style_layout.proofs.sorted.write_in_order.Goals as goal
 
 pub returns : goal.returns
 returns g c =
-    let scene = g.S.AnyScene.scene c.args.scene.now in
+    let scene = scene_seen g.E.Evaluator.tests c.args.scene.now in
     let layer = layer_seen c.args.layer.now in
     let features = shown_features scene layer (map tile_seen c.args.tiles.now) in
     let sorted = ap (map (λ (k : Keyed). feature_seen k.feature)) (c.as_slice.ensures.value ∙ c.in_ok-put_in_order.ensures)
