@@ -1,1 +1,2 @@
 pub mod AppliedLaws
+pub mod CountLaws

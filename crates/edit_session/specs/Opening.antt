@@ -1,5 +1,5 @@
 -- Why a session over a document and tiles cannot be opened: the first cause that holds, in their order.
-use Rattle.std.specs.Prelude.{ℕ, ℤ, List, [], ◌∷◌, codes, Bool, not, nat_le, Option, Some, None, is_some, option_map, if◌then◌else◌}
+use Rattle.std.specs.Prelude.{ℕ, ℤ, ◌-◌, ◌^◌, min, List, [], ◌∷◌, codes, Bool, not, nat_le, Option, Some, None, is_some, option_map, if◌then◌else◌}
 use Rattle.std.specs.Bool.{then_some}
 use Rattle.std.specs.Option.{option_and_then, option_or}
 use Rattle.decimal_json.specs.Tree.{Tree}
@@ -44,12 +44,12 @@ pub data Fault : Type 0 where
   unknown_source : List ℕ → Fault
   -- the source of a tile is not of type vector
   not_vector : List ℕ → Fault
-  -- so many cells
+  -- so many cells, or the greatest number of 128 bits where there are more
   too_many_cells : ℕ → Fault
   zoom_range : Fault
 
 abbrev pub cells_fault : ℕ → Option Fault
-cells_fault count = if within_limit count then None else Some (too_many_cells count)
+cells_fault count = if within_limit count then None else Some (too_many_cells (min count (2 ^ 128 - 1)))
 
 -- the fault of a document without findings
 abbrev pub tiles_fault : Tree → List SourceTile → ℤ → Option Fault

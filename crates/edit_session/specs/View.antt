@@ -63,9 +63,9 @@ pub record IsWhole (tiles : List SourceTile) (globals : List (List ℕ × Data))
 abbrev pub IsReady : Session → Type 0
 IsReady session = IsWhole (tiles_of session) session.globals (tree_of session.document) (layers_seen session.prepared)
 
--- What holds of a session from its opening on, by the tests that are handed in, until it lacks memory.
-abbrev pub IsSound : Session → (List ℕ → Bool) → (List ℕ → Bool) → Type 0
-IsSound session has_image scripts = lacks_memory session ≡ false → IsReady session
+-- What holds of a session from its opening on, until it lacks memory.
+abbrev pub IsSound : Session → Type 0
+IsSound session = lacks_memory session ≡ false → IsReady session
 
 -- ---- what only contracts of private functions see
 

@@ -24,7 +24,7 @@ use host_ops::{HostOp, TellFault};
 use prop_values::{Entries, Value, copy_entries};
 use std::alloc::{AllocError, Global};
 use style_edits::{EditFault, EditPlaces, edit_at, edit_fault, edit_places, undo_edit};
-use style_layout::{Scene, Zoom, write_listing};
+use style_layout::{Scene, TreeWalk, Zoom, write_listing};
 
 impl Session<'_> {
     /// The answer to a command, of a session that has memory.
@@ -96,17 +96,11 @@ impl Session<'_> {
         let scene = Scene {
             zoom: self.zoom,
             states: &self.states,
+            evaluator: TreeWalk { images, scripts },
         };
+        let tiles = self.tiles.as_slice();
         let mut out = Vec::new(self.alloc);
-        write_listing(
-            self.alloc,
-            &self.prepared,
-            &scene,
-            images,
-            scripts,
-            self.tiles.as_slice(),
-            &mut out,
-        )?;
+        write_listing(self.alloc, &self.prepared, &scene, tiles, &mut out)?;
         Ok(Answer::Listing(out))
     }
 

@@ -3,11 +3,12 @@
 ghost use Rattle.std.specs.Prelude.{◌≡◌, map, option_map};
 ghost use Rattle.decimal_json.specs.View.{tree_of};
 ghost use Rattle.style_parts.specs.Parts.{source_at};
-ghost use Rattle.edit_session.specs.Opening.{first_failing, has_source, is_vector};
-ghost use Rattle.style_layout.specs.CodeView.{tile_seen};
+ghost use Rattle.edit_session.specs.Opening.{first_failing, has_source, is_vector, within_limit};
+ghost use Rattle.style_layout.specs.CodeView.{layers_seen, tile_seen};
+ghost use Rattle.style_layout.specs.StyleLayout.{cell_count};
 
 use decimal_json::Json;
-use style_layout::SourceTile;
+use style_layout::{PreparedStyle, SourceTile, cell_count};
 use style_parts::source_at;
 
 /// Why a session cannot be opened, in the order in which the causes are looked for.
@@ -60,4 +61,12 @@ fn is_vector(style: &Json, name: &str) -> bool
         Some(source_type) => source_type == "vector",
         None => false,
     }
+}
+
+/// Whether a style has no more cells over tiles than a session may have.
+#[tactic(auto, using(crate::proofs::CountLaws::limit_at))]
+pub(crate) fn is_within_limit(style: &PreparedStyle, tiles: &[SourceTile<'_>]) -> bool
+    ensures { result ≡ within_limit (cell_count (map tile_seen tiles.now) (layers_seen style.now)) }
+{
+    cell_count(style, tiles) <= CELL_LIMIT
 }

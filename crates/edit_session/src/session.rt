@@ -12,7 +12,7 @@ ghost use Rattle.style_layout.specs.CodeView.{tile_seen};
 ghost use Rattle.style_rules.specs.Findings.{findings};
 
 use crate::answer::Answer;
-use crate::opening::{CELL_LIMIT, OpenFault, first_of_no_vector, first_unknown};
+use crate::opening::{OpenFault, first_of_no_vector, first_unknown, is_within_limit};
 use decimal_json::Json;
 use edit_script::Command;
 use feature_states::States;
@@ -54,8 +54,7 @@ impl<'a> Session<'a> {
         ensures opened { IfOk result (λ made. IfOk made (λ session. (has_image : List ℕ → Bool)
             → presented session has_image ≡ opened (tree_of style) zoom has_image)) }
         ensures tiles { IfOk result (λ made. IfOk made (λ session. tiles_of session ≡ map tile_seen tiles.entry.items)) }
-        ensures sound { IfOk result (λ made. IfOk made (λ session. (has_image scripts : List ℕ → Bool)
-            → IsSound session has_image scripts)) }
+        ensures sound { IfOk result (λ made. IfOk made IsSound) }
         ensures memory { IfOk result (λ made. IfOk made (λ session. lacks_memory session ≡ false)) }
     {
         let found = findings(alloc, &style)?;
@@ -78,8 +77,7 @@ impl<'a> Session<'a> {
         ensures opened { IfOk result (λ made. IfOk made (λ session. (has_image : List ℕ → Bool)
             → presented session has_image ≡ opened (tree_of style) zoom has_image)) }
         ensures tiles { IfOk result (λ made. IfOk made (λ session. tiles_of session ≡ map tile_seen tiles.entry.items)) }
-        ensures sound { IfOk result (λ made. IfOk made (λ session. (has_image scripts : List ℕ → Bool)
-            → IsSound session has_image scripts)) }
+        ensures sound { IfOk result (λ made. IfOk made IsSound) }
         ensures memory { IfOk result (λ made. IfOk made (λ session. lacks_memory session ≡ false)) }
     {
         if let Some(source) = first_unknown(&style, tiles.as_slice()) {
@@ -90,8 +88,8 @@ impl<'a> Session<'a> {
         }
         let globals = globals_of(alloc, &style)?;
         let prepared = prepare(alloc, &style, &globals)?;
-        let cells = cell_count(&prepared, tiles.as_slice());
-        if cells > CELL_LIMIT {
+        if !is_within_limit(&prepared, tiles.as_slice()) {
+            let cells = cell_count(&prepared, tiles.as_slice());
             return Ok(Err(OpenFault::CellLimit(cells)));
         }
         if !is_zoom(zoom) {
@@ -117,13 +115,13 @@ impl<'a> Session<'a> {
         images: &mut dyn HostOp,
         scripts: &dyn HostOp,
     ) -> Result<Answer, AllocError>
-        requires { IsSound self.old (test images.old) (test scripts.now) }
+        requires { IsSound self.old }
         ensures answer { IfOk result (λ answer. (presented self.new (test images.new), reply_seen answer)
             ≡ applied (tiles_of self.old) (test scripts.now) (changes images.old) (presented self.old (test images.old))
             (command_seen command.now)) }
         ensures tiles { tiles_of self.new ≡ tiles_of self.old }
         ensures changes { changes images.new ≡ changes images.old }
-        ensures sound { IsSound self.new (test images.new) (test scripts.now) }
+        ensures sound { IsSound self.new }
         ensures lacks { lacks_memory self.new ≡ is_err result }
         ensures memory { lacks_memory self.old ≡ true → IsErr result }
     {

@@ -10,11 +10,11 @@ ghost use Rattle.style_layout.specs.StyleLayout.{cell_count};
 ghost use Rattle.style_rules.specs.Findings.{findings};
 
 use crate::answer::Refusal;
-use crate::opening::CELL_LIMIT;
+use crate::opening::is_within_limit;
 use decimal_json::Json;
 use prop_values::Entries;
 use std::alloc::{AllocError, Global};
-use style_layout::{PreparedStyle, SourceTile, cell_count, prepare};
+use style_layout::{PreparedStyle, SourceTile, prepare};
 use style_rules::findings;
 
 /// A document that breaks no rule and is within the limit of cells, prepared; or its refusal.
@@ -48,7 +48,7 @@ pub(crate) fn prepared_within(
         ≡ limit_refusal (cell_count (map tile_seen tiles.now) (style_layers globals.now (tree_of document.now)))) }
 {
     let prepared = prepare(alloc, document, globals)?;
-    if cell_count(&prepared, tiles) > CELL_LIMIT {
+    if !is_within_limit(&prepared, tiles) {
         return Ok(Err(Refusal::CellLimit));
     }
     Ok(Ok(prepared))

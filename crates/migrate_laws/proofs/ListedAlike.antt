@@ -5,6 +5,7 @@ use Rattle.std.specs.Prelude.{Bool, not, cond, filter, Option, Some, None, if◌
 use Rattle.std.specs.Str.{bytes_eq}
 use Rattle.std.specs.Option.{option_and_then}
 use Rattle.fixed_num.specs.Number.{floor_of}
+use Rattle.prop_values.specs.Data.{Data}
 use Rattle.property_tables.specs.Rows.{RowData}
 use Rattle.tile_reader.specs.declared.tile.Feature.{Feature}
 use Rattle.eval_face.specs.World.{no_feature}
@@ -13,13 +14,14 @@ use Rattle.listing_text.specs.declared.show.Show.{Show}
 use Rattle.listing_text.specs.declared.show.Show.TheVariants.{Plain, Hidden, Unread, OutsideFilter}
 use Rattle.stable_order.specs.InOrder.{in_order}
 use Rattle.stable_order.specs.Keys.{key_before}
-use Rattle.style_layout.specs.Forms.{Scene, Property, outcome_of, FilterSource}
+use Rattle.style_layout.specs.Forms.{Scene, Property, outcome_of, LayerFilter}
 use Rattle.style_layout.specs.Layers.{StyleLayer, layer_properties, feature_properties, sort_row, property_named}
 use Rattle.style_layout.specs.Layers.{sort_property, is_hidden, shown_plainly, show_of}
-use Rattle.style_layout.specs.Shown.{SourceTile, numbered, zoom_at, state_of, outcome_at, listed, is_shown}
-use Rattle.style_layout.specs.Shown.{goes_before, ordered, feature_out, feature_outs}
+use Rattle.style_layout.specs.Shown.{SourceTile, LayerFeature, numbered, layer_features, zoom_at, world_at, outcome_at}
+use Rattle.style_layout.specs.Shown.{listed_value, goes_before, ordered, with_state, is_shown, shown_features}
+use Rattle.style_layout.specs.Shown.{feature_out, feature_outs}
 use Rattle.style_layout.specs.SortKeys.{key_of}
-use Rattle.style_layout.specs.StyleLayout.{layer_features, values_shown, features_shown, shown_layer, layer_out}
+use Rattle.style_layout.specs.StyleLayout.{values_shown, features_shown, shown_layer, layer_out}
 use Rattle.migrate_laws.specs.MigratedLaw.{HasTheSameOutcome, LetsTheSamePass}
 
 pub record IsListedAs (p q : Property) : Type 0 where
@@ -90,65 +92,39 @@ sorting_alike None ps qs h = tt
 
 -- ---- what is listed
 
-module _ (scene : Scene) (source source_layer : List ℕ) where
-  outcome_same : (p q : Property) → IsListedAs p q → (f : Feature)
-      → outcome_at scene source source_layer p f ≡ outcome_at scene source source_layer q f
-  outcome_same p q h f =
-      let state = state_of scene source source_layer f.id in
-      let images = scene.has_image in
-      let scripts = scene.is_supported in
-      h.outcome (zoom_at scene.zoom p.row.place) f state images scripts
-      ∙ ap (λ (r : RowData). outcome_of q (zoom_at scene.zoom r.place) f state images scripts) h.row
+module _ (scene : Scene) where
+  outcome_same : (p q : Property) → IsListedAs p q → (f : Feature) (state : List (List ℕ × Data))
+      → outcome_at scene p f state ≡ outcome_at scene q f state
+  outcome_same p q h f state =
+      h.outcome (world_at scene (zoom_at scene.zoom p.row.place) f state)
+      ∙ ap (λ (r : RowData). outcome_of q (world_at scene (zoom_at scene.zoom r.place) f state)) h.row
 
-  listed_same : (f : Feature) (ps qs : List Property) → AreListedAs ps qs
-      → map (listed scene source source_layer f) ps ≡ map (listed scene source source_layer f) qs
-  listed_same f [] [] h = refl
-  listed_same f [] (q ∷ qs) h = absurd h
-  listed_same f (p ∷ ps) [] h = absurd h
-  listed_same f (p ∷ ps) (q ∷ qs) h =
+  listed_same : (f : Feature) (state : List (List ℕ × Data)) (ps qs : List Property) → AreListedAs ps qs
+      → map (listed_value scene f state) ps ≡ map (listed_value scene f state) qs
+  listed_same f state [] [] h = refl
+  listed_same f state [] (q ∷ qs) h = absurd h
+  listed_same f state (p ∷ ps) [] h = absurd h
+  listed_same f state (p ∷ ps) (q ∷ qs) h =
       let row = h.0.row in
-      let said = outcome_same p q h.0 f in
-      let rest = listed_same f ps qs h.1 in
+      let said = outcome_same p q h.0 f state in
+      let rest = listed_same f state ps qs h.1 in
       λ i. record { name = (row i).name; outcome = said i } ∷ rest i
 
-  feature_same : (ps qs : List Property) → AreListedAs ps qs → (nf : ℕ × Feature)
-      → feature_out scene source source_layer ps nf ≡ feature_out scene source source_layer qs nf
-  feature_same ps qs h nf =
-      let values = listed_same nf.1 ps qs h in
-      λ i. record { number = nf.0; id = nf.1.id; shape = nf.1.shape; values = values i }
-
-  before_same : (p q : Property) → IsListedAs p q
-      → goes_before scene source source_layer p ≡ goes_before scene source source_layer q
+  before_same : (p q : Property) → IsListedAs p q → goes_before scene p ≡ goes_before scene q
   before_same p q h =
-      let key = λ (nf : ℕ × Feature). ap key_of (outcome_same p q h nf.1) in
+      let key = λ (f : LayerFeature). ap key_of (outcome_same p q h f.feature f.state) in
       λ i f g. key_before (key f i) (key g i)
 
-  ordered_same : (k l : Option Property) → BothAreListed k l → (nfs : List (ℕ × Feature))
-      → ordered scene source source_layer k nfs ≡ ordered scene source source_layer l nfs
-  ordered_same (Some p) (Some q) h nfs = ap (λ before. in_order before nfs) (before_same p q h)
-  ordered_same (Some p) None h nfs = absurd h
-  ordered_same None (Some q) h nfs = absurd h
-  ordered_same None None h nfs = refl
-
-  features_same : (new old : FilterSource) (k l : Option Property) (ps qs : List Property) (fs : List Feature)
-      → LetsTheSamePass new old → BothAreListed k l → AreListedAs ps qs
-      → feature_outs scene source source_layer new k ps fs ≡ feature_outs scene source source_layer old l qs fs
-  features_same new old k l ps qs fs pass keys h =
-      let zoom = floor_of scene.zoom in
-      let make = feature_out scene source source_layer in
-      let order = ordered scene source source_layer in
-      let all = numbered 0 fs in
-      let state = state_of scene source source_layer in
-      let shown : is_shown scene source source_layer new ≡ is_shown scene source source_layer old =
-      λ i nf. pass.passes zoom nf.1 (state nf.1.id) scene.has_image scene.is_supported i in
-      let left = filter (is_shown scene source source_layer old) all in
-      let made : make ps ≡ make qs = λ i nf. feature_same ps qs h nf i in
-      ap (λ test. map (make ps) (order k (filter test all))) shown
-      ∙ (ap (map (make ps)) (ordered_same k l keys left) ∙ ap (λ each. map each (order l left)) made)
+  ordered_same : (k l : Option Property) → BothAreListed k l → (fs : List LayerFeature)
+      → ordered scene k fs ≡ ordered scene l fs
+  ordered_same (Some p) (Some q) h fs = ap (λ before. in_order before fs) (before_same p q h)
+  ordered_same (Some p) None h fs = absurd h
+  ordered_same None (Some q) h fs = absurd h
+  ordered_same None None h fs = refl
 
 -- ---- layers
 
-module _ (scene : Scene) (tiles : List SourceTile) (layer : StyleLayer) (chosen : FilterSource)
+module _ (scene : Scene) (tiles : List SourceTile) (layer : StyleLayer) (chosen : LayerFilter)
     (ps : List Property) (pass : LetsTheSamePass chosen layer.filter)
     (alike : AreListedAs ps layer.properties) where
   abbrev new : StyleLayer
@@ -156,8 +132,8 @@ module _ (scene : Scene) (tiles : List SourceTile) (layer : StyleLayer) (chosen 
 
   layer_values_same : values_shown scene tiles Plain new ≡ values_shown scene tiles Plain layer
   layer_values_same =
-      listed_same scene layer.source layer.source_layer no_feature (layer_properties ps)
-      (layer_properties layer.properties) (filtered_alike not ps layer.properties alike)
+      listed_same scene no_feature [] (layer_properties ps) (layer_properties layer.properties)
+      (filtered_alike not ps layer.properties alike)
 
   values_same : (show : Show) → values_shown scene tiles show new ≡ values_shown scene tiles show layer
   values_same Plain = layer_values_same
@@ -165,20 +141,43 @@ module _ (scene : Scene) (tiles : List SourceTile) (layer : StyleLayer) (chosen 
   values_same Unread = refl
   values_same OutsideFilter = layer_values_same
 
-  shown_features : (show : Show) → features_shown scene tiles show new ≡ features_shown scene tiles show layer
-  shown_features Plain =
-      features_same scene layer.source layer.source_layer chosen layer.filter (sort_property layer.type ps)
-      (sort_property layer.type layer.properties) (feature_properties ps) (feature_properties layer.properties)
-      (layer_features tiles layer) pass (sorting_alike (sort_row layer.type) ps layer.properties alike)
-      (filtered_alike (λ b. b) ps layer.properties alike)
-  shown_features Hidden = refl
-  shown_features Unread = refl
-  shown_features OutsideFilter = refl
+  feature_same : feature_out scene new ≡ feature_out scene layer
+  feature_same =
+      let these = filtered_alike (λ b. b) ps layer.properties alike in
+      λ i f. record {
+        number = f.number;
+        id = f.feature.id;
+        shape = f.feature.shape;
+        values = listed_same scene f.feature f.state (feature_properties ps) (feature_properties layer.properties) these i;
+      }
+
+  passing_same : shown_features scene new tiles ≡ shown_features scene layer tiles
+  passing_same =
+      let all = map (with_state scene layer) (numbered 0 (layer_features tiles layer)) in
+      let shown : is_shown scene new ≡ is_shown scene layer =
+      λ i f. pass.passes (world_at scene (floor_of scene.zoom) f.feature f.state) i in
+      ap (λ test. filter test all) shown
+
+  outs_same : feature_outs scene new tiles ≡ feature_outs scene layer tiles
+  outs_same =
+      let key = sort_property layer.type ps in
+      let old_key = sort_property layer.type layer.properties in
+      let left = shown_features scene layer tiles in
+      let keys = sorting_alike (sort_row layer.type) ps layer.properties alike in
+      ap (λ fs. map (feature_out scene new) (ordered scene key fs)) passing_same
+      ∙ (ap (map (feature_out scene new)) (ordered_same scene key old_key keys left)
+      ∙ ap (λ made. map made (ordered scene old_key left)) feature_same)
+
+  shown_features_same : (show : Show) → features_shown scene tiles show new ≡ features_shown scene tiles show layer
+  shown_features_same Plain = outs_same
+  shown_features_same Hidden = refl
+  shown_features_same Unread = refl
+  shown_features_same OutsideFilter = refl
 
   shown_same : (show : Show) → shown_layer scene tiles show new ≡ shown_layer scene tiles show layer
   shown_same show =
       let values = values_same show in
-      let features = shown_features show in
+      let features = shown_features_same show in
       λ i. record {
         id = layer.id;
         layer_type = layer.type;

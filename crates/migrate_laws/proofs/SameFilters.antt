@@ -12,61 +12,63 @@ use Rattle.legacy_filters.specs.Migrated.{expression_or_itself}
 use Rattle.legacy_filters.specs.Split.{is_legacy}
 use Rattle.legacy_filters.specs.ToExpression.{expression}
 use Rattle.legacy_laws.specs.LegacyFilterLaw.{ExpressionsMeanTheirFilters}
-use Rattle.style_layout.specs.Forms.{FilterSource, condition, legacy_filter}
-use Rattle.style_layout.specs.Forms.{condition_of, legacy_of, filter_source, term_source, term_mentions}
+use Rattle.style_layout.specs.Forms.{LayerFilter, condition, legacy_filter}
+use Rattle.style_layout.specs.Forms.{condition_of, legacy_of, layer_filter, feature_in}
+use Rattle.style_layout.specs.Forms.{expression_value, expression_mentions}
 use Rattle.migrate_laws.specs.MigratedLaw.{LetsTheSamePass, filter_mentions, MigratedFiltersAreTheSame}
 
 module _ (globals : List (List ℕ × Data)) where
-  abbrev source_by : Bool → Read → Tree → FilterSource
-  source_by b r t = if b then legacy_of r else condition_of (reading_with t globals)
+  abbrev filter_by : Bool → Read → Tree → LayerFilter
+  filter_by b r t = if b then legacy_of r else condition_of (reading_with t globals)
 
-  itself : (s : FilterSource) → LetsTheSamePass s s
-  itself s = record { passes = λ zoom feature state images scripts. refl; outside = refl }
+  itself : (s : LayerFilter) → LetsTheSamePass s s
+  itself s = record { passes = λ world. refl; outside = refl }
 
-  of_sources : (new old s r : FilterSource) → new ≡ s → old ≡ r → LetsTheSamePass s r → LetsTheSamePass new old
-  of_sources new old s r is was same =
+  of_filters : (new old s r : LayerFilter) → new ≡ s → old ≡ r → LetsTheSamePass s r → LetsTheSamePass new old
+  of_filters new old s r is was same =
       let first = subst (λ x. LetsTheSamePass x r) (sym is) same in
       subst (λ y. LetsTheSamePass new y) (sym was) first
 
   read_same : ExpressionsMeanTheirFilters → NoExpressionIsLegacy → (t : Tree) (f : Filter) → reading t ≡ Ok f
-      → LetsTheSamePass (filter_source globals (Some (expression f))) (legacy_filter f)
+      → LetsTheSamePass (layer_filter globals (Some (expression f))) (legacy_filter f)
   read_same means none t f read =
       let (e, reads, says) = means t f read in
       let new = expression f in
-      let is = ap (λ b. source_by b (reading new) new) (none t f read) ∙ ap condition_of (reads globals) in
-      of_sources (filter_source globals (Some new)) (legacy_filter f) (condition e) (legacy_filter f) is refl
+      let is = ap (λ b. filter_by b (reading new) new) (none t f read) ∙ ap condition_of (reads globals) in
+      of_filters (layer_filter globals (Some new)) (legacy_filter f) (condition e) (legacy_filter f) is refl
       (record {
-        passes = λ zoom feature state images scripts. ap passes (says zoom feature state images scripts);
+        passes = λ world.
+            ap passes (says world.zoom (feature_in world) world.state world.has_image world.is_supported);
         outside = refl;
       })
 
   filter_same : ExpressionsMeanTheirFilters → NoExpressionIsLegacy → (t : Tree) (b : Bool) (r : Read)
       → is_legacy t ≡ b → reading t ≡ r
-      → LetsTheSamePass (filter_source globals (Some (if b then expression_or_itself r t else t)))
-      (filter_source globals (Some t))
-  filter_same means none t false r legacy read = itself (filter_source globals (Some t))
+      → LetsTheSamePass (layer_filter globals (Some (if b then expression_or_itself r t else t)))
+      (layer_filter globals (Some t))
+  filter_same means none t false r legacy read = itself (layer_filter globals (Some t))
   filter_same means none t true (Ok f) legacy read =
-      let was = ap (λ b. source_by b (reading t) t) legacy ∙ ap legacy_of read in
-      let new = filter_source globals (Some (expression f)) in
+      let was = ap (λ b. filter_by b (reading t) t) legacy ∙ ap legacy_of read in
+      let new = layer_filter globals (Some (expression f)) in
       let same = read_same means none t f read in
-      of_sources new (filter_source globals (Some t)) new (legacy_filter f) refl was same
-  filter_same means none t true (Err fault) legacy read = itself (filter_source globals (Some t))
+      of_filters new (layer_filter globals (Some t)) new (legacy_filter f) refl was same
+  filter_same means none t true (Err fault) legacy read = itself (layer_filter globals (Some t))
 
   read_mentions : ExpressionsMeanTheirFilters → NoExpressionIsLegacy → (t : Tree) (f : Filter) → reading t ≡ Ok f
-      → filter_mentions globals (filter_source globals (Some (expression f))) ≡ filter_mentions globals (legacy_filter f)
+      → filter_mentions globals (layer_filter globals (Some (expression f))) ≡ filter_mentions globals (legacy_filter f)
   read_mentions means none t f read =
       let (e, reads, says) = means t f read in
       let new = expression f in
-      let is = ap (λ b. source_by b (reading new) new) (none t f read) ∙ ap condition_of (reads globals) in
-      ap (filter_mentions globals) is ∙ sym (ap (λ r. term_mentions (term_source r)) (reads globals))
+      let is = ap (λ b. filter_by b (reading new) new) (none t f read) ∙ ap condition_of (reads globals) in
+      ap (filter_mentions globals) is ∙ sym (ap (λ r. expression_mentions (expression_value r)) (reads globals))
 
   mentions_same : ExpressionsMeanTheirFilters → NoExpressionIsLegacy → (t : Tree) (b : Bool) (r : Read)
       → is_legacy t ≡ b → reading t ≡ r
-      → filter_mentions globals (filter_source globals (Some (if b then expression_or_itself r t else t)))
-      ≡ filter_mentions globals (filter_source globals (Some t))
+      → filter_mentions globals (layer_filter globals (Some (if b then expression_or_itself r t else t)))
+      ≡ filter_mentions globals (layer_filter globals (Some t))
   mentions_same means none t false r legacy read = refl
   mentions_same means none t true (Ok f) legacy read =
-      let was = ap (λ b. source_by b (reading t) t) legacy ∙ ap legacy_of read in
+      let was = ap (λ b. filter_by b (reading t) t) legacy ∙ ap legacy_of read in
       read_mentions means none t f read ∙ sym (ap (filter_mentions globals) was)
   mentions_same means none t true (Err fault) legacy read = refl
 

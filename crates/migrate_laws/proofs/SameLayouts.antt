@@ -15,7 +15,7 @@ use Rattle.legacy_laws.specs.LegacyFunctionLaw.{IsTableRow}
 use Rattle.listing_text.specs.Layout.{LayerOut}
 use Rattle.style_migrate.specs.Migrated.{mapped_items, value_of_row, migrated_value}
 use Rattle.style_migrate.specs.Migrated.{migrated_member, migrated_layer}
-use Rattle.style_layout.specs.Forms.{Scene, Property, property_of, reads_feature, FilterSource, filter_source}
+use Rattle.style_layout.specs.Forms.{Scene, Property, property_of, reads_feature, LayerFilter, layer_filter}
 use Rattle.style_layout.specs.Layers.{set_value, is_visibility, property_if, set_property, properties_of}
 use Rattle.style_layout.specs.Layers.{StyleLayer, text_or_empty, typed_layer, with_layer, layers_in}
 use Rattle.style_layout.specs.Shown.{SourceTile}
@@ -33,7 +33,7 @@ module _ (values : MigratedValuesAreTheSame) (filters : MigratedFiltersAreTheSam
   -- ---- properties
 
   itself : (p : Property) → IsListedAs p p
-  itself p = record { row = refl; per_feature = refl; outcome = λ zoom feature state images scripts. refl }
+  itself p = record { row = refl; per_feature = refl; outcome = λ world. refl }
 
   -- the trees of a row
   abbrev IsSetAs : RowData → Tree → Tree → Type 0
@@ -96,18 +96,18 @@ module _ (values : MigratedValuesAreTheSame) (filters : MigratedFiltersAreTheSam
 
     chosen_same : (o : Option Tree)
         → LetsTheSamePass
-        (filter_source globals (option_map (migrated_member (tested layer) (codes "filter")) o))
-        (filter_source globals o)
+        (layer_filter globals (option_map (migrated_member (tested layer) (codes "filter")) o))
+        (layer_filter globals o)
     chosen_same (Some t) = (filters globals t).passes
-    chosen_same None = record { passes = λ zoom feature state images scripts. refl; outside = refl }
+    chosen_same None = record { passes = λ world. refl; outside = refl }
 
-    abbrev chosen : FilterSource
-    chosen = filter_source globals (member (codes "filter") new)
+    abbrev chosen : LayerFilter
+    chosen = layer_filter globals (member (codes "filter") new)
 
-    filter_same : LetsTheSamePass chosen (filter_source globals (member (codes "filter") layer))
+    filter_same : LetsTheSamePass chosen (layer_filter globals (member (codes "filter") layer))
     filter_same =
         let old = member (codes "filter") layer in
-        subst (λ o. LetsTheSamePass (filter_source globals o) (filter_source globals old))
+        subst (λ o. LetsTheSamePass (layer_filter globals o) (layer_filter globals old))
         (sym (layer_member (codes "filter") layer)) (chosen_same old)
 
     -- ---- the layer
@@ -130,8 +130,8 @@ module _ (values : MigratedValuesAreTheSame) (filters : MigratedFiltersAreTheSam
           source = text_or_empty (option_and_then text_in (source i));
           source_layer = text_or_empty (option_and_then text_in (source_layer i));
           is_invisible = invisible i;
-          least_zoom = option_and_then number_in (least i);
-          most_zoom = option_and_then number_in (most i);
+          min_zoom = option_and_then number_in (least i);
+          max_zoom = option_and_then number_in (most i);
           filter = chosen;
           properties = properties_of globals type new;
         }

@@ -16,7 +16,6 @@ use Rattle.property_tables.specs.Rows.{RowData}
 use Rattle.expr_syntax.specs.Reading.{number_read, inside, reading_with}
 use Rattle.expr_syntax.specs.Term.{Term, literal}
 use Rattle.eval_face.specs.Meaning.{mean}
-use Rattle.eval_face.specs.World.{feature_world}
 use Rattle.expr_plain.specs.Resolved.{resolved}
 use Rattle.legacy_functions.specs.Form as functions
 use Rattle.legacy_functions.specs.Function.{Function}
@@ -29,9 +28,10 @@ use Rattle.legacy_laws.specs.LegacyFunctionLaw.{IsTableRow, GivesAlways, ReadsAl
 use Rattle.legacy_laws.specs.LegacyFunctionLaw.{ExpressionsMeanTheirFunctions, TokenExpressionsMeanTheirTexts}
 use Rattle.value_forms.specs.declared.forms.Form.TheVariants as forms
 use Rattle.style_migrate.specs.Migrated.{function_or, tokens_or, value_by_form}
-use Rattle.style_layout.specs.Forms.{Source, fixed, term, legacy_function, tokens, source_of}
-use Rattle.style_layout.specs.Forms.{literal_source, term_source, function_source, formed_source}
-use Rattle.style_layout.specs.Forms.{term_mentions, source_mentions, sourced_property}
+use Rattle.style_layout.specs.Forms as layout
+use Rattle.style_layout.specs.Forms.{PropertyValue, legacy_function, token_text, property_value}
+use Rattle.style_layout.specs.Forms.{literal_value, expression_value, function_value, formed_value}
+use Rattle.style_layout.specs.Forms.{expression_mentions, value_mentions, valued_property, feature_in}
 use Rattle.migrate_laws.specs.MigratedLaw.{HasTheSameOutcome, HasTheSameValue, MigratedValuesAreTheSame}
 use Rattle.migrate_laws.proofs.FunctionForms.{is_scalar, IsMigratedForm, function_forms}
 use Rattle.migrate_laws.proofs.StayingValues.{form_by, call_form, bare_form}
@@ -83,22 +83,22 @@ scalar_reads row (json.text s) given sc h = record {
 scalar_reads row (json.list ts) given s h = absurd (cc)
 scalar_reads row (json.object fs) given s h = absurd (cc)
 
--- ---- two sources of a row
+-- ---- two values of a row
 
 module _ (row : RowData) (globals : List (List ℕ × Data)) where
-  record SourcesSayTheSame (new old : Source) : Type 0 where
-    outcome : HasTheSameOutcome (sourced_property row globals new) (sourced_property row globals old)
-    mentions : source_mentions globals new ≡ source_mentions globals old
+  record ValuesSayTheSame (new old : PropertyValue) : Type 0 where
+    outcome : HasTheSameOutcome (valued_property row globals new) (valued_property row globals old)
+    mentions : value_mentions globals new ≡ value_mentions globals old
 
-  of_sources : (new old : Tree) (s r : Source) → source_of row globals new ≡ s → source_of row globals old ≡ r
-      → SourcesSayTheSame s r → HasTheSameValue row globals new old
-  of_sources new old s r is was same =
-      let first = subst (λ x. SourcesSayTheSame x r) (sym is) same in
-      let both = subst (λ y. SourcesSayTheSame (source_of row globals new) y) (sym was) first in
+  of_values : (new old : Tree) (s r : PropertyValue) → property_value row globals new ≡ s → property_value row globals old ≡ r
+      → ValuesSayTheSame s r → HasTheSameValue row globals new old
+  of_values new old s r is was same =
+      let first = subst (λ x. ValuesSayTheSame x r) (sym is) same in
+      let both = subst (λ y. ValuesSayTheSame (property_value row globals new) y) (sym was) first in
       record { outcome = both.outcome; mentions = both.mentions }
 
   of_itself : (t : Tree) → HasTheSameValue row globals t t
-  of_itself t = record { outcome = λ zoom feature state images scripts. refl; mentions = refl }
+  of_itself t = record { outcome = λ world. refl; mentions = refl }
 
   -- ---- token texts
 
@@ -112,26 +112,27 @@ module _ (row : RowData) (globals : List (List ℕ × Data)) where
   more_than_literals t form is other =
       takes_more (takes_literals_alone row) (is_expression t) (is_function t) (is_token_text row t) form is other
 
-  call_source : (e : Tree) → takes_literals_alone row ≡ false → is_expression e ≡ true
-      → source_of row globals e ≡ term_source (reading_with e globals)
-  call_source e more is = ap (λ f. formed_source f row globals e) (call_form row e more is)
+  call_value : (e : Tree) → takes_literals_alone row ≡ false → is_expression e ≡ true
+      → property_value row globals e ≡ expression_value (reading_with e globals)
+  call_value e more is = ap (λ f. formed_value f row globals e) (call_form row e more is)
 
-  source_from : (t : Tree) (form : Form) → form_of row t ≡ form
-      → source_of row globals t ≡ formed_source form row globals t
-  source_from t form is = ap (λ f. formed_source f row globals t) is
+  value_from : (t : Tree) (form : Form) → form_of row t ≡ form
+      → property_value row globals t ≡ formed_value form row globals t
+  value_from t form is = ap (λ f. formed_value f row globals t) is
 
   text_same : TokenExpressionsMeanTheirTexts → (s : List ℕ) → form_of row (json.text s) ≡ forms.TokenText
       → HasTheSameValue row globals (token_expression s) (json.text s)
   text_same means s is =
       let (e, reads, gives) = means s in
       let more = more_than_literals (json.text s) forms.TokenText is (λ same. absurd (cc)) in
-      let new = call_source (token_expression s) more refl ∙ ap term_source (reads globals) in
-      let old = source_from (json.text s) forms.TokenText is in
-      of_sources (token_expression s) (json.text s) (term e) (tokens s) new old
+      let new = call_value (token_expression s) more refl ∙ ap expression_value (reads globals) in
+      let old = value_from (json.text s) forms.TokenText is in
+      of_values (token_expression s) (json.text s) (layout.expression e) (token_text s) new old
       (record {
-        outcome = λ zoom feature state images scripts.
-            ap (resolved (default_of row)) (gives row.want zoom feature state images scripts);
-        mentions = ap (λ r. term_mentions (term_source r)) (sym (reads globals));
+        outcome = λ world.
+            ap (resolved (default_of row))
+            (gives row.want world.zoom (feature_in world) world.state world.has_image world.is_supported);
+        mentions = ap (λ r. expression_mentions (expression_value r)) (sym (reads globals));
       })
 
   tokens_same : TokenExpressionsMeanTheirTexts → (t : Tree) → form_of row t ≡ forms.TokenText
@@ -151,27 +152,27 @@ module _ (row : RowData) (globals : List (List ℕ × Data)) where
 
     -- the expression is a call
     call_same : ReadsAlways (function_expression row f) e → Gives
-        → SourcesSayTheSame (term e) (legacy_function row f)
+        → ValuesSayTheSame (layout.expression e) (legacy_function row f)
     call_same reads gives = record {
-      outcome = λ zoom feature state images scripts.
-          ap (resolved (default_of row)) (gives zoom feature state images scripts);
-      mentions = ap (λ r. term_mentions (term_source r)) (sym (reads globals));
+      outcome = λ world.
+          ap (resolved (default_of row))
+          (gives world.zoom (feature_in world) world.state world.has_image world.is_supported);
+      mentions = ap (λ r. expression_mentions (expression_value r)) (sym (reads globals));
     }
 
     -- the expression is a bare literal, with this value
     literal_same : (given : Data) → IsReadAsItself row (function_expression row f) given
         → ReadsAlways (function_expression row f) e → Gives
-        → SourcesSayTheSame (fixed given) (legacy_function row f)
+        → ValuesSayTheSame (layout.literal given) (legacy_function row f)
     literal_same given itself reads gives =
         let one : Ok (Some (literal itself.data_of)) ≡ Ok (Some e) = sym (itself.reads globals) ∙ reads globals in
         let same : literal itself.data_of ≡ e = cc in
         let fits : fit row.want itself.data_of ≡ Ok given = itself.fits in
         record {
-          outcome = λ zoom feature state images scripts.
-              let world = feature_world zoom feature state images scripts in
-              ap (resolved (default_of row))
-              (sym fits ∙ ap (λ x. mean x row.want [] world) same ∙ gives zoom feature state images scripts);
-          mentions = ap (λ r. term_mentions (term_source r)) (sym (itself.reads globals));
+          outcome = λ world.
+              let says = gives world.zoom (feature_in world) world.state world.has_image world.is_supported in
+              ap (resolved (default_of row)) (sym fits ∙ ap (λ x. mean x row.want [] world) same ∙ says);
+          mentions = ap (λ r. expression_mentions (expression_value r)) (sym (itself.reads globals));
         }
 
   function_same : ExpressionsMeanTheirFunctions → IsTableRow row → (t : Tree) (f : Function)
@@ -181,17 +182,17 @@ module _ (row : RowData) (globals : List (List ℕ × Data)) where
       let (e, reads, gives) = means row t f of_table read in
       let new = function_expression row f in
       let more = more_than_literals t forms.Function is (λ same. absurd (cc)) in
-      let old = source_from t forms.Function is ∙ ap (function_source row) read in
-      let own = call_source new more call ∙ ap term_source (reads globals) in
-      of_sources new t (term e) (legacy_function row f) own old
+      let old = value_from t forms.Function is ∙ ap (function_value row) read in
+      let own = call_value new more call ∙ ap expression_value (reads globals) in
+      of_values new t (layout.expression e) (legacy_function row f) own old
       (call_same f e reads gives)
   function_same means of_table t f is read (inr literal_form) =
       let (e, reads, gives) = means row t f of_table read in
       let new = function_expression row f in
       let (given, spelled) = literal_form.value in
-      let old = source_from t forms.Function is ∙ ap (function_source row) read in
-      let own = source_from new forms.Literal (bare_form row new literal_form) ∙ ap literal_source spelled in
-      of_sources new t (fixed given) (legacy_function row f) own old
+      let old = value_from t forms.Function is ∙ ap (function_value row) read in
+      let own = value_from new forms.Literal (bare_form row new literal_form) ∙ ap literal_value spelled in
+      of_values new t (layout.literal given) (legacy_function row f) own old
       (literal_same f e given (scalar_reads row new given literal_form.scalar spelled) reads gives)
 
   functions_same : ExpressionsMeanTheirFunctions → IsTableRow row → (t : Tree) (found : Option (Option Function))

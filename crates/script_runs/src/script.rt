@@ -25,7 +25,7 @@ pub fn answer_script(
     images: &mut dyn HostOp,
     scripts: &dyn HostOp,
 ) -> Result<Answer, AllocError>
-    requires { IsSound session.old (test images.old) (test scripts.now) }
+    requires { IsSound session.old }
     ensures { (files : List ℕ → Option (List ℕ)) → IfOk result (λ answer. HasOutcome files
         (script_run (tiles_of session.old) (test scripts.now) (changes images.old) (presented session.old (test images.old)) script.now)
         (outcome_of answer)) }
@@ -59,8 +59,8 @@ fn answer_line(
     scripts: &dyn HostOp,
     out: &mut Vec<u8>,
 ) -> Result<bool, AllocError>
-    requires { IsSound session.old (test images.old) (test scripts.now) }
-    ensures sound { IsSound session.new (test images.new) (test scripts.now) }
+    requires { IsSound session.old }
+    ensures sound { IsSound session.new }
     ensures tiles { tiles_of session.new ≡ tiles_of session.old }
     ensures changes { changes images.new ≡ changes images.old }
     ensures leads { (files : List ℕ → Option (List ℕ)) (any : Bool) (line : List ℕ) (lines : List (List ℕ)) (o : Outcome)

@@ -1,10 +1,15 @@
 -- Counts that stop at a greatest number.
-use Rattle.std.proofs.Common.{◌≡◌, ◌∙◌, ℕ, ◌+◌, ◌*◌, ◌<◌, ◌≤◌, ◌^◌, min, List, length, sym, ap, arith, inl, inr}
+use Rattle.std.proofs.Common.{◌≡◌, ◌∙◌, ℕ, ◌+◌, ◌*◌, ◌<◌, ◌≤◌, ◌++◌, min, List, length, get_or, drop, map, sym, ap, arith, inl, inr}
+use Rattle.std.specs.Prelude.{flat_map}
 use Rattle.std.proofs.lemmas.Bool.{cases_lt}
+use Rattle.std.proofs.lemmas.List.{drop_more, length-append}
 use Rattle.std.proofs.Math.Nat.{le-mul_of_pos_right, min-eq_left}
+use Rattle.tile_reader.specs.declared.tile.Feature.{Feature}
+use Rattle.style_layout.specs.CodeView.{tile_seen}
+use Rattle.style_layout.specs.declared.scene.SourceTile.{SourceTile as Handed}
 use Rattle.style_layout.specs.Layers.{StyleLayer}
-use Rattle.style_layout.specs.Shown.{SourceTile}
-use Rattle.style_layout.specs.StyleLayout.{layer_features, layer_cells, cells_of, cell_count}
+use Rattle.style_layout.specs.Shown.{SourceTile, layer_features, tile_features}
+use Rattle.style_layout.specs.StyleLayout.{layer_cells}
 
 pub sum_saturates : (a b c most : ℕ) → min (min (a + min b most) most + c) most ≡ min (a + (b + c)) most
 sum_saturates a b c most = omega arith
@@ -28,9 +33,23 @@ product_saturates a b most = elim (cases_lt most a) [
 pub features_within : (tiles : List SourceTile) (layer : StyleLayer) → length (layer_features tiles layer) ≤ layer_cells tiles layer
 features_within tiles layer = le-mul_of_pos_right (length (layer_features tiles layer)) (omega arith)
 
-pub cells_within : (tiles : List SourceTile) (layers : List StyleLayer) → cell_count tiles layers < 2 ^ 32 → cells_of tiles layers < 2 ^ 32
-cells_within tiles layers h = omega (arith, h)
-
 -- a count that was not stopped
 pub most_is_kept : (a most : ℕ) → a ≤ most → min (a + 0) most ≡ a
 most_is_kept a most h = omega (arith, h)
+
+-- one tile more
+module _ (layer : StyleLayer) (ts : List Handed) (i : ℕ) (t : Handed) (below : i < length ts) (is : t ≡ get_or ts i t) where
+  abbrev counted_from : ℕ → ℕ
+  counted_from k = length (flat_map (tile_features layer) (map tile_seen (drop k ts)))
+
+  pub tile_counted : (n most : ℕ) (found : List Feature) → found ≡ tile_features layer (tile_seen t)
+      → min (min (n + length found) most + counted_from (i + 1)) most ≡ min (n + counted_from i) most
+  tile_counted n most found same =
+      let here = tile_features layer (tile_seen t) in
+      let later = flat_map (tile_features layer) (map tile_seen (drop (i + 1) ts)) in
+      let split : flat_map (tile_features layer) (map tile_seen (drop i ts)) ≡ here ++ later =
+      ap (λ xs. flat_map (tile_features layer) (map tile_seen xs)) (drop_more ts i t below)
+      ∙ ap (λ x. tile_features layer (tile_seen x) ++ later) (sym is) in
+      let counts : counted_from i ≡ length here + counted_from (i + 1) = ap length split ∙ length-append here later in
+      let found_count : length found ≡ length here = ap length same in
+      omega (arith, counts, found_count)

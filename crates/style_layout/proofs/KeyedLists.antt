@@ -1,14 +1,12 @@
 -- Features in the order of their keys, with their keys and without.
-use Rattle.std.proofs.Common.{◌≡◌, ◌∙◌, ℕ, ℤ, List, [], ◌∷◌, map, refl, sym, ap}
+use Rattle.std.proofs.Common.{◌≡◌, ◌∙◌, ℤ, List, [], ◌∷◌, map, refl, sym, ap}
 use Rattle.std.specs.Prelude.{Bool, true, false, Option, if◌then◌else◌}
 use Rattle.stable_order.specs.InOrder.{put, in_order}
 use Rattle.stable_order.specs.Keys.{key_before}
-use Rattle.tile_reader.specs.declared.tile.Feature.{Feature}
-use Rattle.style_layout.specs.CodeView.{keyed_before, keyed_seen, numbered_seen}
+use Rattle.style_layout.specs.CodeView.{feature_seen, keyed_before, keyed_seen}
 use Rattle.style_layout.specs.Forms.{Scene, Property}
-use Rattle.style_layout.specs.Layers.{StyleLayer}
-use Rattle.style_layout.specs.Shown.{goes_before}
-use Rattle.style_layout.specs.ShownLines.{keyed_shown, those_shown, with_key}
+use Rattle.style_layout.specs.Shown.{LayerFeature, goes_before}
+use Rattle.style_layout.specs.Walk.{with_key, with_keys}
 use Rattle.style_layout.specs.declared.sorted.Keyed.{Keyed}
 
 -- what is made of each of a list in order is in the order that agrees
@@ -28,26 +26,25 @@ module _ {X Y : Type 0} (f : X → Y) (a : X → X → Bool) (b : Y → Y → Bo
   map_in_order (x ∷ xs) = map_put x (in_order a xs) ∙ ap (put b (f x)) (map_in_order xs)
 
 abbrev KeyedFeature : Type 0
-KeyedFeature = Option ℤ × (ℕ × Feature)
+KeyedFeature = Option ℤ × LayerFeature
 
 abbrev before : KeyedFeature → KeyedFeature → Bool
 before a b = key_before a.0 b.0
 
-without_key : (ks : List Keyed) → map numbered_seen ks ≡ map (λ (q : KeyedFeature). q.1) (map keyed_seen ks)
+without_key : (ks : List Keyed) → map (λ (k : Keyed). feature_seen k.feature) ks ≡ map (λ (q : KeyedFeature). q.1) (map keyed_seen ks)
 without_key [] = refl
-without_key (k ∷ ks) = ap (λ nfs. numbered_seen k ∷ nfs) (without_key ks)
+without_key (k ∷ ks) = ap (λ fs. feature_seen k.feature ∷ fs) (without_key ks)
 
-module _ (scene : Scene) (layer : StyleLayer) (p : Property) where
-  again : (nfs : List (ℕ × Feature)) → map (λ (q : KeyedFeature). q.1) (map (with_key scene layer p) nfs) ≡ nfs
+module _ (scene : Scene) (p : Property) where
+  again : (fs : List LayerFeature) → map (λ (q : KeyedFeature). q.1) (with_keys scene p fs) ≡ fs
   again [] = refl
-  again (nf ∷ nfs) = ap (λ later. nf ∷ later) (again nfs)
+  again (f ∷ fs) = ap (λ later. f ∷ later) (again fs)
 
   -- the features of a list that was sorted by keys
-  pub in_key_order : (ks : List Keyed) (nfs : List (ℕ × Feature)) → map keyed_seen ks ≡ keyed_shown scene layer p nfs
-      → map numbered_seen (in_order keyed_before ks) ≡ in_order (goes_before scene layer.source layer.source_layer p) (those_shown scene layer nfs)
-  in_key_order ks nfs keyed =
-      let test = goes_before scene layer.source layer.source_layer p in
+  pub in_key_order : (ks : List Keyed) (fs : List LayerFeature) → map keyed_seen ks ≡ with_keys scene p fs
+      → map (λ (k : Keyed). feature_seen k.feature) (in_order keyed_before ks) ≡ in_order (goes_before scene p) fs
+  in_key_order ks fs keyed =
       without_key (in_order keyed_before ks)
       ∙ (ap (map (λ (q : KeyedFeature). q.1)) (map_in_order keyed_seen keyed_before before (λ x y. refl) ks
-      ∙ (ap (in_order before) keyed ∙ sym (map_in_order (with_key scene layer p) test before (λ x y. refl) (those_shown scene layer nfs))))
-      ∙ again (in_order test (those_shown scene layer nfs)))
+      ∙ (ap (in_order before) keyed ∙ sym (map_in_order (with_key scene p) (goes_before scene p) before (λ x y. refl) fs)))
+      ∙ again (in_order (goes_before scene p) fs))

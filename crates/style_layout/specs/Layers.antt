@@ -15,7 +15,7 @@ use Rattle.style_parts.specs.Numbers.{number_in}
 use Rattle.value_forms.specs.LayerTypes.{is_unread_type, layer_type}
 use Rattle.listing_text.specs.declared.show.Show.{Show}
 use Rattle.listing_text.specs.declared.show.Show.TheVariants.{Plain, Hidden, Unread, OutsideFilter}
-use Rattle.style_layout.specs.Forms.{Property, property_of, FilterSource, filter_source, is_outside}
+use Rattle.style_layout.specs.Forms.{Property, property_of, LayerFilter, layer_filter, is_outside}
 
 -- ---- how a layer is shown
 
@@ -23,21 +23,27 @@ abbrev pub place_key : Place → List ℕ
 place_key Layout = codes "layout"
 place_key Paint = codes "paint"
 
+-- the property that says whether a layer is shown
+abbrev pub visibility : List ℕ
+visibility = codes "visibility"
+
 -- the value of a name in `layout` or `paint`
 abbrev pub set_value : Tree → Place → List ℕ → Option Tree
 set_value layer place name = option_and_then (member name) (member (place_key place) layer)
 
 -- `visibility` is the text `none`, also of a type whose properties are not read
 abbrev pub is_invisible : Tree → Bool
-is_invisible layer = is_among (codes "none" ∷ []) (option_and_then (text_at (codes "visibility")) (member (codes "layout") layer))
+is_invisible layer = is_among (codes "none" ∷ []) (option_and_then (text_at visibility) (member (codes "layout") layer))
 
-abbrev pub is_below : ℤ → Option ℤ → Bool
-is_below zoom (Some least) = int_lt zoom least
-is_below zoom None = false
+-- a zoom is below the least of a layer
+abbrev pub is_below_min : ℤ → Option ℤ → Bool
+is_below_min zoom (Some min) = int_lt zoom min
+is_below_min zoom None = false
 
-abbrev pub is_from : ℤ → Option ℤ → Bool
-is_from zoom (Some most) = int_le most zoom
-is_from zoom None = false
+-- a zoom is the first at which a layer is hidden again, or above it
+abbrev pub is_max_or_above : ℤ → Option ℤ → Bool
+is_max_or_above zoom (Some max) = int_le max zoom
+is_max_or_above zoom None = false
 
 abbrev pub limit_at : List ℕ → Tree → Option ℤ
 limit_at key layer = option_and_then number_in (member key layer)
@@ -53,7 +59,7 @@ has_features _ = true
 -- ---- the properties that are set, in the order of the table
 
 abbrev pub is_visibility : RowData → Bool
-is_visibility row = bytes_eq row.name (codes "visibility")
+is_visibility row = bytes_eq row.name visibility
 
 abbrev pub property_if : RowData → List (List ℕ × Data) → Option Tree → List Property
 property_if row globals (Some t) = property_of row globals t ∷ []
@@ -98,9 +104,9 @@ pub record StyleLayer : Type 0 where
   pub source_layer : List ℕ
   pub is_invisible : Bool
   -- in millionths
-  pub least_zoom : Option ℤ
-  pub most_zoom : Option ℤ
-  pub filter : FilterSource
+  pub min_zoom : Option ℤ
+  pub max_zoom : Option ℤ
+  pub filter : LayerFilter
   -- in the order of the table
   pub properties : List Property
 
@@ -118,9 +124,9 @@ typed_layer globals layer type = record {
   source = text_of (codes "source") layer;
   source_layer = text_of (codes "source-layer") layer;
   is_invisible = is_invisible layer;
-  least_zoom = limit_at (codes "minzoom") layer;
-  most_zoom = limit_at (codes "maxzoom") layer;
-  filter = filter_source globals (member (codes "filter") layer);
+  min_zoom = limit_at (codes "minzoom") layer;
+  max_zoom = limit_at (codes "maxzoom") layer;
+  filter = layer_filter globals (member (codes "filter") layer);
   properties = properties_of globals type layer;
 }
 
@@ -143,7 +149,7 @@ style_layers globals document = layers_in globals (layers_of document)
 -- ---- how a layer is shown at a zoom
 
 abbrev pub is_hidden : ℤ → StyleLayer → Bool
-is_hidden zoom layer = layer.is_invisible || (is_below zoom layer.least_zoom || is_from zoom layer.most_zoom)
+is_hidden zoom layer = layer.is_invisible || (is_below_min zoom layer.min_zoom || is_max_or_above zoom layer.max_zoom)
 
 abbrev pub shown_plainly : LayerType → Bool → Show
 shown_plainly type outside = if has_features type && outside then OutsideFilter else Plain

@@ -5,6 +5,7 @@ pub mod Globals
 pub mod SortKeys
 pub mod Shown
 pub mod StyleLayout
--- What only contracts of private functions, models and proofs use.
+-- What clauses see of the program's values, and the words of private functions' clauses.
+pub mod Tests
 pub mod CodeView
-pub mod ShownLines
+pub mod Walk

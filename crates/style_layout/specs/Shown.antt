@@ -11,80 +11,109 @@ use Rattle.stable_order.specs.Keys.{key_before}
 use Rattle.tile_reader.specs.declared.tile.Feature.{Feature}
 use Rattle.tile_reader.specs.declared.tile.TileLayer.{TileLayer}
 use Rattle.tile_reader.specs.Names.{layer_named}
-use Rattle.eval_face.specs.World.{no_feature}
+use Rattle.eval_face.specs.World.{World, feature_world, no_feature}
 use Rattle.listing_text.specs.Layout.{ListedValue, FeatureOut}
+use Rattle.style_layout.specs.Forms.{Scene, Property, outcome_of, lets_pass}
+use Rattle.style_layout.specs.Layers.{StyleLayer, has_features, layer_properties, feature_properties, sort_property}
 use Rattle.style_layout.specs.SortKeys.{key_of}
-use Rattle.style_layout.specs.Forms.{Scene, Property, FilterSource, outcome_of, lets_pass}
 
--- ---- the features of a layer
+-- ---- the features of a layer over tiles
 
--- the features of a layer, and none where there is no layer
-abbrev pub features_of_layer : Option TileLayer → List Feature
-features_of_layer (Some layer) = layer.features
-features_of_layer None = []
+-- the features of a layer of a tile, and none where there is no layer
+abbrev pub features_of : Option TileLayer → List Feature
+features_of (Some layer) = layer.features
+features_of None = []
 
 -- the features of the layer of a tile that has this name, and none where the tile lacks it
 abbrev pub features_named : List ℕ → List TileLayer → List Feature
-features_named name layers = features_of_layer (layer_named name layers)
+features_named name layers = features_of (layer_named name layers)
 
 -- a tile and the source that it is handed in for
 abbrev pub SourceTile : Type 0
 SourceTile = List ℕ × List TileLayer
 
-abbrev pub tile_features : List ℕ → List ℕ → SourceTile → List Feature
-tile_features source source_layer tile = if bytes_eq tile.0 source then features_named source_layer tile.1 else []
+-- the features that a tile has for a layer
+abbrev pub tile_features : StyleLayer → SourceTile → List Feature
+tile_features layer tile = if bytes_eq tile.0 layer.source then features_named layer.source_layer tile.1 else []
 
--- of each tile of a source, in their order
-abbrev pub features_of : List ℕ → List ℕ → List SourceTile → List Feature
-features_of source source_layer tiles = flat_map (tile_features source source_layer) tiles
+-- The list of the features of a layer, of each tile in its order; none of a type that shows none.
+abbrev pub layer_features : List SourceTile → StyleLayer → List Feature
+layer_features tiles layer = flat_map (tile_features layer) (if has_features layer.type then tiles else [])
 
--- features with their numbers
+-- features with their numbers, from this number on
 abbrev pub numbered : ℕ → List Feature → List (ℕ × Feature)
 numbered n [] = []
 numbered n (f ∷ fs) = (n, f) ∷ numbered (n + 1) fs
+
+-- a feature of a layer, with its number in the list and the members of its state
+pub record LayerFeature : Type 0 where
+  pub number : ℕ
+  pub feature : Feature
+  pub state : List (List ℕ × Data)
 
 -- a paint value sees the zoom, a layout value and a filter its floor
 abbrev pub zoom_at : ℤ → Place → ℤ
 zoom_at zoom Paint = zoom
 zoom_at zoom Layout = floor_of zoom
 
--- the members of the state of a feature, which one without an id has not
-abbrev pub members_of : (List ℕ → List ℕ → ℕ → List (List ℕ × Data)) → (source source_layer : List ℕ) → Option ℕ → List (List ℕ × Data)
-members_of states source source_layer (Some id) = states source source_layer id
-members_of states source source_layer None = []
+module _ (scene : Scene) where
+  -- what values and filters read at a zoom, of a feature and its state
+  abbrev pub world_at : ℤ → Feature → List (List ℕ × Data) → World
+  world_at zoom feature state = feature_world zoom feature state scene.has_image scene.is_supported
 
-module _ (scene : Scene) (source source_layer : List ℕ) where
-  abbrev pub state_of : Option ℕ → List (List ℕ × Data)
-  state_of id = members_of scene.states source source_layer id
+  abbrev pub outcome_at : Property → Feature → List (List ℕ × Data) → Outcome
+  outcome_at p feature state = outcome_of p (world_at (zoom_at scene.zoom p.row.place) feature state)
 
-  abbrev pub outcome_at : Property → Feature → Outcome
-  outcome_at p f = outcome_of p (zoom_at scene.zoom p.row.place) f (state_of f.id) scene.has_image scene.is_supported
-
-  abbrev pub listed : Feature → Property → ListedValue
-  listed f p = record { name = p.row.name; outcome = outcome_at p f }
-
-  abbrev pub is_shown : FilterSource → ℕ × Feature → Bool
-  is_shown chosen nf = lets_pass chosen (floor_of scene.zoom) nf.1 (state_of nf.1.id) scene.has_image scene.is_supported
+  abbrev pub listed_value : Feature → List (List ℕ × Data) → Property → ListedValue
+  listed_value feature state p = record { name = p.row.name; outcome = outcome_at p feature state }
 
   -- ---- the order of features: ascending keys, and one whose key faulted first; ties keep the order of the list
 
-  abbrev pub sort_key : Property → ℕ × Feature → Option ℤ
-  sort_key p nf = key_of (outcome_at p nf.1)
+  abbrev pub sort_key : Property → LayerFeature → Option ℤ
+  sort_key p f = key_of (outcome_at p f.feature f.state)
 
-  abbrev pub goes_before : Property → ℕ × Feature → ℕ × Feature → Bool
+  abbrev pub goes_before : Property → LayerFeature → LayerFeature → Bool
   goes_before p f g = key_before (sort_key p f) (sort_key p g)
 
-  abbrev pub ordered : Option Property → List (ℕ × Feature) → List (ℕ × Feature)
+  abbrev pub ordered : Option Property → List LayerFeature → List LayerFeature
   ordered (Some p) fs = in_order (goes_before p) fs
   ordered None fs = fs
 
+module _ (scene : Scene) (layer : StyleLayer) where
+  -- the members of the state of a feature, which one without an id has not
+  abbrev pub state_of : Option ℕ → List (List ℕ × Data)
+  state_of (Some id) = scene.states layer.source layer.source_layer id
+  state_of None = []
+
+  abbrev pub with_state : ℕ × Feature → LayerFeature
+  with_state nf = record { number = nf.0; feature = nf.1; state = state_of nf.1.id }
+
+  abbrev pub is_shown : LayerFeature → Bool
+  is_shown f = lets_pass layer.filter (world_at scene (floor_of scene.zoom) f.feature f.state)
+
+  -- those of numbered features that pass
+  abbrev pub those_shown : List (ℕ × Feature) → List LayerFeature
+  those_shown nfs = filter is_shown (map with_state nfs)
+
+  -- the features of the layer that pass, in the order of the list
+  abbrev pub shown_features : List SourceTile → List LayerFeature
+  shown_features tiles = those_shown (numbered 0 (layer_features tiles layer))
+
   -- ---- what is listed
 
-  abbrev pub feature_out : List Property → ℕ × Feature → FeatureOut
-  feature_out ps nf = record { number = nf.0; id = nf.1.id; shape = nf.1.shape; values = map (listed nf.1) ps }
+  abbrev pub feature_out : LayerFeature → FeatureOut
+  feature_out f = record {
+    number = f.number;
+    id = f.feature.id;
+    shape = f.feature.shape;
+    values = map (listed_value scene f.feature f.state) (feature_properties layer.properties);
+  }
 
-  abbrev pub feature_outs : FilterSource → Option Property → List Property → List Feature → List FeatureOut
-  feature_outs chosen key ps fs = map (feature_out ps) (ordered key (filter (is_shown chosen) (numbered 0 fs)))
+  -- The features of a layer that pass, in their order.
+  abbrev pub feature_outs : List SourceTile → List FeatureOut
+  feature_outs tiles =
+      map feature_out (ordered scene (sort_property layer.type layer.properties) (shown_features tiles))
 
-  abbrev pub layer_values : List Property → List ListedValue
-  layer_values ps = map (listed no_feature) ps
+  -- The values that are listed with a layer.
+  abbrev pub layer_values : List ListedValue
+  layer_values = map (listed_value scene no_feature []) (layer_properties layer.properties)

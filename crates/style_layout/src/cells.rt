@@ -3,18 +3,20 @@
 ghost use Rattle.std.specs.Prelude.{◌≡◌, ◌-◌, ◌^◌, ◌≤◌, min, length, map};
 ghost use Rattle.style_layout.specs.CodeView.{layer_seen, layers_seen, property_seen, tile_seen};
 ghost use Rattle.style_layout.specs.Layers.{feature_properties};
-ghost use Rattle.style_layout.specs.StyleLayout.{cell_count, layer_cells, layer_features};
+ghost use Rattle.style_layout.specs.Shown.{layer_features};
+ghost use Rattle.style_layout.specs.StyleLayout.{cell_count, layer_cells};
 
-use crate::features::{tile_features, tiles_for};
+use crate::features::{searched_tiles, tile_features};
 use crate::layers::StyleLayer;
 use crate::prepared::PreparedStyle;
 use crate::properties::Property;
 use crate::scene::SourceTile;
 
-/// One for each feature of each layer, and one more for each of its properties that are listed with it; counted up to `u128::MAX`.
+/// One for each feature of each layer, and one more for each of its properties that are listed with it; or `u128::MAX`, where there
+/// are more.
 #[tactic(auto, using(crate::proofs::CellLaws::sum_saturates))]
 pub fn cell_count(style: &PreparedStyle, tiles: &[SourceTile<'_>]) -> u128
-    ensures { result ≡ cell_count (map tile_seen tiles.now) (layers_seen style.now) }
+    ensures { result ≡ min (cell_count (map tile_seen tiles.now) (layers_seen style.now)) (2 ^ 128 - 1) }
 {
     let mut count: u128 = 0;
     for layer in style.layers.as_slice() {
@@ -34,11 +36,10 @@ fn layer_cells(layer: &StyleLayer, tiles: &[SourceTile<'_>]) -> u128
 fn feature_count(layer: &StyleLayer, tiles: &[SourceTile<'_>]) -> u128
     ensures { result ≡ min (length (layer_features (map tile_seen tiles.now) (layer_seen layer.now))) (2 ^ 128 - 1) }
 {
-    let searched = tiles_for(layer.layer_type, tiles);
+    let searched = searched_tiles(layer.layer_type, tiles);
     let mut count: u128 = 0;
     for tile in searched {
-        let found = tile_features(layer.source.as_str(), layer.source_layer.as_str(), tile);
-        count = count.saturating_add(found.len() as u128);
+        count = count.saturating_add(tile_features(layer, tile).len() as u128);
     }
     count
 }

@@ -1,16 +1,161 @@
-//! The features of a layer.
+//! The features of a layer over tiles.
 
-ghost use Rattle.std.specs.Prelude.{◌≡◌, [], map, if◌then◌else◌};
-ghost use Rattle.style_layout.specs.CodeView.{tile_seen};
+ghost use Rattle.std.specs.Prelude.{◌≡◌, ◌+◌, ◌-◌, ◌<◌, ◌^◌, [], ◌∷◌, length, map, MatchOption, IfOk, IfSome, if◌then◌else◌};
+ghost use Rattle.style_layout.specs.CodeView.{feature_seen, layer_seen, scene_seen, tile_seen};
 ghost use Rattle.style_layout.specs.Layers.{has_features};
-ghost use Rattle.style_layout.specs.Shown.{features_named, tile_features};
+ghost use Rattle.style_layout.specs.Shown.{features_named, layer_features, numbered, state_of, tile_features, those_shown};
+ghost use Rattle.eval_face.specs.World as world;
+ghost use Rattle.style_layout.specs.Walk.{features_left, HasFewLeft};
 
-use crate::scene::SourceTile;
+use crate::layers::StyleLayer;
+use crate::scene::{Evaluator, Scene, SourceTile};
+use crate::values::lets_pass;
+use prop_values::Entries;
 use property_tables::LayerType;
+use std::alloc::{AllocError, Global};
 use tile_reader::{Feature, Tile};
 
-/// The features of the layer of a tile that has this name; none where the tile lacks it.
-pub(crate) fn features_named<'a>(tile: &'a Tile, name: &str) -> &'a [Feature]
+/// A feature of a layer, with its number in the list of the layer's features and its state.
+#[derive(Clone, Copy)]
+pub(crate) struct LayerFeature<'a> {
+    pub(crate) number: u32,
+    pub(crate) feature: &'a Feature,
+    pub(crate) state: Option<&'a Entries>,
+}
+
+/// The features of a layer that are still to come, tile by tile.
+#[derive(Clone, Copy)]
+pub(crate) struct LayerFeatures<'a> {
+    pub(crate) layer: &'a StyleLayer,
+    pub(crate) tiles: &'a [SourceTile<'a>],
+    /// The place of the tile that comes after these features.
+    pub(crate) next_tile: usize,
+    pub(crate) features: &'a [Feature],
+    /// The number of the first of them.
+    pub(crate) number: u32,
+}
+
+impl<'a> LayerFeatures<'a> {
+    /// All of them.
+    pub(crate) fn new(layer: &'a StyleLayer, tiles: &'a [SourceTile<'a>]) -> LayerFeatures<'a>
+        requires { length (layer_features (map tile_seen tiles.now) (layer_seen layer.now)) < 2 ^ 32 }
+        ensures left { features_left result
+            ≡ numbered 0 (layer_features (map tile_seen tiles.now) (layer_seen layer.now)) }
+        ensures few { HasFewLeft result }
+    {
+        LayerFeatures {
+            layer,
+            tiles: searched_tiles(layer.layer_type, tiles),
+            next_tile: 0,
+            features: &[],
+            number: 0,
+        }
+    }
+
+    /// Takes the next feature that the filter of the layer lets pass.
+    pub(crate) fn next_shown<E: Evaluator>(
+        &mut self,
+        alloc: Global,
+        layer: &StyleLayer,
+        scene: &'a Scene<'_, E>,
+    ) -> Result<Option<LayerFeature<'a>>, AllocError>
+        requires { HasFewLeft self.old }
+        ensures left { IfOk result (λ found. MatchOption found
+            (those_shown (scene_seen E.tests scene.now) (layer_seen layer.now) (features_left self.old) ≡ [])
+            (λ feature. those_shown (scene_seen E.tests scene.now) (layer_seen layer.now) (features_left self.old)
+            ≡ feature_seen feature ∷ those_shown (scene_seen E.tests scene.now) (layer_seen layer.now) (features_left self.new))) }
+        ensures few { HasFewLeft self.new }
+    {
+        while let Some((number, feature)) = self.next() {
+            let state = state_of(layer, scene, feature.id);
+            if lets_pass(alloc, &layer.filter, scene, feature, state)? {
+                return Ok(Some(LayerFeature {
+                    number,
+                    feature,
+                    state,
+                }));
+            }
+        }
+        Ok(None)
+    }
+
+    // Takes the next feature, with its number.
+    fn next(&mut self) -> Option<(u32, &'a Feature)>
+        requires { HasFewLeft self.old }
+        ensures left { MatchOption result (features_left self.old ≡ [])
+            (λ found. features_left self.old ≡ (found.0, found.1.now) ∷ features_left self.new) }
+        ensures few { HasFewLeft self.new }
+    {
+        let (feature, later) = self.split_first()?;
+        let number = self.number;
+        *self = later;
+        Some((number, feature))
+    }
+
+    // The next feature, and those after it.
+    fn split_first(self) -> Option<(&'a Feature, LayerFeatures<'a>)>
+        requires { HasFewLeft self }
+        ensures left { MatchOption result (features_left self.entry ≡ [])
+            (λ split. features_left self.entry ≡ (self.entry.number, split.0.now) ∷ features_left split.1) }
+        ensures few { IfSome result (λ split. HasFewLeft split.1) }
+    {
+        if let Some((feature, features)) = self.features.split_first() {
+            return Some((feature, self.after_first(self.next_tile, features)));
+        }
+        for at in self.next_tile..self.tiles.len() {
+            let found = tile_features(self.layer, &self.tiles[at]);
+            if let Some((feature, features)) = found.split_first() {
+                return Some((feature, self.after_first(at + 1, features)));
+            }
+        }
+        None
+    }
+
+    // Those after the next feature, which are these and what the tiles from a place on have.
+    fn after_first(self, next_tile: usize, features: &'a [Feature]) -> LayerFeatures<'a>
+        requires { self.number < 2 ^ 32 - 1 }
+        ensures { result ≡ record self.entry {
+          number = self.entry.number + 1;
+          next_tile = next_tile;
+          features = features.entry;
+        } }
+    {
+        LayerFeatures {
+            layer: self.layer,
+            tiles: self.tiles,
+            next_tile,
+            features,
+            number: self.number + 1,
+        }
+    }
+}
+
+// The members of the state of a feature, which one without an id has not.
+fn state_of<'a, E: Evaluator>(
+    layer: &StyleLayer,
+    scene: &'a Scene<'_, E>,
+    id: Option<u64>,
+) -> Option<&'a Entries>
+    ensures { world.state_of result ≡ state_of (scene_seen E.tests scene.now) (layer_seen layer.now) id }
+{
+    scene
+        .states
+        .get(layer.source.as_str(), layer.source_layer.as_str(), id?)
+}
+
+/// The features that a tile has for a layer.
+pub(crate) fn tile_features<'a>(layer: &StyleLayer, tile: &'a SourceTile<'_>) -> &'a [Feature]
+    ensures { result.now ≡ tile_features (layer_seen layer.now) (tile_seen tile.now) }
+{
+    if layer.source.as_str() == tile.source {
+        features_named(&tile.tile, layer.source_layer.as_str())
+    } else {
+        &[]
+    }
+}
+
+// The features of the layer of a tile that has this name; none where the tile lacks it.
+fn features_named<'a>(tile: &'a Tile, name: &str) -> &'a [Feature]
     ensures { result.now ≡ features_named name.now tile.now }
 {
     match tile.named(name) {
@@ -19,19 +164,14 @@ pub(crate) fn features_named<'a>(tile: &'a Tile, name: &str) -> &'a [Feature]
     }
 }
 
-/// The features that a tile has for a layer of this source and source layer.
-pub(crate) fn tile_features<'a>(
-    source: &str,
-    source_layer: &str,
-    tile: &'a SourceTile<'_>,
-) -> &'a [Feature]
-    ensures { result.now ≡ tile_features source.now source_layer.now (tile_seen tile.now) }
+/// The tiles among which features of a type are looked for.
+pub(crate) fn searched_tiles<'a, 'b>(
+    layer_type: LayerType,
+    tiles: &'a [SourceTile<'b>],
+) -> &'a [SourceTile<'b>]
+    ensures { map tile_seen result.now ≡ (if has_features layer_type then map tile_seen tiles.now else []) }
 {
-    if source == tile.source {
-        features_named(&tile.tile, source_layer)
-    } else {
-        &[]
-    }
+    if has_features(layer_type) { tiles } else { &[] }
 }
 
 /// The types that show features of tiles.
@@ -45,14 +185,4 @@ pub(crate) fn has_features(layer_type: LayerType) -> bool
         LayerType::ColorRelief => false,
         _ => true,
     }
-}
-
-/// The tiles among which features of a type are looked for.
-pub(crate) fn tiles_for<'a, 'b>(
-    layer_type: LayerType,
-    tiles: &'a [SourceTile<'b>],
-) -> &'a [SourceTile<'b>]
-    ensures { map tile_seen result.now ≡ (if has_features layer_type then map tile_seen tiles.now else []) }
-{
-    if has_features(layer_type) { tiles } else { &[] }
 }

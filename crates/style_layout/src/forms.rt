@@ -8,8 +8,8 @@ ghost use Rattle.expr_syntax.specs.Reading.{reading_with};
 ghost use Rattle.expr_syntax.specs.TermView.{term_of};
 ghost use Rattle.legacy_functions.specs.Form.{form};
 ghost use Rattle.property_tables.specs.Literals.{literal_of};
-ghost use Rattle.style_layout.specs.CodeView.{source_seen, filter_seen};
-ghost use Rattle.style_layout.specs.Forms.{source_of, is_per_feature, filter_source, literal_source, term_source, function_source, text_source, reads_feature, term_mentions};
+ghost use Rattle.style_layout.specs.CodeView.{value_seen, filter_seen};
+ghost use Rattle.style_layout.specs.Forms.{property_value, is_per_feature, layer_filter, literal_value, expression_value, function_value, text_value, reads_feature, expression_mentions};
 
 use decimal_json::{Json, Text};
 use dependency_sets::mentions;
@@ -23,19 +23,19 @@ use value_forms::{Form, form_of};
 
 /// The value of a property.
 #[derive(Drop)]
-pub(crate) enum Source {
+pub(crate) enum PropertyValue {
     /// A literal, fitted to its row.
-    Fixed(Value),
-    Term(Expr),
+    Literal(Value),
+    Expression(Expr),
     Function(Function),
-    Tokens(Text),
+    TokenText(Text),
     /// It is not evaluated.
     Outside,
 }
 
 /// The filter of a layer.
 #[derive(Drop)]
-pub(crate) enum FilterSource {
+pub(crate) enum LayerFilter {
     Every,
     Condition(Expr),
     Legacy(LegacyFilter),
@@ -43,55 +43,59 @@ pub(crate) enum FilterSource {
 }
 
 /// What the value of a property of a row is, by the values of the global state.
-pub(crate) fn source_of(
+pub(crate) fn property_value(
     alloc: Global,
     row: &Row,
     globals: &Entries,
     json: &Json,
-) -> Result<Source, AllocError>
-    ensures { IfOk result (λ source. source_seen source ≡ source_of (row_seen row.now) globals.now (tree_of json.now)) }
+) -> Result<PropertyValue, AllocError>
+    ensures { IfOk result (λ value. value_seen value ≡ property_value (row_seen row.now) globals.now (tree_of json.now)) }
 {
     match form_of(row, json) {
-        Form::Expression => term_source(alloc, globals, json),
-        Form::Function => function_source(alloc, row, json),
-        Form::TokenText => text_source(json),
-        Form::Literal => literal_source(alloc, row, json),
+        Form::Expression => expression_value(alloc, globals, json),
+        Form::Function => function_value(alloc, row, json),
+        Form::TokenText => text_value(json),
+        Form::Literal => literal_value(alloc, row, json),
     }
 }
 
-fn text_source(json: &Json) -> Result<Source, AllocError>
-    ensures { IfOk result (λ source. source_seen source ≡ text_source (tree_of json.now)) }
+fn text_value(json: &Json) -> Result<PropertyValue, AllocError>
+    ensures { IfOk result (λ value. value_seen value ≡ text_value (tree_of json.now)) }
 {
     match json {
-        Json::Text(text) => Ok(Source::Tokens(text.share()?)),
-        _ => Ok(Source::Outside),
+        Json::Text(text) => Ok(PropertyValue::TokenText(text.share()?)),
+        _ => Ok(PropertyValue::Outside),
     }
 }
 
-fn literal_source(alloc: Global, row: &Row, json: &Json) -> Result<Source, AllocError>
-    ensures { IfOk result (λ source. source_seen source ≡ literal_source (literal_of (tree_of json.now) (row_seen row.now))) }
+fn literal_value(alloc: Global, row: &Row, json: &Json) -> Result<PropertyValue, AllocError>
+    ensures { IfOk result (λ value. value_seen value ≡ literal_value (literal_of (tree_of json.now) (row_seen row.now))) }
 {
     match literal(alloc, json, row)? {
-        Some(value) => Ok(Source::Fixed(value)),
-        None => Ok(Source::Outside),
+        Some(value) => Ok(PropertyValue::Literal(value)),
+        None => Ok(PropertyValue::Outside),
     }
 }
 
-fn term_source(alloc: Global, globals: &Entries, json: &Json) -> Result<Source, AllocError>
-    ensures { IfOk result (λ source. source_seen source ≡ term_source (reading_with (tree_of json.now) globals.now)) }
+fn expression_value(
+    alloc: Global,
+    globals: &Entries,
+    json: &Json,
+) -> Result<PropertyValue, AllocError>
+    ensures { IfOk result (λ value. value_seen value ≡ expression_value (reading_with (tree_of json.now) globals.now)) }
 {
     match read_with(alloc, json, globals)? {
-        Ok(Reading::Inside(expression)) => Ok(Source::Term(expression)),
-        _ => Ok(Source::Outside),
+        Ok(Reading::Inside(expression)) => Ok(PropertyValue::Expression(expression)),
+        _ => Ok(PropertyValue::Outside),
     }
 }
 
-fn function_source(alloc: Global, row: &Row, json: &Json) -> Result<Source, AllocError>
-    ensures { IfOk result (λ source. source_seen source ≡ function_source (row_seen row.now) (form (row_seen row.now) (tree_of json.now))) }
+fn function_value(alloc: Global, row: &Row, json: &Json) -> Result<PropertyValue, AllocError>
+    ensures { IfOk result (λ value. value_seen value ≡ function_value (row_seen row.now) (form (row_seen row.now) (tree_of json.now))) }
 {
     match legacy_functions::read(alloc, json, row)? {
-        Ok(FunctionReading::Inside(function)) => Ok(Source::Function(function)),
-        _ => Ok(Source::Outside),
+        Ok(FunctionReading::Inside(function)) => Ok(PropertyValue::Function(function)),
+        _ => Ok(PropertyValue::Outside),
     }
 }
 
@@ -99,17 +103,17 @@ fn function_source(alloc: Global, row: &Row, json: &Json) -> Result<Source, Allo
 pub(crate) fn is_per_feature(
     alloc: Global,
     globals: &Entries,
-    source: &Source,
+    value: &PropertyValue,
 ) -> Result<bool, AllocError>
-    ensures { IfOk result (λ reads. reads ≡ is_per_feature globals.now (source_seen source.now)) }
+    ensures { IfOk result (λ reads. reads ≡ is_per_feature globals.now (value_seen value.now)) }
 {
-    match source {
-        Source::Term(expression) => Ok(reads_feature(expression)),
-        Source::Function(function) => {
+    match value {
+        PropertyValue::Expression(expression) => Ok(reads_feature(expression)),
+        PropertyValue::Function(function) => {
             let expression = function.to_expr(alloc)?;
             reads_feature_as(alloc, globals, &expression)
         }
-        Source::Tokens(text) => {
+        PropertyValue::TokenText(text) => {
             let expression = token_expr(alloc, text.as_str())?;
             reads_feature_as(alloc, globals, &expression)
         }
@@ -118,7 +122,7 @@ pub(crate) fn is_per_feature(
 }
 
 fn reads_feature_as(alloc: Global, globals: &Entries, json: &Json) -> Result<bool, AllocError>
-    ensures { IfOk result (λ reads. reads ≡ reads_feature (term_mentions (term_source (reading_with (tree_of json.now) globals.now)))) }
+    ensures { IfOk result (λ reads. reads ≡ reads_feature (expression_mentions (expression_value (reading_with (tree_of json.now) globals.now)))) }
 {
     match read_with(alloc, json, globals)? {
         Ok(Reading::Inside(expression)) => Ok(reads_feature(&expression)),
@@ -134,24 +138,24 @@ fn reads_feature(expression: &Expr) -> bool
 }
 
 /// What the filter of a layer is, by the values of the global state.
-pub(crate) fn filter_source(
+pub(crate) fn layer_filter(
     alloc: Global,
     globals: &Entries,
     filter: Option<&Json>,
-) -> Result<FilterSource, AllocError>
-    ensures { IfOk result (λ source. filter_seen source ≡ filter_source globals.now (tree_at filter.entry)) }
+) -> Result<LayerFilter, AllocError>
+    ensures { IfOk result (λ value. filter_seen value ≡ layer_filter globals.now (tree_at filter.entry)) }
 {
     let Some(filter) = filter else {
-        return Ok(FilterSource::Every);
+        return Ok(LayerFilter::Every);
     };
     if legacy_filters::is_legacy(filter) {
         match legacy_filters::read(alloc, filter)? {
-            Ok(filter) => return Ok(FilterSource::Legacy(filter)),
-            Err(_) => return Ok(FilterSource::Outside),
+            Ok(filter) => return Ok(LayerFilter::Legacy(filter)),
+            Err(_) => return Ok(LayerFilter::Outside),
         }
     }
     match read_with(alloc, filter, globals)? {
-        Ok(Reading::Inside(expression)) => Ok(FilterSource::Condition(expression)),
-        _ => Ok(FilterSource::Outside),
+        Ok(Reading::Inside(expression)) => Ok(LayerFilter::Condition(expression)),
+        _ => Ok(LayerFilter::Outside),
     }
 }

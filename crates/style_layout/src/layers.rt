@@ -6,11 +6,11 @@ ghost use Rattle.decimal_json.specs.View.{tree_of};
 ghost use Rattle.value_forms.specs.LayerTypes.{is_unread_type};
 ghost use Rattle.style_layout.specs.CodeView.{filter_seen, layer_seen, property_seen};
 ghost use Rattle.style_layout.specs.Forms.{is_outside};
-ghost use Rattle.style_layout.specs.Layers.{layer_of, typed_layer, text_of, limit_at, is_invisible, is_hidden, is_below, is_from, show_of, sort_property, sort_row, property_named};
+ghost use Rattle.style_layout.specs.Layers.{layer_of, typed_layer, text_of, limit_at, is_invisible, is_hidden, is_below_min, is_max_or_above, show_of, sort_property, sort_row, property_named};
 
 use crate::features::has_features;
-use crate::forms::{FilterSource, filter_source};
-use crate::properties::{Property, properties_of, set_value};
+use crate::forms::{LayerFilter, layer_filter};
+use crate::properties::{Property, VISIBILITY, properties_of, set_value};
 use decimal_json::{Json, Members, Text};
 use fixed_num::Fixed;
 use listing_text::Show;
@@ -29,9 +29,9 @@ pub(crate) struct StyleLayer {
     pub(crate) source: Text,
     pub(crate) source_layer: Text,
     pub(crate) is_invisible: bool,
-    pub(crate) least_zoom: Option<Fixed>,
-    pub(crate) most_zoom: Option<Fixed>,
-    pub(crate) filter: FilterSource,
+    pub(crate) min_zoom: Option<Fixed>,
+    pub(crate) max_zoom: Option<Fixed>,
+    pub(crate) filter: LayerFilter,
     /// In the order of the table.
     pub(crate) properties: Vec<Property>,
 }
@@ -67,9 +67,9 @@ fn typed_layer(
         source: text_of(alloc, layer, "source")?,
         source_layer: text_of(alloc, layer, "source-layer")?,
         is_invisible: is_invisible(layer),
-        least_zoom: limit_at(layer, "minzoom"),
-        most_zoom: limit_at(layer, "maxzoom"),
-        filter: filter_source(alloc, globals, layer.get("filter"))?,
+        min_zoom: limit_at(layer, "minzoom"),
+        max_zoom: limit_at(layer, "maxzoom"),
+        filter: layer_filter(alloc, globals, layer.get("filter"))?,
         properties: properties_of(alloc, globals, layer_type, layer)?,
     })
 }
@@ -96,7 +96,7 @@ fn limit_at(layer: &Members, key: &str) -> Option<Fixed>
 fn is_invisible(layer: &Members) -> bool
     ensures { result ≡ is_invisible (object (fields_of layer.now)) }
 {
-    match set_value(layer, Place::Layout, "visibility") {
+    match set_value(layer, Place::Layout, VISIBILITY) {
         Some(Json::Text(text)) => text.as_str() == "none",
         _ => false,
     }
@@ -122,7 +122,9 @@ impl StyleLayer {
     fn is_hidden(&self, zoom: Fixed) -> bool
         ensures { result ≡ is_hidden zoom (layer_seen self.now) }
     {
-        self.is_invisible || is_below(zoom, self.least_zoom) || is_from(zoom, self.most_zoom)
+        self.is_invisible
+            || is_below_min(zoom, self.min_zoom)
+            || is_max_or_above(zoom, self.max_zoom)
     }
 
     /// The property by which the features of the type are ordered, where it is set.
@@ -137,29 +139,29 @@ impl StyleLayer {
     }
 }
 
-fn is_below(zoom: Fixed, least: Option<Fixed>) -> bool
-    ensures { result ≡ is_below zoom least }
+fn is_below_min(zoom: Fixed, min: Option<Fixed>) -> bool
+    ensures { result ≡ is_below_min zoom min }
 {
-    match least {
-        Some(least) => zoom < least,
+    match min {
+        Some(min) => zoom < min,
         None => false,
     }
 }
 
-fn is_from(zoom: Fixed, most: Option<Fixed>) -> bool
-    ensures { result ≡ is_from zoom most }
+fn is_max_or_above(zoom: Fixed, max: Option<Fixed>) -> bool
+    ensures { result ≡ is_max_or_above zoom max }
 {
-    match most {
-        Some(most) => most <= zoom,
+    match max {
+        Some(max) => max <= zoom,
         None => false,
     }
 }
 
-fn is_outside(filter: &FilterSource) -> bool
+fn is_outside(filter: &LayerFilter) -> bool
     ensures { result ≡ is_outside (filter_seen filter.now) }
 {
     match filter {
-        FilterSource::Outside => true,
+        LayerFilter::Outside => true,
         _ => false,
     }
 }

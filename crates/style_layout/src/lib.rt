@@ -2,15 +2,17 @@
 //!
 //! ```text
 //! let style = prepare(alloc, &document, &globals)?;          // a document without findings
+//! let scene = Scene { zoom: Zoom::new(zoom), states: &states, evaluator: TreeWalk { images, scripts } };
 //! if cell_count(&style, &tiles) <= 8_000_000 {
-//!     write_listing(alloc, &style, &scene, images, scripts, &tiles, &mut out)?;
+//!     write_listing(alloc, &style, &scene, &tiles, &mut out)?;
 //!     // zoom 12.24
 //!     // layer "place" symbol
 //!     // ..
 //! }
 //! ```
 //!
-//! What is promised: `write_listing` appends the listing of the layout of `specs/StyleLayout.antt`, and `cell_count` is its count of cells.
+//! What is promised: `write_listing` appends the listing of the layout of `specs/StyleLayout.antt`, and `cell_count` is its count of cells,
+//! or 2^128 - 1 where there are more.
 //! Each value is read once. A layer's values that mention no feature are evaluated once, all others once for each feature that passes, and
 //! each feature is written as it is evaluated; only a layer with a sort key keeps a list of its features.
 //!
@@ -27,7 +29,6 @@ mod listing;
 mod prepared;
 mod properties;
 mod scene;
-mod shown_features;
 mod sorted;
 mod values;
 mod zoom;
@@ -36,5 +37,5 @@ pub use cells::cell_count;
 pub use globals::globals_of;
 pub use listing::write_listing;
 pub use prepared::{PreparedStyle, prepare};
-pub use scene::{Scene, SourceTile};
+pub use scene::{Evaluator, Scene, SourceTile, TreeWalk};
 pub use zoom::Zoom;

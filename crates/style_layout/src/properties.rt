@@ -9,17 +9,20 @@ ghost use Rattle.style_layout.specs.CodeView.{property_seen};
 ghost use Rattle.style_layout.specs.Forms.{property_of};
 ghost use Rattle.style_layout.specs.Layers.{properties_of, set_property, set_value};
 
-use crate::forms::{Source, is_per_feature, source_of};
+use crate::forms::{PropertyValue, is_per_feature, property_value};
 use decimal_json::{Json, Members};
 use prop_values::{Entries, Value};
 use property_tables::{LayerType, Place, Row, default_value, row_count, row_numbered};
 use std::alloc::{AllocError, Global};
 
+/// The property that says whether a layer is shown.
+pub(crate) const VISIBILITY: &str = "visibility";
+
 /// A property that is set.
 #[derive(Drop)]
 pub(crate) struct Property {
     pub(crate) row: Row,
-    pub(crate) source: Source,
+    pub(crate) value: PropertyValue,
     /// What stands for it after a fault.
     pub(crate) fallback: Option<Value>,
     pub(crate) is_per_feature: bool,
@@ -67,7 +70,7 @@ fn row_at(layer_type: LayerType, number: u16) -> Option<Row>
     Some(row_numbered(layer_type, number))
 }
 
-// `visibility` tells how the layer is shown.
+// `visibility` says whether the layer is shown, and has no value of its own.
 fn push_if_set(
     alloc: Global,
     globals: &Entries,
@@ -78,7 +81,7 @@ fn push_if_set(
     ensures { OnOk result (map property_seen properties.new.items
         ≡ map property_seen properties.old.items ++ set_property globals.now (object (fields_of layer.now)) (row_seen row.now)) }
 {
-    if row.name == "visibility" {
+    if row.name == VISIBILITY {
         return Ok(());
     }
     match set_value(layer, row.place, row.name) {
@@ -110,12 +113,12 @@ fn read_property(
 ) -> Result<Property, AllocError>
     ensures { IfOk result (λ property. property_seen property ≡ property_of (row_seen row.now) globals.now (tree_of json.now)) }
 {
-    let source = source_of(alloc, row, globals, json)?;
-    let is_per_feature = is_per_feature(alloc, globals, &source)?;
+    let value = property_value(alloc, row, globals, json)?;
+    let is_per_feature = is_per_feature(alloc, globals, &value)?;
     let fallback = default_value(alloc, row)?;
     Ok(Property {
         row: row.copy(),
-        source,
+        value,
         fallback,
         is_per_feature,
     })

@@ -1,156 +1,81 @@
 //! The features of a layer that pass, in the order of their sort keys.
 
-ghost use Rattle.std.specs.Prelude.{◌≡◌, ℕ, [], ◌∷◌, ◌++◌, ◌<◌, ◌+◌, ◌^◌, length, map, OnOk, IfOk};
+ghost use Rattle.std.specs.Prelude.{◌≡◌, ◌++◌, ◌<◌, ◌^◌, length, map, OnOk, IfOk};
 ghost use Rattle.prop_values.specs.View.{data_of};
 ghost use Rattle.stable_order.specs.InOrder.{in_order};
-ghost use Rattle.style_layout.specs.CodeView.{keyed_before, keyed_seen, layer_seen, numbered_seen, property_seen, scene_seen, tile_seen};
-ghost use Rattle.style_layout.specs.Shown.{numbered, sort_key};
+ghost use Rattle.style_layout.specs.CodeView.{feature_seen, keyed_before, keyed_seen, layer_seen, property_seen, scene_seen, tile_seen};
+ghost use Rattle.style_layout.specs.Shown.{goes_before, layer_features, shown_features, sort_key};
 ghost use Rattle.style_layout.specs.SortKeys.{key_of, number_of};
-ghost use Rattle.style_layout.specs.ShownLines.{keyed_shown, lines_in_order, lines_of};
-ghost use Rattle.style_layout.specs.StyleLayout.{layer_features};
+ghost use Rattle.style_layout.specs.Walk.{lines_of, with_keys};
 
-use crate::feature_lines::{state_of, write_feature};
-use crate::features::{tile_features, tiles_for};
+use crate::feature_lines::write_feature;
+use crate::features::{LayerFeature, LayerFeatures};
 use crate::layers::StyleLayer;
 use crate::properties::Property;
-use crate::scene::{Scene, SourceTile};
-use crate::shown_features::is_shown;
+use crate::scene::{Evaluator, Scene, SourceTile};
 use crate::values::outcome_of;
-use host_ops::HostOp;
 use prop_values::{Outcome, Value};
 use std::alloc::{AllocError, Global};
-use tile_reader::Feature;
 
-/// A feature that passes, with its number and its sort key.
+/// A feature that passes, with its sort key.
 #[derive(Clone, Copy)]
 pub(crate) struct Keyed<'a> {
     /// In millionths.
     pub(crate) key: Option<i128>,
-    pub(crate) number: u32,
-    pub(crate) feature: &'a Feature,
+    pub(crate) feature: LayerFeature<'a>,
 }
 
-/// Appends the lines of the features of a layer that pass, in ascending order of a property. A feature whose key faults comes first, and
-/// ties keep the order of the list.
-pub(crate) fn write_in_order(
+/// Appends the lines of the features of a layer that pass, in ascending order of a property. A feature whose key faults
+/// comes first, and ties keep the order of the list.
+pub(crate) fn write_in_order<E: Evaluator>(
     alloc: Global,
     layer: &StyleLayer,
     property: &Property,
-    scene: &Scene<'_>,
-    images: &dyn HostOp,
-    scripts: &dyn HostOp,
+    scene: &Scene<'_, E>,
     tiles: &[SourceTile<'_>],
     out: &mut Vec<u8>,
 ) -> Result<(), AllocError>
     requires { length (layer_features (map tile_seen tiles.now) (layer_seen layer.now)) < 2 ^ 32 }
-    ensures { OnOk result (out.new.items ≡ out.old.items ++ lines_in_order
-        (scene_seen scene.now (test images.now) (test scripts.now)) (layer_seen layer.now) (property_seen property.now)
-        (numbered 0 (layer_features (map tile_seen tiles.now) (layer_seen layer.now)))) }
+    ensures { OnOk result (out.new.items ≡ out.old.items ++ lines_of (scene_seen E.tests scene.now) (layer_seen layer.now)
+        (in_order (goes_before (scene_seen E.tests scene.now) (property_seen property.now))
+        (shown_features (scene_seen E.tests scene.now) (layer_seen layer.now) (map tile_seen tiles.now)))) }
 {
-    let mut keyed = keyed_features(alloc, layer, property, scene, images, scripts, tiles)?;
+    let mut keyed = keyed_features(alloc, layer, property, scene, tiles)?;
     put_in_order(&mut keyed)?;
-    write_keyed(alloc, layer, scene, images, scripts, keyed.as_slice(), out)
+    write_keyed(alloc, layer, scene, keyed.as_slice(), out)
 }
 
-fn keyed_features<'a>(
+fn keyed_features<'a, E: Evaluator>(
     alloc: Global,
-    layer: &StyleLayer,
+    layer: &'a StyleLayer,
     property: &Property,
-    scene: &Scene<'_>,
-    images: &dyn HostOp,
-    scripts: &dyn HostOp,
-    tiles: &'a [SourceTile<'_>],
+    scene: &'a Scene<'_, E>,
+    tiles: &'a [SourceTile<'a>],
 ) -> Result<Vec<Keyed<'a>>, AllocError>
     requires { length (layer_features (map tile_seen tiles.now) (layer_seen layer.now)) < 2 ^ 32 }
-    ensures { IfOk result (λ keyed. map keyed_seen keyed.items ≡ keyed_shown
-        (scene_seen scene.now (test images.now) (test scripts.now)) (layer_seen layer.now) (property_seen property.now)
-        (numbered 0 (layer_features (map tile_seen tiles.now) (layer_seen layer.now)))) }
+    ensures { IfOk result (λ keyed. map keyed_seen keyed.items
+        ≡ with_keys (scene_seen E.tests scene.now) (property_seen property.now)
+        (shown_features (scene_seen E.tests scene.now) (layer_seen layer.now) (map tile_seen tiles.now))) }
 {
     let mut keyed = Vec::new(alloc);
-    let searched = tiles_for(layer.layer_type, tiles);
-    let mut number: u32 = 0;
-    for tile in searched {
-        let features = tile_features(layer.source.as_str(), layer.source_layer.as_str(), tile);
-        push_tile_features(
-            alloc, layer, property, scene, images, scripts, number, features, &mut keyed,
-        )?;
-        number += features.len() as u32;
+    let mut features = LayerFeatures::new(layer, tiles);
+    while let Some(feature) = features.next_shown(alloc, layer, scene)? {
+        let key = sort_key(alloc, property, scene, &feature)?;
+        keyed.push(Keyed { key, feature })?;
     }
     Ok(keyed)
 }
 
-#[tactic(auto, using(crate::proofs::ShownLists::keyed_cons))]
-fn push_tile_features<'a>(
+fn sort_key<E: Evaluator>(
     alloc: Global,
-    layer: &StyleLayer,
     property: &Property,
-    scene: &Scene<'_>,
-    images: &dyn HostOp,
-    scripts: &dyn HostOp,
-    first: u32,
-    features: &'a [Feature],
-    keyed: &mut Vec<Keyed<'a>>,
-) -> Result<(), AllocError>
-    requires { first + length features.now < 2 ^ 32 }
-    ensures { OnOk result (map keyed_seen keyed.new.items ≡ map keyed_seen keyed.old.items ++ keyed_shown
-        (scene_seen scene.now (test images.now) (test scripts.now)) (layer_seen layer.now) (property_seen property.now)
-        (numbered first features.now)) }
-{
-    let mut number = first;
-    for feature in features {
-        push_if_shown(
-            alloc, layer, property, scene, images, scripts, number, feature, keyed,
-        )?;
-        number += 1;
-    }
-    Ok(())
-}
-
-fn push_if_shown<'a>(
-    alloc: Global,
-    layer: &StyleLayer,
-    property: &Property,
-    scene: &Scene<'_>,
-    images: &dyn HostOp,
-    scripts: &dyn HostOp,
-    number: u32,
-    feature: &'a Feature,
-    keyed: &mut Vec<Keyed<'a>>,
-) -> Result<(), AllocError>
-    ensures { OnOk result (map keyed_seen keyed.new.items ≡ map keyed_seen keyed.old.items ++ keyed_shown
-        (scene_seen scene.now (test images.now) (test scripts.now)) (layer_seen layer.now) (property_seen property.now)
-        ((number, feature.now) ∷ [])) }
-{
-    if is_shown(alloc, layer, scene, images, scripts, feature)? {
-        let key = sort_key(alloc, layer, property, scene, images, scripts, feature)?;
-        keyed.push(Keyed {
-            key,
-            number,
-            feature,
-        })?;
-    }
-    Ok(())
-}
-
-fn sort_key(
-    alloc: Global,
-    layer: &StyleLayer,
-    property: &Property,
-    scene: &Scene<'_>,
-    images: &dyn HostOp,
-    scripts: &dyn HostOp,
-    feature: &Feature,
+    scene: &Scene<'_, E>,
+    feature: &LayerFeature<'_>,
 ) -> Result<Option<i128>, AllocError>
-    ensures { (number : ℕ) → IfOk result (λ key. key ≡ sort_key (scene_seen scene.now (test images.now) (test scripts.now))
-        layer.now.source layer.now.source_layer (property_seen property.now) (number, feature.now)) }
+    ensures { IfOk result (λ key. key
+        ≡ sort_key (scene_seen E.tests scene.now) (property_seen property.now) (feature_seen feature.now)) }
 {
-    let state = state_of(
-        scene.states,
-        layer.source.as_str(),
-        layer.source_layer.as_str(),
-        feature.id,
-    );
-    let outcome = outcome_of(alloc, property, scene, images, scripts, feature, state)?;
+    let outcome = outcome_of(alloc, property, scene, feature.feature, feature.state)?;
     Ok(key_of(&outcome))
 }
 
@@ -180,29 +105,18 @@ fn put_in_order(keyed: &mut Vec<Keyed<'_>>) -> Result<(), AllocError>
     Ok(())
 }
 
-fn write_keyed(
+fn write_keyed<E: Evaluator>(
     alloc: Global,
     layer: &StyleLayer,
-    scene: &Scene<'_>,
-    images: &dyn HostOp,
-    scripts: &dyn HostOp,
+    scene: &Scene<'_, E>,
     keyed: &[Keyed<'_>],
     out: &mut Vec<u8>,
 ) -> Result<(), AllocError>
-    ensures { OnOk result (out.new.items ≡ out.old.items ++ lines_of
-        (scene_seen scene.now (test images.now) (test scripts.now)) (layer_seen layer.now) (map numbered_seen keyed.now)) }
+    ensures { OnOk result (out.new.items ≡ out.old.items
+        ++ lines_of (scene_seen E.tests scene.now) (layer_seen layer.now) (map (λ (k : Keyed). feature_seen k.feature) keyed.now)) }
 {
     for one in keyed {
-        write_feature(
-            alloc,
-            layer,
-            scene,
-            images,
-            scripts,
-            one.number,
-            one.feature,
-            out,
-        )?;
+        write_feature(alloc, layer, scene, &one.feature, out)?;
     }
     Ok(())
 }

@@ -4,62 +4,54 @@ ghost use Rattle.std.specs.Prelude.{◌≡◌, Ok, Err, IfOk, option_map};
 ghost use Rattle.prop_values.specs.View.{data_of, evaluated_of};
 ghost use Rattle.fixed_num.specs.Number.{floor_of};
 ghost use Rattle.eval_face.specs.World.{state_of};
-ghost use Rattle.style_layout.specs.CodeView.{property_seen, filter_seen};
-ghost use Rattle.style_layout.specs.Forms.{outcome_of, lets_pass};
-ghost use Rattle.style_layout.specs.Shown.{zoom_at};
+ghost use Rattle.style_layout.specs.CodeView.{filter_seen, property_seen, scene_seen};
+ghost use Rattle.style_layout.specs.Forms.{lets_pass};
+ghost use Rattle.style_layout.specs.Shown.{outcome_at, world_at, zoom_at};
 
-use crate::forms::{FilterSource, Source};
+use crate::forms::{LayerFilter, PropertyValue};
 use crate::properties::Property;
-use crate::scene::Scene;
+use crate::scene::{Evaluator, Scene};
 use crate::zoom::Zoom;
 use eval_face::Context;
-use expr_plain::{eval_plain, passes, resolved};
+use expr_plain::{passes, resolved};
 use fixed_num::Fixed;
-use host_ops::HostOp;
 use legacy_functions::token_text;
 use prop_values::{Entries, Outcome, Value, Want, copy};
 use property_tables::{Place, fit};
 use std::alloc::{AllocError, Global};
 use tile_reader::Feature;
 
-/// What is listed for a property of a feature.
+/// What is listed for a property of a feature with its state.
 #[tactic(auto, using(prop_values::proofs::ViewLaws::value_again))]
-pub(crate) fn outcome_of(
+pub(crate) fn outcome_of<E: Evaluator>(
     alloc: Global,
     property: &Property,
-    scene: &Scene<'_>,
-    images: &dyn HostOp,
-    scripts: &dyn HostOp,
+    scene: &Scene<'_, E>,
     feature: &Feature,
     state: Option<&Entries>,
 ) -> Result<Outcome, AllocError>
-    ensures { IfOk result (λ outcome. outcome ≡ outcome_of (property_seen property.now)
-        (zoom_at scene.now.zoom property.now.row.place) feature.now (state_of state.entry) (test images.now) (test scripts.now)) }
+    ensures { IfOk result (λ outcome. outcome
+        ≡ outcome_at (scene_seen E.tests scene.now) (property_seen property.now) feature.now (state_of state.entry)) }
 {
     let zoom = zoom_at(scene.zoom, property.row.place);
-    let evaluated = match &property.source {
-        Source::Fixed(value) => return Ok(Outcome::Given(copy(value)?)),
-        Source::Term(expression) => {
+    let evaluated = match &property.value {
+        PropertyValue::Literal(value) => return Ok(Outcome::Given(copy(value)?)),
+        PropertyValue::Expression(expression) => {
             let context = Context {
                 zoom,
                 feature: Some(feature),
                 state,
             };
-            eval_plain(
-                alloc,
-                expression,
-                &property.row.want,
-                &context,
-                images,
-                scripts,
-            )?
+            scene
+                .evaluator
+                .evaluated(alloc, expression, &property.row.want, &context)?
         }
-        Source::Function(function) => function.value(alloc, zoom, feature)?,
-        Source::Tokens(text) => {
+        PropertyValue::Function(function) => function.value(alloc, zoom, feature)?,
+        PropertyValue::TokenText(text) => {
             let text = token_text(alloc, text.as_str(), feature)?;
             fit(alloc, Value::Text(text), &property.row.want)?
         }
-        Source::Outside => return Ok(Outcome::Outside),
+        PropertyValue::Outside => return Ok(Outcome::Outside),
     };
     match evaluated {
         Ok(value) => Ok(Outcome::Given(value)),
@@ -86,37 +78,30 @@ fn zoom_at(zoom: Zoom, place: Place) -> Fixed
     }
 }
 
-/// Whether a feature passes. A fault is false.
-pub(crate) fn lets_pass(
+/// Whether a filter lets a feature with its state pass. A fault is false.
+pub(crate) fn lets_pass<E: Evaluator>(
     alloc: Global,
-    filter: &FilterSource,
-    scene: &Scene<'_>,
-    images: &dyn HostOp,
-    scripts: &dyn HostOp,
+    filter: &LayerFilter,
+    scene: &Scene<'_, E>,
     feature: &Feature,
     state: Option<&Entries>,
 ) -> Result<bool, AllocError>
-    ensures { IfOk result (λ passes. passes ≡ lets_pass (filter_seen filter.now) (floor_of scene.now.zoom) feature.now (state_of state.entry)
-        (test images.now) (test scripts.now)) }
+    ensures { IfOk result (λ passes. passes ≡ lets_pass (filter_seen filter.now)
+        (world_at (scene_seen E.tests scene.now) (floor_of (scene_seen E.tests scene.now).zoom) feature.now (state_of state.entry))) }
 {
     match filter {
-        FilterSource::Every => Ok(true),
-        FilterSource::Legacy(filter) => Ok(filter.passes(feature)),
-        FilterSource::Outside => Ok(false),
-        FilterSource::Condition(expression) => {
+        LayerFilter::Every => Ok(true),
+        LayerFilter::Legacy(filter) => Ok(filter.passes(feature)),
+        LayerFilter::Outside => Ok(false),
+        LayerFilter::Condition(expression) => {
             let context = Context {
                 zoom: scene.zoom.floor(),
                 feature: Some(feature),
                 state,
             };
-            let evaluated = eval_plain(
-                alloc,
-                expression,
-                &Want::Boolean,
-                &context,
-                images,
-                scripts,
-            )?;
+            let evaluated = scene
+                .evaluator
+                .evaluated(alloc, expression, &Want::Boolean, &context)?;
             Ok(passes(&evaluated))
         }
     }

@@ -14,7 +14,7 @@ invariant-loop-line g l =
     let can_change = (goal.HostOp-dyn g l.fn.images.now).changes l.fn.images.now.1 in
     let scripts = (goal.HostOp-dyn g l.scripts.now).test l.scripts.now.1 in
     record {
-      sound : IsSound l.session images scripts;
+      sound : IsSound l.session;
       tiles : tiles_of l.session ≡ tiles_of l.fn.session;
       changes : (goal.HostOp-dyn g l.images.now).changes l.images.now.1 ≡ can_change;
       counted : l.number + length l.rest ≤ length l.fn.script + 1;

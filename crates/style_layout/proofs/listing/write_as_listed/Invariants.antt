@@ -1,16 +1,19 @@
-use Rattle.std.proofs.Common.{◌≡◌, ◌+◌, ◌++◌, ◌<◌, ◌^◌, List, drop, length, map}
+use Rattle.std.proofs.Common.{◌≡◌, ◌++◌, length}
 use Rattle.style_layout.specs.CodeView.{layer_seen, scene_seen, tile_seen}
-use Rattle.style_layout.specs.Shown.{features_of, numbered}
-use Rattle.style_layout.specs.ShownLines.{lines_of_shown}
-use Rattle.style_layout.specs.declared.scene.SourceTile.{SourceTile}
+use Rattle.style_layout.specs.Shown.{those_shown, shown_features}
+use Rattle.style_layout.specs.Walk.{features_left, HasFewLeft, lines_of}
+use Rattle.std.specs.Prelude.{map}
 use Rattle.style_layout.proofs.listing.write_as_listed.Given as goal
 
-abbrev pub invariant-loop-tile : goal.invariant-loop-tile
-invariant-loop-tile g l =
-    let images = (goal.HostOp-dyn g l.images.now).test l.images.now.1 in
-    let scripts = (goal.HostOp-dyn g l.scripts.now).test l.scripts.now.1 in
-    let lines = lines_of_shown (scene_seen l.scene images scripts) (layer_seen l.layer) in
-    let features = λ (tiles : List SourceTile). features_of l.layer.source l.layer.source_layer (map tile_seen tiles) in
-    (l.out.items ++ lines (numbered l.number (features (drop l.tile-index l.searched)))
-    ≡ l.fn.out.items ++ lines (numbered 0 (features l.searched)))
-    × (l.number + length (features (drop l.tile-index l.searched)) < 2 ^ 32)
+abbrev pub invariant-loop-feature : goal.invariant-loop-feature
+invariant-loop-feature g l =
+    let scene = scene_seen g.E.Evaluator.tests l.scene in
+    let layer = layer_seen l.layer in
+    record {
+      lines : l.out.items ++ lines_of scene layer (those_shown scene layer (features_left l.features))
+          ≡ l.fn.out.items ++ lines_of scene layer (shown_features scene layer (map tile_seen l.fn.tiles));
+      few : HasFewLeft l.features;
+    }
+
+abbrev pub decreases-loop-feature : goal.decreases-loop-feature
+decreases-loop-feature g l = length (those_shown (scene_seen g.E.Evaluator.tests l.scene) (layer_seen l.layer) (features_left l.features))

@@ -2,15 +2,14 @@ use Rattle.std.proofs.Common.{◌≡◌, ◌++◌, ◌<◌, ◌^◌, List, drop,
 use Rattle.std.specs.Prelude.{flat_map}
 use Rattle.listing_text.specs.Listing.{layer_lines}
 use Rattle.style_layout.specs.CodeView.{layer_seen, scene_seen, tile_seen}
-use Rattle.style_layout.specs.StyleLayout.{cells_of, layer_out}
+use Rattle.style_layout.specs.StyleLayout.{cell_count, layer_out}
 use Rattle.style_layout.specs.declared.layers.StyleLayer.{StyleLayer}
 use Rattle.style_layout.proofs.listing.write_layers.Given as goal
 
 abbrev pub invariant-loop-layer : goal.invariant-loop-layer
 invariant-loop-layer g l =
-    let images = (goal.HostOp-dyn g l.images.now).test l.images.now.1 in
-    let scripts = (goal.HostOp-dyn g l.scripts.now).test l.scripts.now.1 in
     let tiles = map tile_seen l.tiles in
-    let lines = λ (layers : List StyleLayer). flat_map layer_lines (map (layer_out (scene_seen l.scene images scripts) tiles) (map layer_seen layers)) in
+    let lines = λ (layers : List StyleLayer).
+    flat_map layer_lines (map (layer_out (scene_seen g.E.Evaluator.tests l.scene) tiles) (map layer_seen layers)) in
     (l.out.items ++ lines (drop l.layer-index l.layers) ≡ l.fn.out.items ++ lines l.layers)
-    × (cells_of tiles (map layer_seen (drop l.layer-index l.layers)) < 2 ^ 32)
+    × (cell_count tiles (map layer_seen (drop l.layer-index l.layers)) < 2 ^ 32)

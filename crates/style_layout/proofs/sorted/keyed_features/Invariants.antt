@@ -1,16 +1,19 @@
-use Rattle.std.proofs.Common.{◌≡◌, ◌+◌, ◌++◌, ◌<◌, ◌^◌, List, drop, length, map}
+use Rattle.std.proofs.Common.{◌≡◌, ◌++◌, length, map}
 use Rattle.style_layout.specs.CodeView.{keyed_seen, layer_seen, property_seen, scene_seen, tile_seen}
-use Rattle.style_layout.specs.Shown.{features_of, numbered}
-use Rattle.style_layout.specs.ShownLines.{keyed_shown}
-use Rattle.style_layout.specs.declared.scene.SourceTile.{SourceTile}
+use Rattle.style_layout.specs.Shown.{those_shown, shown_features}
+use Rattle.style_layout.specs.Walk.{features_left, HasFewLeft, with_keys}
 use Rattle.style_layout.proofs.sorted.keyed_features.Given as goal
 
-abbrev pub invariant-loop-tile : goal.invariant-loop-tile
-invariant-loop-tile g l =
-    let images = (goal.HostOp-dyn g l.images.now).test l.images.now.1 in
-    let scripts = (goal.HostOp-dyn g l.scripts.now).test l.scripts.now.1 in
-    let lines = keyed_shown (scene_seen l.scene images scripts) (layer_seen l.layer) (property_seen l.property) in
-    let features = λ (tiles : List SourceTile). features_of l.layer.source l.layer.source_layer (map tile_seen tiles) in
-    (map keyed_seen l.keyed.items ++ lines (numbered l.number (features (drop l.tile-index l.searched)))
-    ≡ lines (numbered 0 (features l.searched)))
-    × (l.number + length (features (drop l.tile-index l.searched)) < 2 ^ 32)
+abbrev pub invariant-loop-keyed : goal.invariant-loop-keyed
+invariant-loop-keyed g l =
+    let scene = scene_seen g.E.Evaluator.tests l.scene in
+    let layer = layer_seen l.layer in
+    let keyed = with_keys scene (property_seen l.property) in
+    record {
+      keyed : map keyed_seen l.keyed.items ++ keyed (those_shown scene layer (features_left l.features))
+          ≡ keyed (shown_features scene layer (map tile_seen l.fn.tiles));
+      few : HasFewLeft l.features;
+    }
+
+abbrev pub decreases-loop-keyed : goal.decreases-loop-keyed
+decreases-loop-keyed g l = length (those_shown (scene_seen g.E.Evaluator.tests l.scene) (layer_seen l.layer) (features_left l.features))

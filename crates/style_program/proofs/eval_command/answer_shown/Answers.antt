@@ -13,9 +13,7 @@ use Rattle.style_program.proofs.eval_command.answer_shown.Goals as goal
 
 pub apply-requires : goal.apply-requires
 apply-requires g c =
-    let images = (goal.HostOp-dyn g c.args.images.now).test c.args.images.now.1 in
-    let scripts = (goal.HostOp-dyn g c.args.scripts.now).test c.args.scripts.now.1 in
-    of_ok (λ session. (h s : List ℕ → Bool) → IsSound session h s) c.in_ok-session.field-0 c.in-Ok.session c.in-Ok.is c.in_ok-session.ensures.sound images scripts
+    of_ok IsSound c.in_ok-session.field-0 c.in-Ok.session c.in-Ok.is c.in_ok-session.ensures.sound
 
 pub returns-in-Listing : goal.returns-in-Listing
 returns-in-Listing g c =

@@ -11,9 +11,7 @@ use Rattle.style_program.proofs.replay_command.answer_edited.Goals as goal
 
 pub answer_script-requires : goal.answer_script-requires
 answer_script-requires g c =
-    let images = (goal.HostOp-dyn g c.args.images.now).test c.args.images.now.1 in
-    let scripts = (goal.HostOp-dyn g c.args.scripts.now).test c.args.scripts.now.1 in
-    of_ok (λ session. (h s : List ℕ → Bool) → IsSound session h s) c.in_ok-session.field-0 c.in-Ok.session c.in-Ok.is c.in_ok-session.ensures.sound images scripts
+    of_ok IsSound c.in_ok-session.field-0 c.in-Ok.session c.in-Ok.is c.in_ok-session.ensures.sound
 
 pub returns-in-Ok : goal.returns-in-Ok
 returns-in-Ok g c =
