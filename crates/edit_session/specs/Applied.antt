@@ -1,4 +1,4 @@
--- What an edit does to what a session stands for, and what is answered.
+-- What an edit does to what a session represents, and what is answered.
 use Rattle.std.specs.Prelude.{ℕ, ℤ, List, [], ◌∷◌, Bool, true, false, Option, Some, None, option_map, if◌then◌else◌}
 use Rattle.std.specs.Option.{option_or}
 use Rattle.std.specs.Str.{bytes_eq}
@@ -38,7 +38,7 @@ changed_state source layer id change states s l i =
 
 -- ---- the test of images
 
--- the test, with one name told to be there or not
+-- the test, with one name reported to be there or not
 abbrev pub with_image : List ℕ → Bool → (List ℕ → Bool) → List ℕ → Bool
 with_image name present has_image other = if bytes_eq name other then present else has_image other
 
@@ -61,7 +61,7 @@ default_of document name = at_key name (pairs_of (globals_of document))
 abbrev pub with_global : Tree → List ℕ → Data → List (List ℕ × Data) → List (List ℕ × Data)
 with_global document name d globals = with_or_without name (value_or_default d (default_of document name)) globals
 
--- ---- what a session stands for after an edit that is accepted. Source: own.
+-- ---- what a session represents after an edit that is accepted. Source: own.
 
 abbrev pub presented_after : Presentation → Edit → Presentation
 presented_after p (edits.set_zoom zoom) = record p { zoom = zoom }
@@ -92,7 +92,7 @@ first_finding (f ∷ fs) = Some (Finding (record { path = f.0; rule = f.1 }))
 abbrev pub limit_refusal : ℕ → Option Refusal
 limit_refusal count = if within_limit count then None else Some CellLimit
 
--- images are told to a test that cannot change
+-- images are reported to a test that cannot change
 abbrev pub images_refusal : Bool → Edit → Option Refusal
 images_refusal can_change (edits.add_image name) = if can_change then None else Some FixedImages
 images_refusal can_change (edits.remove_image name) = if can_change then None else Some FixedImages
@@ -128,7 +128,7 @@ module _ (tiles : List SourceTile) (scripts : List ℕ → Bool) (can_change : B
       whole_refusal tiles (presented_after p edit).globals (presented_after p edit).document ∷
       images_refusal can_change edit ∷ [])
 
-  -- What a session stands for after an edit, and what is answered. A listing is that of the full layout. Source: own.
+  -- What a session represents after an edit, and what is answered. A listing is that of the full layout. Source: own.
   abbrev pub applied : Presentation → Edit → Presentation × Reply
   applied p edits.list = (p, listed (listing (layout_of (scene_of scripts p) tiles p.globals p.document)))
   applied p edits.stats = (p, stats_asked)

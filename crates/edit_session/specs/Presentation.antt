@@ -1,4 +1,4 @@
--- What a session stands for.
+-- What a session represents.
 use Rattle.std.specs.Prelude.{ℕ, ℤ, List, [], Bool}
 use Rattle.decimal_json.specs.Tree.{Tree}
 use Rattle.prop_values.specs.Data.{Data}

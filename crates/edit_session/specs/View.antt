@@ -36,7 +36,7 @@ fault_seen ZoomRange = zoom_range
 
 -- ---- a session
 
--- What a session stands for, with the test of images that is handed in. Source: own.
+-- What a session represents, with the test of images that is handed in. Source: own.
 abbrev pub presented : Session → (List ℕ → Bool) → Presentation
 presented session has_image = record {
   document = tree_of session.document;
@@ -50,7 +50,7 @@ presented session has_image = record {
 abbrev pub tiles_of : Session → List SourceTile
 tiles_of session = map tile_seen session.tiles.items
 
--- a call on it has answered want of memory
+-- a call on it has answered that an allocation failed
 abbrev pub lacks_memory : Session → Bool
 lacks_memory session = session.lacks_memory
 
@@ -63,7 +63,7 @@ pub record IsWhole (tiles : List SourceTile) (globals : List (List ℕ × Data))
 abbrev pub IsReady : Session → Type 0
 IsReady session = IsWhole (tiles_of session) session.globals (tree_of session.document) (layers_seen session.prepared)
 
--- What holds of a session from its opening on, until it lacks memory.
+-- What holds of a session from its opening on, until an allocation fails.
 abbrev pub IsSound : Session → Type 0
 IsSound session = lacks_memory session ≡ false → IsReady session
 
@@ -80,11 +80,11 @@ edits_layers (edits.remove_layer id) = true
 edits_layers (edits.move_layer id before) = true
 edits_layers _ = false
 
--- an edit turns what a session stands for into this, and has this answer
+-- an edit turns what a session represents into this, and has this answer
 abbrev pub IsAnswer : List SourceTile → (List ℕ → Bool) → Bool → Presentation → Presentation → Edit → Answer → Type 0
 IsAnswer tiles scripts can_change before after edit answer = (after, reply_seen answer) ≡ applied tiles scripts can_change before edit
 
--- the test of images after it was told a name, and the answer
+-- the test of images after a name was reported to it, and the answer
 abbrev pub told : Bool → List ℕ → Bool → (List ℕ → Bool) → (List ℕ → Bool) × Reply
 told can_change name present has_image =
     if can_change then (with_image name present has_image, done) else (has_image, refused FixedImages)

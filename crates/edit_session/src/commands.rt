@@ -198,7 +198,7 @@ fn text_in(text: &Option<Text>) -> Option<&str>
     }
 }
 
-// Tells the test of images that a name is there or not.
+// Reports to the test of images that a name is there or not.
 fn told(
     alloc: Global,
     images: &mut dyn HostOp,

@@ -6,10 +6,10 @@
 //! session.apply(&Command::List, images, scripts)?           // Listing(the text)
 //! ```
 //!
-//! What is promised: `presented` says what a session stands for: a document, a zoom, states of features, images and values of the
-//! global state. `open` gives a session that stands for the style before any edit (`opened`), or exactly the first cause why it cannot
+//! What is promised: `presented` says what a session represents: a document, a zoom, states of features, images and values of the
+//! global state. `open` gives a session that represents the style before any edit (`opened`), or exactly the first cause why it cannot
 //! (`open_fault`). `apply` answers by `applied`: a command is refused by the first cause that holds, and then nothing changes; else the
-//! session stands for what is after the edit; a listing is that of the full layout of the document as it then is. Once allocation
+//! session represents what is after the edit; a listing is that of the full layout of the document as it then is. Once allocation
 //! fails a session answers so ever after.
 //!
 //! After each edit of layers the whole document is looked at and prepared anew.

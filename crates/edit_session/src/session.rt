@@ -25,8 +25,8 @@ use style_parts::is_zoom;
 use style_rules::findings;
 
 /// A style over tiles, under edit, with the zoom, the states of features and the values of the global state by which it is
-/// shown. The tests on images and scripts are handed in to each call. `presented` says to a clause what a session stands
-/// for.
+/// shown. The tests on images and scripts are handed in to each call. `presented` is what a session
+/// represents, for clauses.
 #[derive(Drop)]
 pub struct Session<'a> {
     pub(crate) alloc: Global,
@@ -108,7 +108,7 @@ impl<'a> Session<'a> {
     }
 
     /// Does what a command says, and answers. A refused command changes nothing, and neither do `list` and `stats`. Once
-    /// allocation fails the session lacks memory, and every later call says so.
+    /// allocation fails every later call answers so too.
     pub fn apply(
         &mut self,
         command: &Command,

@@ -109,7 +109,7 @@ is_per_feature globals value = reads_feature (value_mentions globals value)
 pub record Property : Type 0 where
   pub row : RowData
   pub value : PropertyValue
-  -- what stands for it after a fault
+  -- what is listed for it after a fault
   pub fallback : Option Data
   pub is_per_feature : Bool
 

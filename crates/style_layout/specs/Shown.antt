@@ -67,7 +67,7 @@ module _ (scene : Scene) where
   abbrev pub listed_value : Feature → List (List ℕ × Data) → Property → ListedValue
   listed_value feature state p = record { name = p.row.name; outcome = outcome_at p feature state }
 
-  -- ---- the order of features: ascending keys, and one whose key faulted first; ties keep the order of the list
+  -- ---- the order of features: ascending keys, and one whose key faulted first; equal ones keep the order of the list
 
   abbrev pub sort_key : Property → LayerFeature → Option ℤ
   sort_key p f = key_of (outcome_at p f.feature f.state)

@@ -1,4 +1,4 @@
--- The number by which a feature stands in the order of its layer. Source: own.
+-- The number that orders a feature in its layer. Source: own.
 use Rattle.std.specs.Prelude.{ℤ, Option, Some, None}
 use Rattle.prop_values.specs.Data.{Data, number}
 use Rattle.prop_values.specs.View.{data_of}

@@ -23,7 +23,7 @@ pub(crate) const VISIBILITY: &str = "visibility";
 pub(crate) struct Property {
     pub(crate) row: Row,
     pub(crate) value: PropertyValue,
-    /// What stands for it after a fault.
+    /// What is listed for it after a fault.
     pub(crate) fallback: Option<Value>,
     pub(crate) is_per_feature: bool,
 }

@@ -26,7 +26,7 @@ pub(crate) struct Keyed<'a> {
 }
 
 /// Appends the lines of the features of a layer that pass, in ascending order of a property. A feature whose key faults
-/// comes first, and ties keep the order of the list.
+/// comes first, and equal ones keep the order of the list.
 pub(crate) fn write_in_order<E: Evaluator>(
     alloc: Global,
     layer: &StyleLayer,
