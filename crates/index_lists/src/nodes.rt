@@ -104,7 +104,7 @@ impl Nodes {
     }
 
     /// More slots and more lists, each a round of its own. There can be at most 2^32 of both together; for
-    /// more, memory lacks.
+    /// more the answer is `AllocError`.
     pub fn grow(&mut self, slots: u32, lists: u32) -> Result<(), AllocError>
         requires slots { slot_count self.old ≤ slots }
         requires lists { list_count self.old ≤ lists }

@@ -26,8 +26,8 @@ impl Model for Links {
 }
 
 impl Links {
-    /// So many slots, each in no list, and so many empty lists. There can be at most 2^32 of both together;
-    /// for more, memory lacks.
+    /// `slots` slots, each in no list, and `lists` empty lists. There can be at most 2^32 of both together;
+    /// for more the answer is `AllocError`.
     pub fn new(alloc: Global, slots: u32, lists: u32) -> Result<Links, AllocError>
         ensures { IfOk result (λ links. links ≡ record { slots = slots; lists = replicate lists [] }) }
     {

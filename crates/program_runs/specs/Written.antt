@@ -15,7 +15,7 @@ abbrev pub unread_line : List ℕ → List ℕ
 unread_line name = line (codes "read " ++ text_json name)
 
 -- how a run ends once a read has failed, by the count of failed writes of err: the line was written, or its
--- write failed, or memory lacked for it
+-- write failed, or allocation failed for it
 abbrev pub EndsUnread : Status → (err_old err_new : Option (List ℕ)) → (faults_old faults_new : ℕ) → List ℕ → Type 0
 EndsUnread status.ReadFault err_old err_new faults_old faults_new name = Gains err_old err_new (unread_line name) × (faults_new ≡ faults_old)
 EndsUnread status.WriteFault err_old err_new faults_old faults_new name = faults_new ≡ raised faults_old
