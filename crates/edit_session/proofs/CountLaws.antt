@@ -1,10 +1,10 @@
 -- A count of cells that stops at a greatest number is within the limit where the cells are.
-use Rattle.std.proofs.Common.{◌≡◌, ◌∙◌, ℕ, ◌-◌, ◌^◌, ◌≤◌, min, Bool, true, false, refl, sym, ap, arith}
+use Rattle.std.proofs.Common.{◌≡◌, ◌∙◌, ℕ, ◌-◌, ◌^◌, ◌<◌, min, Bool, true, false, refl, sym, ap, arith}
 use Rattle.std.specs.Prelude.{nat_le}
 use Rattle.std.proofs.lemmas.Bool.{le-leb, leb-true, lt-leb, leb-false}
 use Rattle.edit_session.specs.Opening.{cell_limit, within_limit}
 
-limit_by : (count most limit : ℕ) → limit ≤ most → (b : Bool) → nat_le count limit ≡ b → nat_le (min count most) limit ≡ b
+limit_by : (count most limit : ℕ) → limit < most → (b : Bool) → nat_le count limit ≡ b → nat_le (min count most) limit ≡ b
 limit_by count most limit room true is = le-leb (min count most) limit (omega (arith, leb-true count limit is))
 limit_by count most limit room false is = lt-leb (min count most) limit (omega (arith, room, leb-false count limit is))
 

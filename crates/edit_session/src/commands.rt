@@ -87,6 +87,7 @@ impl Session<'_> {
         }
     }
 
+    #[tactic(auto, unfolding(style_layout::specs::CodeView::scene_seen))]
     fn listing(&self, images: &dyn HostOp, scripts: &dyn HostOp) -> Result<Answer, AllocError>
         requires { IsReady self.now }
         ensures { IfOk result (λ answer. reply_seen answer ≡ listed (listing (layout_of

@@ -65,7 +65,7 @@ abbrev pub tile_seen : SourceTile → shown.SourceTile
 tile_seen t = (t.source.now, t.tile)
 
 -- a scene, by the tests of its evaluator
-abbrev pub scene_seen : {E : Type 0} → (E → Tests) → Scene E → forms.Scene
+unfoldable pub scene_seen : {E : Type 0} → (E → Tests) → Scene E → forms.Scene
 scene_seen tests s = record {
   zoom = s.zoom;
   states = members_at s.states.now;

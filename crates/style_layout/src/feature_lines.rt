@@ -1,13 +1,14 @@
 //! The lines of a layer's values and of its features.
 
 ghost use Rattle.std.specs.Prelude.{◌≡◌, ◌++◌, OnOk, map};
-ghost use Rattle.listing_text.specs.Listing.{value_lines, layer_margin, feature_margin, feature_lines};
-ghost use Rattle.style_layout.specs.CodeView.{feature_seen, layer_seen, scene_seen};
+ghost use Rattle.listing_text.specs.Listing.{value_line, value_lines, layer_margin, feature_margin, feature_lines};
+ghost use Rattle.style_layout.specs.CodeView.{feature_seen, layer_seen, property_seen, scene_seen};
 ghost use Rattle.style_layout.specs.Layers.{feature_properties};
-ghost use Rattle.style_layout.specs.Shown.{listed_value, layer_values, feature_out};
+ghost use Rattle.style_layout.specs.Shown.{listed_value, outcome_at, layer_values, feature_out};
 
 use crate::features::LayerFeature;
 use crate::layers::StyleLayer;
+use crate::properties::Property;
 use crate::scene::{Evaluator, Scene};
 use crate::values::outcome_of;
 use listing_text::{write_feature_line, write_value};
@@ -30,10 +31,14 @@ pub(crate) fn write_layer_values<E: Evaluator>(
         shape: Shape::Unknown,
         properties: Entries::new(alloc),
     };
+    let none = LayerFeature {
+        number: 0,
+        feature: &nothing,
+        state: None,
+    };
     for property in layer.properties.as_slice() {
         if !property.is_per_feature {
-            let outcome = outcome_of(alloc, property, scene, &nothing, None)?;
-            write_value(b"  ", property.row.name, &outcome, out)?;
+            write_property(alloc, property, scene, &none, b"  ", out)?;
         }
     }
     Ok(())
@@ -72,9 +77,24 @@ fn write_feature_values<E: Evaluator>(
 {
     for property in layer.properties.as_slice() {
         if property.is_per_feature {
-            let outcome = outcome_of(alloc, property, scene, feature.feature, feature.state)?;
-            write_value(b"    ", property.row.name, &outcome, out)?;
+            write_property(alloc, property, scene, feature, b"    ", out)?;
         }
     }
     Ok(())
+}
+
+fn write_property<E: Evaluator>(
+    alloc: Global,
+    property: &Property,
+    scene: &Scene<'_, E>,
+    feature: &LayerFeature<'_>,
+    margin: &'static [u8],
+    out: &mut Vec<u8>,
+) -> Result<(), AllocError>
+    ensures { OnOk result (out.new.items ≡ out.old.items ++ value_line margin.now (property_seen property.now).row.name
+        (outcome_at (scene_seen E.tests scene.now) (property_seen property.now)
+        (feature_seen feature.now).feature (feature_seen feature.now).state)) }
+{
+    let outcome = outcome_of(alloc, property, scene, feature.feature, feature.state)?;
+    write_value(margin, property.row.name, &outcome, out)
 }

@@ -131,6 +131,7 @@ impl<'a> LayerFeatures<'a> {
 }
 
 // The members of the state of a feature, which one without an id has not.
+#[tactic(auto, unfolding(crate::specs::CodeView::scene_seen))]
 fn state_of<'a, E: Evaluator>(
     layer: &StyleLayer,
     scene: &'a Scene<'_, E>,

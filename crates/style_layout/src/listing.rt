@@ -17,7 +17,7 @@ use listing_text::{Show, write_end, write_layer_line, write_zoom};
 use std::alloc::{AllocError, Global};
 
 /// Appends the listing of the layout of a style over tiles. Asks a style of fewer than 2^32 cells.
-#[tactic(auto, unfolding(listing_text::specs::Listing::listing))]
+#[tactic(auto, unfolding(listing_text::specs::Listing::listing, crate::specs::CodeView::scene_seen))]
 pub fn write_listing<E: Evaluator>(
     alloc: Global,
     style: &PreparedStyle,
@@ -52,6 +52,7 @@ fn write_layers<E: Evaluator>(
     Ok(())
 }
 
+#[tactic(auto, unfolding(crate::specs::CodeView::scene_seen))]
 fn write_layer<E: Evaluator>(
     alloc: Global,
     layer: &StyleLayer,

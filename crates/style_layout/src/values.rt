@@ -22,7 +22,7 @@ use std::alloc::{AllocError, Global};
 use tile_reader::Feature;
 
 /// What is listed for a property of a feature with its state.
-#[tactic(auto, using(prop_values::proofs::ViewLaws::value_again))]
+#[tactic(auto, using(prop_values::proofs::ViewLaws::value_again), unfolding(crate::specs::CodeView::scene_seen))]
 pub(crate) fn outcome_of<E: Evaluator>(
     alloc: Global,
     property: &Property,
@@ -79,6 +79,7 @@ fn zoom_at(zoom: Zoom, place: Place) -> Fixed
 }
 
 /// Whether a filter lets a feature with its state pass. A fault is false.
+#[tactic(auto, unfolding(crate::specs::CodeView::scene_seen))]
 pub(crate) fn lets_pass<E: Evaluator>(
     alloc: Global,
     filter: &LayerFilter,
