@@ -1,8 +1,6 @@
 //! The run of a script.
 
 ghost use Rattle.std.specs.Prelude.{◌≡◌, ◌+◌, ◌<◌, ◌∷◌, ℕ, List, Bool, Option, OnOk, IfOk, ◌||◌};
-ghost use Rattle.edit_script.specs.Line.{AnswersLine};
-ghost use Rattle.edit_script.specs.View.{read_seen};
 ghost use Rattle.edit_session.specs.View.{presented, tiles_of, IsSound};
 ghost use Rattle.program_runs.specs.Outcome.{Outcome};
 ghost use Rattle.program_runs.specs.Progress.{outcome_of};
@@ -11,11 +9,18 @@ ghost use Rattle.script_runs.specs.ScriptRun.{lines_run, script_run, ending_by};
 
 use crate::answers::{is_refused, write_fault, write_reply};
 use crate::lines::next_line;
-use edit_script::{Command, LineFault, read_line};
+use edit_script::read_line;
 use edit_session::Session;
 use host_ops::HostOp;
 use program_runs::{Answer, Ending, answer_out};
 use std::alloc::{AllocError, Global};
+
+/// A line of a script, with its number counted from 1.
+#[derive(Clone, Copy)]
+struct ScriptLine<'a> {
+    number: usize,
+    bytes: &'a [u8],
+}
 
 /// What a script is answered, over a session that was just opened or is sound.
 pub fn answer_script(
@@ -35,8 +40,11 @@ pub fn answer_script(
     let mut number: usize = 1;
     let mut rest = script;
     while let Some((line, behind)) = next_line(rest) {
-        let read = read_line(alloc, line)?;
-        let refused = answer_line(session, &read, number, images, scripts, &mut out)?;
+        let line = ScriptLine {
+            number,
+            bytes: line,
+        };
+        let refused = answer_line(alloc, session, &line, images, scripts, &mut out)?;
         any = any || refused;
         number += 1;
         rest = behind;
@@ -50,11 +58,11 @@ fn ending_by(any: bool) -> Ending
     if any { Ending::Found } else { Ending::Fine }
 }
 
-// Appends what the line of this number is answered, by what was read of it, and says whether it is refused.
+// Appends what the line of this number is answered, and says whether it is refused.
 fn answer_line(
+    alloc: Global,
     session: &mut Session<'_>,
-    read: &Result<Command, LineFault>,
-    number: usize,
+    line: &ScriptLine<'_>,
     images: &mut dyn HostOp,
     scripts: &dyn HostOp,
     out: &mut Vec<u8>,
@@ -63,21 +71,20 @@ fn answer_line(
     ensures sound { IsSound session.new }
     ensures tiles { tiles_of session.new ≡ tiles_of session.old }
     ensures changes { changes images.new ≡ changes images.old }
-    ensures leads { (files : List ℕ → Option (List ℕ)) (any : Bool) (line : List ℕ) (lines : List (List ℕ)) (o : Outcome)
-        → AnswersLine line (read_seen read.now) → IfOk result (λ refused.
-        HasOutcome files (lines_run (tiles_of session.old) (test scripts.now) (changes images.old) (number + 1)
+    ensures leads { (files : List ℕ → Option (List ℕ)) (any : Bool) (lines : List (List ℕ)) (o : Outcome) → IfOk result (λ refused.
+        HasOutcome files (lines_run (tiles_of session.old) (test scripts.now) (changes images.old) (line.now.number + 1)
         (presented session.new (test images.new)) out.new.items (any || refused) lines) o →
-        HasOutcome files (lines_run (tiles_of session.old) (test scripts.now) (changes images.old) number
-        (presented session.old (test images.old)) out.old.items any (line ∷ lines)) o) }
+        HasOutcome files (lines_run (tiles_of session.old) (test scripts.now) (changes images.old) line.now.number
+        (presented session.old (test images.old)) out.old.items any (line.now.bytes.now ∷ lines)) o) }
 {
-    match read {
+    match read_line(alloc, line.bytes)? {
         Ok(command) => {
-            let answer = session.apply(command, images, scripts)?;
-            write_reply(number, &answer, out)?;
+            let answer = session.apply(&command, images, scripts)?;
+            write_reply(line.number, &answer, out)?;
             Ok(is_refused(&answer))
         }
         Err(fault) => {
-            write_fault(number, *fault, out)?;
+            write_fault(line.number, fault, out)?;
             Ok(true)
         }
     }
