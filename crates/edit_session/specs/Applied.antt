@@ -100,6 +100,10 @@ images_refusal can_change edit = None
 
 -- ---- what is answered
 
+-- The text of a listing over tiles, with the test on texts that can be shown: that of the full layout. Source: own.
+abbrev pub listing_of : List SourceTile → (List ℕ → Bool) → Presentation → List ℕ
+listing_of tiles scripts p = listing (layout_of (scene_of scripts p) tiles p.globals p.document)
+
 pub data Reply : Type 0 where
   -- the edit is accepted
   done : Reply
@@ -128,8 +132,8 @@ module _ (tiles : List SourceTile) (scripts : List ℕ → Bool) (can_change : B
       whole_refusal tiles (presented_after p edit).globals (presented_after p edit).document ∷
       images_refusal can_change edit ∷ [])
 
-  -- What a session represents after an edit, and what is answered. A listing is that of the full layout. Source: own.
+  -- What a session represents after an edit, and what is answered. Source: own.
   abbrev pub applied : Presentation → Edit → Presentation × Reply
-  applied p edits.list = (p, listed (listing (layout_of (scene_of scripts p) tiles p.globals p.document)))
+  applied p edits.list = (p, listed (listing_of tiles scripts p))
   applied p edits.stats = (p, stats_asked)
   applied p edit = unless_refused (refusal p edit) p (presented_after p edit)

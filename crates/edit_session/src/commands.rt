@@ -4,15 +4,12 @@ ghost use Rattle.std.specs.Prelude.{◌≡◌, ℕ, List, Bool, None, true, opti
 ghost use Rattle.decimal_json.specs.View.{tree_of};
 ghost use Rattle.edit_script.specs.Edit as edits;
 ghost use Rattle.edit_script.specs.View.{command_seen};
-ghost use Rattle.edit_session.specs.Applied.{listed, refusal_of};
-ghost use Rattle.edit_session.specs.Presentation.{scene_of};
+ghost use Rattle.edit_session.specs.Applied.{listed, listing_of, refusal_of};
 ghost use Rattle.edit_session.specs.View.{presented, reply_seen, tiles_of, IsAnswer, IsReady, edits_layers, told};
-ghost use Rattle.listing_text.specs.Listing.{listing};
 ghost use Rattle.prop_values.specs.Data.{pairs_of};
 ghost use Rattle.prop_values.specs.View.{data_of};
 ghost use Rattle.style_edits.specs.Faults.{edit_fault};
 ghost use Rattle.style_edits.specs.Places.{places_of};
-ghost use Rattle.style_layout.specs.StyleLayout.{layout_of};
 
 use crate::answer::{Answer, Refusal};
 use crate::globals::with_global;
@@ -24,7 +21,7 @@ use host_ops::{HostOp, TellFault};
 use prop_values::{Entries, Value, copy_entries};
 use std::alloc::{AllocError, Global};
 use style_edits::{EditFault, EditPlaces, edit_at, edit_fault, edit_places, undo_edit};
-use style_layout::{Scene, TreeWalk, Zoom, write_listing};
+use style_layout::Zoom;
 
 impl Session<'_> {
     /// The answer to a command, of a session that has memory.
@@ -66,7 +63,7 @@ impl Session<'_> {
         ensures ready { OnOk result (IsReady self.new) }
     {
         match command {
-            Command::List => self.listing(images, scripts),
+            Command::List => self.answer_list(images, scripts),
             Command::Stats => Ok(Answer::Stats),
             Command::SetZoom(zoom) => {
                 self.zoom = Zoom::new(*zoom);
@@ -87,21 +84,13 @@ impl Session<'_> {
         }
     }
 
-    #[tactic(auto, unfolding(style_layout::specs::CodeView::scene_seen))]
-    fn listing(&self, images: &dyn HostOp, scripts: &dyn HostOp) -> Result<Answer, AllocError>
+    fn answer_list(&self, images: &dyn HostOp, scripts: &dyn HostOp) -> Result<Answer, AllocError>
         requires { IsReady self.now }
-        ensures { IfOk result (λ answer. reply_seen answer ≡ listed (listing (layout_of
-            (scene_of (test scripts.now) (presented self.now (test images.now))) (tiles_of self.now)
-            self.now.globals (tree_of self.now.document)))) }
+        ensures { IfOk result (λ answer. reply_seen answer ≡ listed
+            (listing_of (tiles_of self.now) (test scripts.now) (presented self.now (test images.now)))) }
     {
-        let scene = Scene {
-            zoom: self.zoom,
-            states: &self.states,
-            evaluator: TreeWalk { images, scripts },
-        };
-        let tiles = self.tiles.as_slice();
         let mut out = Vec::new(self.alloc);
-        write_listing(self.alloc, &self.prepared, &scene, tiles, &mut out)?;
+        self.listing(images, scripts, &mut out)?;
         Ok(Answer::Listing(out))
     }
 

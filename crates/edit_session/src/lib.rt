@@ -3,14 +3,14 @@
 //! ```text
 //! let mut session = Session::open(alloc, style, tiles, zoom)??;
 //! session.apply(&command, images, scripts)?     // of `["set-paint","roads","line-width",2]`: Done
-//! session.apply(&Command::List, images, scripts)?           // Listing(the text)
+//! session.listing(images, scripts, &mut out)?               // appends the text that `apply` answers to `list`
 //! ```
 //!
 //! What is promised: `presented` says what a session represents: a document, a zoom, states of features, images and values of the
 //! global state. `open` gives a session that represents the style before any edit (`opened`), or exactly the first cause why it cannot
 //! (`open_fault`). `apply` answers by `applied`: a command is refused by the first cause that holds, and then nothing changes; else the
-//! session represents what is after the edit; a listing is that of the full layout of the document as it then is. Once allocation
-//! fails a session answers so ever after.
+//! session represents what is after the edit; a listing is that of the full layout of the document as it then is, and `listing` appends
+//! it. Once allocation fails in `apply` a session answers so ever after.
 //!
 //! After each edit of layers the whole document is looked at and prepared anew.
 //!

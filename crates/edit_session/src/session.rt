@@ -1,10 +1,10 @@
 //! A session: a style over tiles, under edit.
 
-ghost use Rattle.std.specs.Prelude.{◌≡◌, ℕ, List, [], Bool, map, false, true, option_map, is_err, IfOk, IsErr};
+ghost use Rattle.std.specs.Prelude.{◌≡◌, ◌++◌, ℕ, List, [], Bool, map, false, true, option_map, is_err, IfOk, IsErr, OnErr, OnOk};
 ghost use Rattle.std.specs.Result.{result_err};
 ghost use Rattle.decimal_json.specs.View.{tree_of};
 ghost use Rattle.edit_script.specs.View.{command_seen};
-ghost use Rattle.edit_session.specs.Applied.{applied};
+ghost use Rattle.edit_session.specs.Applied.{applied, listing_of};
 ghost use Rattle.edit_session.specs.Opening.{open_fault, tiles_fault};
 ghost use Rattle.edit_session.specs.Presentation.{opened};
 ghost use Rattle.edit_session.specs.View.{fault_seen, presented, reply_seen, tiles_of, lacks_memory, IsSound};
@@ -20,7 +20,10 @@ use fixed_num::Fixed;
 use host_ops::HostOp;
 use prop_values::Entries;
 use std::alloc::{AllocError, Global};
-use style_layout::{PreparedStyle, SourceTile, Zoom, cell_count, globals_of, prepare};
+use style_layout::{
+    PreparedStyle, Scene, SourceTile, TreeWalk, Zoom, cell_count, globals_of, prepare,
+    write_listing,
+};
 use style_parts::is_zoom;
 use style_rules::findings;
 
@@ -132,4 +135,45 @@ impl<'a> Session<'a> {
         self.lacks_memory = answer.is_err();
         answer
     }
+
+    /// Appends the text that `apply` answers to `list`; where allocation fails, nothing. A session that lacks memory answers so
+    /// here too.
+    #[tactic(auto, unfolding(style_layout::specs::CodeView::scene_seen))]
+    pub fn listing(
+        &self,
+        images: &dyn HostOp,
+        scripts: &dyn HostOp,
+        out: &mut Vec<u8>,
+    ) -> Result<(), AllocError>
+        requires { IsSound self.now }
+        ensures listing { OnOk result (out.new.items ≡ out.old.items
+            ++ listing_of (tiles_of self.now) (test scripts.now) (presented self.now (test images.now))) }
+        ensures kept { OnErr result (out.new.items ≡ out.old.items) }
+        ensures memory { lacks_memory self.now ≡ true → IsErr result }
+    {
+        if self.lacks_memory {
+            return Err(AllocError);
+        }
+        let scene = Scene {
+            zoom: self.zoom,
+            states: &self.states,
+            evaluator: TreeWalk { images, scripts },
+        };
+        let tiles = self.tiles.as_slice();
+        let mut text = Vec::new(self.alloc);
+        write_listing(self.alloc, &self.prepared, &scene, tiles, &mut text)?;
+        append(text, out)
+    }
+}
+
+// Appends a text, which is moved where there is none before it.
+fn append(text: Vec<u8>, out: &mut Vec<u8>) -> Result<(), AllocError>
+    ensures ok { OnOk result (out.new.items ≡ out.old.items ++ text.items) }
+    ensures err { OnErr result (out.new.items ≡ out.old.items) }
+{
+    if out.is_empty() {
+        *out = text;
+        return Ok(());
+    }
+    out.extend_from_slice(text.as_slice())
 }
