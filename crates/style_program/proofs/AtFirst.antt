@@ -1,11 +1,9 @@
 -- A style that was opened shows what is defined of it before any edit.
-use Rattle.std.proofs.Common.{◌≡◌, ℕ, List, [], Bool, sym, ap, ap₂, ◌∙◌, subst}
+use Rattle.std.proofs.Common.{◌≡◌, ℕ, List, [], ◌++◌, Bool, ap, ap₂, ◌∙◌, subst}
 use Rattle.std.specs.Prelude.{Option, None, Result, Ok, Err, IfOk}
-use Rattle.edit_script.specs.Edit.{list}
-use Rattle.edit_session.specs.Applied.{Reply, listed, applied}
+use Rattle.edit_session.specs.Applied.{listing_of}
 use Rattle.edit_session.specs.Opening.{tiles_fault}
-use Rattle.edit_session.specs.Presentation.{Presentation, opened, scene_of}
-use Rattle.listing_text.specs.Listing.{listing}
+use Rattle.edit_session.specs.Presentation.{Presentation, opened}
 use Rattle.program_runs.specs.Outcome.{Outcome, said}
 use Rattle.program_runs.specs.Progress.{outcome_of}
 use Rattle.program_runs.specs.Runs.{HasOutcome, ends}
@@ -13,7 +11,6 @@ use Rattle.program_runs.specs.declared.answer.Answer.{Answer}
 use Rattle.program_runs.specs.declared.status.Ending.TheVariants.{Fine}
 use Rattle.script_runs.specs.ScriptRun.{script_run}
 use Rattle.style_layout.specs.Shown.{SourceTile}
-use Rattle.style_layout.specs.StyleLayout.{layout_of}
 use Rattle.style_program.specs.EvalRun.{listed_outcome, listed_run, opened_or_refused}
 use Rattle.style_program.specs.ReplayRun.{edited_run}
 use Rattle.style_program.specs.ShownRun.{ShownStyle}
@@ -23,27 +20,18 @@ use Rattle.style_program.specs.Words.{EvalWords, ReplayWords}
 pub of_ok : {T E : Type 0} (P : T → Type 0) (r : Result T E) (t : T) → r ≡ Ok t → IfOk r P → P t
 of_ok P r t is h = subst (λ x. IfOk x P) is h
 
-text_of : Reply → List ℕ
-text_of (listed text) = text
-text_of _ = []
+module _ (files : List ℕ → Option (List ℕ)) (images scripts : List ℕ → Bool) (shown : ShownStyle) (p : Presentation) (tiles : List SourceTile) (over : tiles ≡ shown.1) where
+  pub listed_at_first : (w : EvalWords) (before text : List ℕ) (o : Outcome) → None ≡ tiles_fault shown.0 shown.1 w.zoom → p ≡ opened shown.0 w.zoom images
+      → before ≡ [] → text ≡ before ++ listing_of tiles scripts p → o ≡ said text Fine → HasOutcome files (listed_run w images scripts shown) o
+  listed_at_first w before text o none first empty written made =
+      subst (λ f. HasOutcome files (opened_or_refused f (ends (listed_outcome w images scripts shown))) o) none
+      (made ∙ ap (λ x. said x Fine) (written ∙ (ap (λ b. b ++ listing_of tiles scripts p) empty ∙ ap₂ (λ q ts. listing_of ts scripts q) first over)))
 
-module _ (files : List ℕ → Option (List ℕ)) (images scripts : List ℕ → Bool) (can_change : Bool) (shown : ShownStyle) (p : Presentation) (tiles : List SourceTile) (over : tiles ≡ shown.1) where
-  abbrev listing_at : Presentation → List SourceTile → List ℕ
-  listing_at q ts = listing (layout_of (scene_of scripts q) ts q.globals q.document)
-
-  pub listed_at_first : (w : EvalWords) (text : List ℕ) (o : Outcome) → None ≡ tiles_fault shown.0 shown.1 w.zoom → p ≡ opened shown.0 w.zoom images
-      → listed text ≡ (applied tiles scripts can_change p list).1 → o ≡ said text Fine → HasOutcome files (listed_run w images scripts shown) o
-  unfolding text_of listing
-  listed_at_first w text o none first replies made =
-      let same : text ≡ listing_at p tiles = ap text_of replies in
-      let at_first : listing_at p tiles ≡ listing_at (opened shown.0 w.zoom images) shown.1 = ap₂ listing_at first over in
-      subst (λ f. HasOutcome files (opened_or_refused f (ends (listed_outcome w images scripts shown))) o) none (made ∙ ap (λ x. said x Fine) (same ∙ at_first))
-
-  pub script_at_first : {E : Type 0} (w : ReplayWords) (script : List ℕ) (r : Result Answer E) → None ≡ tiles_fault shown.0 shown.1 w.shown.zoom → p ≡ opened shown.0 w.shown.zoom images
+  pub script_at_first : {E : Type 0} (can_change : Bool) (w : ReplayWords) (script : List ℕ) (r : Result Answer E) → None ≡ tiles_fault shown.0 shown.1 w.shown.zoom → p ≡ opened shown.0 w.shown.zoom images
       → IfOk r (λ a. HasOutcome files (script_run tiles scripts can_change p script) (outcome_of a))
       → IfOk r (λ a. HasOutcome files (edited_run w images scripts can_change shown script) (outcome_of a))
-  script_at_first w script (Err none_made) none first made = tt
-  script_at_first w script (Ok a) none first made =
+  script_at_first can_change w script (Err none_made) none first made = tt
+  script_at_first can_change w script (Ok a) none first made =
       subst (λ f. HasOutcome files (opened_or_refused f (script_run shown.1 scripts can_change (opened shown.0 w.shown.zoom images) script)) (outcome_of a)) none
       (subst (λ ts. HasOutcome files (script_run ts scripts can_change (opened shown.0 w.shown.zoom images) script) (outcome_of a)) over
       (subst (λ q. HasOutcome files (script_run tiles scripts can_change q script) (outcome_of a)) first made))

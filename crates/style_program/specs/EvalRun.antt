@@ -1,12 +1,11 @@
 -- The run of `eval`: what a style shows over tiles, or why it shows nothing. Source: own.
 use Rattle.std.specs.Prelude.{ℕ, List, Bool, Option, Some, None}
+use Rattle.edit_session.specs.Applied.{listing_of}
 use Rattle.edit_session.specs.Opening.{Fault, tiles_fault}
-use Rattle.edit_session.specs.Presentation.{Presentation, opened, scene_of}
-use Rattle.listing_text.specs.Listing.{listing}
+use Rattle.edit_session.specs.Presentation.{Presentation, opened}
 use Rattle.program_runs.specs.declared.status.Ending.TheVariants.{Fine}
 use Rattle.program_runs.specs.Outcome.{Outcome, said}
 use Rattle.program_runs.specs.Runs.{Run, ends}
-use Rattle.style_layout.specs.StyleLayout.{layout_of}
 use Rattle.style_program.specs.Refusals.{not_opened}
 use Rattle.style_program.specs.ShownRun.{ShownStyle, shown_part}
 use Rattle.style_program.specs.Words.{EvalWords}
@@ -22,8 +21,7 @@ module _ (w : EvalWords) (images scripts : List ℕ → Bool) where
   shown_at_first shown = opened shown.0 w.zoom images
 
   abbrev pub listed_outcome : ShownStyle → Outcome
-  listed_outcome shown =
-      said (listing (layout_of (scene_of scripts (shown_at_first shown)) shown.1 (shown_at_first shown).globals shown.0)) Fine
+  listed_outcome shown = said (listing_of shown.1 scripts (shown_at_first shown)) Fine
 
   -- the listing of the style
   abbrev pub listed_run : ShownStyle → Run

@@ -13,8 +13,7 @@ ghost use Rattle.style_rules.specs.Findings.{findings};
 use crate::refusals::not_opened;
 use crate::shown_style::{ShownStyle, read_shown};
 use crate::words::EvalRequest;
-use edit_script::Command;
-use edit_session::{Answer as Applied, Session};
+use edit_session::Session;
 use host_ops::HostOp;
 use outside_io::Files;
 use program_runs::{Answer, Ending, Halt, answer_out};
@@ -24,15 +23,15 @@ pub fn answer_eval<'a, F: Files>(
     alloc: Global,
     request: &EvalRequest<'a>,
     files: &mut F,
-    images: &mut dyn HostOp,
+    images: &dyn HostOp,
     scripts: &dyn HostOp,
 ) -> Result<Answer, Halt<'a>>
     ensures told { F.told files.new ≡ F.told files.old }
     ensures failed { OnOk result (NoneFailed (F.faults files.old) (F.faults files.new) (F.failed files.old) (F.failed files.new)) }
     ensures answer { IfOk result (λ answer. HasOutcome (F.told files.old)
-        (eval_run (eval_words request.now) (test images.old) (test scripts.now)) (outcome_of answer)) }
+        (eval_run (eval_words request.now) (test images.now) (test scripts.now)) (outcome_of answer)) }
     ensures halt { IfErr result (λ halt. HaltsAt (F.told files.old)
-        (eval_run (eval_words request.now) (test images.old) (test scripts.now))
+        (eval_run (eval_words request.now) (test images.now) (test scripts.now))
         (F.faults files.old) (F.faults files.new) (F.failed files.old) (F.failed files.new) halt) }
 {
     let shown = read_shown(alloc, request, files)?;
@@ -43,18 +42,19 @@ fn answer_shown<'a>(
     alloc: Global,
     request: &EvalRequest<'a>,
     shown: ShownStyle<'a>,
-    images: &mut dyn HostOp,
+    images: &dyn HostOp,
     scripts: &dyn HostOp,
 ) -> Result<Answer, AllocError>
     requires { findings (tree_of shown.style) ≡ [] }
     ensures { (files : List ℕ → Option (List ℕ)) → IfOk result (λ answer. HasOutcome files
-        (listed_run (eval_words request.now) (test images.old) (test scripts.now) (shown_seen shown.entry)) (outcome_of answer)) }
+        (listed_run (eval_words request.now) (test images.now) (test scripts.now) (shown_seen shown.entry)) (outcome_of answer)) }
 {
     match Session::open_sound(alloc, shown.style, shown.tiles, request.zoom)? {
-        Ok(mut session) => match session.apply(&Command::List, images, scripts)? {
-            Applied::Listing(listing) => Ok(answer_out(alloc, listing, Ending::Fine)),
-            _ => unreachable!(),
-        },
+        Ok(session) => {
+            let mut out = Vec::new(alloc);
+            session.listing(images, scripts, &mut out)?;
+            Ok(answer_out(alloc, out, Ending::Fine))
+        }
         Err(fault) => not_opened(alloc, &fault),
     }
 }

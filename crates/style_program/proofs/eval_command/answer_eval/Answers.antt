@@ -1,7 +1,6 @@
 use Rattle.program_runs.specs.Progress.{HaltsAt, outcome_of}
 use Rattle.program_runs.proofs.Going.{at_residual}
 use Rattle.style_program.specs.EvalRun.{eval_run, listed_run}
-use Rattle.style_program.specs.TileRunView.{shown_seen}
 use Rattle.style_program.specs.WordsView.{eval_words}
 use Rattle.style_program.proofs.eval_command.answer_eval.Goals as goal
 
