@@ -136,8 +136,8 @@ impl<'a> Session<'a> {
         answer
     }
 
-    /// Appends the text that `apply` answers to `list`; where allocation fails, nothing. A session that lacks memory answers so
-    /// here too.
+    /// Appends the text that `apply` answers to `list`; where allocation fails, nothing. Once a call has answered that, so does
+    /// this one.
     #[tactic(auto, unfolding(style_layout::specs::CodeView::scene_seen))]
     pub fn listing(
         &self,
