@@ -23,8 +23,8 @@ pub fn write_color(color: &Color, out: &mut Vec<u8>) -> Result<(), AllocError>
     out.extend_from_slice(text.as_bytes())
 }
 
-/// Appends what a listing has for a value: its JSON, but for a color the bare text. After want of
-/// memory `out` is as before.
+/// Appends what a listing has for a value: its JSON, but for a color the bare text. When allocation fails
+/// `out` is as before.
 pub fn write_listed(value: &Value, out: &mut Vec<u8>) -> Result<(), AllocError>
     ensures ok { OnOk result (out.new.items ≡ out.old.items ++ listed_text (data_of value.now)) }
     ensures err { OnErr result (out.new.items ≡ out.old.items) }

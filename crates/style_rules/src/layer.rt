@@ -28,8 +28,8 @@ use value_forms::{tested_type, type_in};
 
 /// What the members of one layer are looked at by.
 #[derive(Clone, Copy)]
-struct LayerContext<'a> {
-    grounds: Ground<'a>,
+struct MemberContext<'a> {
+    layer: Ground<'a>,
     /// The ids of the layers before.
     used: &'a Entries,
 }
@@ -68,23 +68,23 @@ fn tell_members<'x>(
     let grounds = ground_of(sources, &parts);
     match layer_rule(&grounds, &parts) {
         Some(rule) => told.tell_broken(alloc, here, rule),
-        None => tell_each_member(alloc, told, &LayerContext { grounds, used }, members, here),
+        None => tell_each_member(alloc, told, &MemberContext { layer: grounds, used }, members, here),
     }
 }
 
 fn tell_each_member<'x>(
     alloc: Global,
     told: &mut ToldList,
-    context: &LayerContext<'_>,
+    within: &MemberContext<'_>,
     members: &'x [Member],
     here: &'x Here<'x>,
 ) -> Result<(), AllocError>
     ensures { OnOk result (told.new ≡ told.old
-        ++ fields_told (member_told (ground_seen context.now.grounds) (has_name context.now.used.now) (path_of here.now))
+        ++ fields_told (member_told (ground_seen within.now.layer) (has_name within.now.used.now) (path_of here.now))
         (fields members.now)) }
 {
     for member in members {
-        tell_member(alloc, told, context, member, here)?;
+        tell_member(alloc, told, within, member, here)?;
     }
     Ok(())
 }
@@ -112,34 +112,34 @@ fn layer_rule(grounds: &Ground<'_>, parts: &LayerParts<'_>) -> Option<u8>
 fn tell_member<'x>(
     alloc: Global,
     told: &mut ToldList,
-    context: &LayerContext<'_>,
+    within: &MemberContext<'_>,
     member: &'x Member,
     layer: &'x Here<'x>,
 ) -> Result<(), AllocError>
     ensures { OnOk result (told.new ≡ told.old
-        ++ member_told (ground_seen context.now.grounds) (has_name context.now.used.now) (path_of layer.now)
+        ++ member_told (ground_seen within.now.layer) (has_name within.now.used.now) (path_of layer.now)
         member.now.key (tree_of member.now.value)) }
 {
     let name = member.key.as_str();
     let here = Here::Key(name, layer);
-    tell_keyed(alloc, told, context, member_key(name), &member.value, &here)
+    tell_keyed(alloc, told, within, member_key(name), &member.value, &here)
 }
 
 fn tell_keyed<'x>(
     alloc: Global,
     told: &mut ToldList,
-    context: &LayerContext<'_>,
+    within: &MemberContext<'_>,
     key: MemberKey,
     value: &'x Json,
     here: &'x Here<'x>,
 ) -> Result<(), AllocError>
     ensures { OnOk result (told.new ≡ told.old
-        ++ keyed_told (ground_seen context.now.grounds) (has_name context.now.used.now) key (path_of here.now)
+        ++ keyed_told (ground_seen within.now.layer) (has_name within.now.used.now) key (path_of here.now)
         (tree_of value.now)) }
 {
-    let grounds = &context.grounds;
+    let grounds = &within.layer;
     match key {
-        MemberKey::Id => tell_id(alloc, told, context.used, value, here),
+        MemberKey::Id => tell_id(alloc, told, within.used, value, here),
         MemberKey::Type => told.tell_unless(alloc, here, 9, is_type(value)),
         MemberKey::Source => tell_source(alloc, told, grounds, value, here),
         MemberKey::SourceLayer => {

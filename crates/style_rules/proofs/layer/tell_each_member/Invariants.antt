@@ -7,5 +7,5 @@ use Rattle.style_rules.proofs.layer.tell_each_member.Given as goal
 
 abbrev pub invariant-loop-member : goal.invariant-loop-member
 invariant-loop-member l =
-    l.told ++ fields_told (member_told (ground_seen l.context.grounds) (has_name l.context.used.now) (path_of l.here)) (fields (drop l.member-index l.members))
-    ≡ l.fn.told ++ fields_told (member_told (ground_seen l.context.grounds) (has_name l.context.used.now) (path_of l.here)) (fields l.members)
+    l.told ++ fields_told (member_told (ground_seen l.within.layer) (has_name l.within.used.now) (path_of l.here)) (fields (drop l.member-index l.members))
+    ≡ l.fn.told ++ fields_told (member_told (ground_seen l.within.layer) (has_name l.within.used.now) (path_of l.here)) (fields l.members)
