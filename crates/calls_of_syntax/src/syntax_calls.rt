@@ -2,7 +2,8 @@
 
 use decimal_json::parse;
 use expr_syntax::{
-    Expr, Layout, Name, Operator, Place, Reading, Wanted, Wants, operator_named, read_expr,
+    ElementLayout, ElementPlace, Expr, Name, Operator, Reading, Wanted, Wants, operator_named,
+    read_expr,
 };
 use prop_values::{Value, Want, from_json};
 use std::alloc::{AllocError, Global};
@@ -82,28 +83,28 @@ fn numbers_of_arguments(rt: HostRuntime) {
 }
 
 // A layout, the number of elements with the name, the place of one, and what it is.
-const PLACES: [(Layout, usize, u16, Place); 18] = [
-    (Layout::Arguments, 2, 0, Place::Part),
-    (Layout::Arguments, 2, 1, Place::Argument),
-    (Layout::Choices, 2, 1, Place::Output),
-    (Layout::Value, 2, 1, Place::Part),
-    (Layout::Items, 2, 1, Place::Argument),
-    (Layout::Items, 4, 2, Place::Part),
-    (Layout::Items, 4, 3, Place::Argument),
-    (Layout::Cases, 4, 1, Place::Argument),
-    (Layout::Cases, 4, 2, Place::Output),
-    (Layout::Cases, 4, 3, Place::Output),
-    (Layout::Labels, 5, 1, Place::Argument),
-    (Layout::Labels, 5, 2, Place::Part),
-    (Layout::Labels, 5, 4, Place::Output),
-    (Layout::Stops, 5, 2, Place::Output),
-    (Layout::Stops, 5, 3, Place::Part),
-    (Layout::Ramp, 5, 1, Place::Part),
-    (Layout::Bindings, 4, 1, Place::Part),
-    (Layout::Bindings, 4, 3, Place::Output),
+const PLACES: [(ElementLayout, usize, u16, ElementPlace); 18] = [
+    (ElementLayout::Arguments, 2, 0, ElementPlace::Part),
+    (ElementLayout::Arguments, 2, 1, ElementPlace::Argument),
+    (ElementLayout::Choices, 2, 1, ElementPlace::Output),
+    (ElementLayout::Value, 2, 1, ElementPlace::Part),
+    (ElementLayout::Items, 2, 1, ElementPlace::Argument),
+    (ElementLayout::Items, 4, 2, ElementPlace::Part),
+    (ElementLayout::Items, 4, 3, ElementPlace::Argument),
+    (ElementLayout::Cases, 4, 1, ElementPlace::Argument),
+    (ElementLayout::Cases, 4, 2, ElementPlace::Output),
+    (ElementLayout::Cases, 4, 3, ElementPlace::Output),
+    (ElementLayout::Labels, 5, 1, ElementPlace::Argument),
+    (ElementLayout::Labels, 5, 2, ElementPlace::Part),
+    (ElementLayout::Labels, 5, 4, ElementPlace::Output),
+    (ElementLayout::Stops, 5, 2, ElementPlace::Output),
+    (ElementLayout::Stops, 5, 3, ElementPlace::Part),
+    (ElementLayout::Ramp, 5, 1, ElementPlace::Part),
+    (ElementLayout::Bindings, 4, 1, ElementPlace::Part),
+    (ElementLayout::Bindings, 4, 3, ElementPlace::Output),
 ];
 
-fn place_of(layout: Layout, elements: usize, at: u16) -> Place {
+fn place_of(layout: ElementLayout, elements: usize, at: u16) -> ElementPlace {
     layout.place(elements, usize::from(at))
 }
 

@@ -6,7 +6,7 @@ use Rattle.std.specs.Str.{str_eq_ignore_ascii_case}
 use Rattle.fixed_num.specs.declared.color.Color.{Color}
 use Rattle.color_values.specs.ColorName.{value_of_name}
 use Rattle.color_values.specs.HexColor.{color_of_bytes, hexadecimal_color}
-use Rattle.color_values.specs.Parts.{trimmed, Parts, parts_of}
+use Rattle.color_values.specs.Parts.{trimmed, ColorArguments, parts_of}
 use Rattle.color_values.specs.RgbColor.{rgb_color}
 use Rattle.color_values.specs.HslColor.{hsl_color}
 
@@ -21,13 +21,13 @@ named_color bs =
     option_map opaque_color (value_of_name bs)
 
 -- a color by the name of its function, letters without case
-abbrev pub color_by : List ℕ → Parts → Option Color
+abbrev pub color_by : List ℕ → ColorArguments → Option Color
 color_by name parts =
     if str_eq_ignore_ascii_case name (codes "rgb") || str_eq_ignore_ascii_case name (codes "rgba") then rgb_color parts else
     (if str_eq_ignore_ascii_case name (codes "hsl") || str_eq_ignore_ascii_case name (codes "hsla") then hsl_color parts else
     None)
 
-abbrev pub color_by_parts : List ℕ → Option Parts → Option Color
+abbrev pub color_by_parts : List ℕ → Option ColorArguments → Option Color
 color_by_parts name None = None
 color_by_parts name (Some parts) = color_by name parts
 

@@ -27,17 +27,17 @@ cut [] = [] ∷ []
 cut (c ∷ cs) = if nat_eq c 44 then [] ∷ cut cs else before_first_piece c (cut cs)
 
 -- The arguments of a color function: three, or three and an opacity.
-pub record Parts : Type 0 where
+pub record ColorArguments : Type 0 where
   pub first : List ℕ
   pub second : List ℕ
   pub third : List ℕ
   pub opacity : Option (List ℕ)
 
-abbrev pub three_or_four : List (List ℕ) → Option Parts
+abbrev pub three_or_four : List (List ℕ) → Option ColorArguments
 three_or_four (x ∷ y ∷ z ∷ []) = Some (record { first = x; second = y; third = z; opacity = None })
 three_or_four (x ∷ y ∷ z ∷ a ∷ []) = Some (record { first = x; second = y; third = z; opacity = Some a })
 three_or_four _ = None
 
 -- the arguments between the brackets, without the spaces around each
-unfoldable pub parts_of : List ℕ → Option Parts
+unfoldable pub parts_of : List ℕ → Option ColorArguments
 parts_of bs = three_or_four (map trimmed (cut bs))

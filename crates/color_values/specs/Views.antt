@@ -10,8 +10,8 @@ use Rattle.std.specs.Str.{bytes_eq}
 use Rattle.fixed_num.specs.Decimal.{number_of}
 use Rattle.color_values.specs.ColorNumber.{Number, most_units}
 use Rattle.decimal_limbs.specs.Limbs.{limbs_for}
-use Rattle.color_values.specs.Parts.{Parts, trimmed}
-use Rattle.color_values.specs.declared.parts.Parts.{Parts as PartTexts}
+use Rattle.color_values.specs.Parts.{ColorArguments, trimmed}
+use Rattle.color_values.specs.declared.parts.ColorArguments.{ColorArguments as PartTexts}
 use Rattle.color_values.specs.declared.number.Number.{Number as NumberText}
 
 -- the number that a text has
@@ -51,7 +51,7 @@ abbrev pub bytes_of : Option (Bor (List ℕ)) → Option (List ℕ)
 bytes_of part = option_map (λ b. b.now) part
 
 -- the arguments that a text has
-abbrev pub parts_view : PartTexts → Parts
+abbrev pub parts_view : PartTexts → ColorArguments
 parts_view p = record { first = p.first.now; second = p.second.now; third = p.third.now; opacity = bytes_of p.opacity }
 
 abbrev pub pair_of : Bor (List ℕ) × Bor (List ℕ) → List ℕ × List ℕ
@@ -66,7 +66,7 @@ first_piece bs =
     if nat_eq (before_comma bs) (length bs) then None else Some (take (before_comma bs) bs, drop 1 (drop (before_comma bs) bs))
 
 -- the arguments whose last is an opacity, which contains no comma
-unfoldable pub parts_with_last : List ℕ → List ℕ → List ℕ → List ℕ → Option Parts
+unfoldable pub parts_with_last : List ℕ → List ℕ → List ℕ → List ℕ → Option ColorArguments
 parts_with_last x y z a =
     if is_some (first_piece a) then None else
     Some (record { first = trimmed x; second = trimmed y; third = trimmed z; opacity = Some (trimmed a) })

@@ -5,7 +5,7 @@ ghost use Rattle.color_values.specs.Views.{parts_view, parts_with_last, pair_of,
 
 /// The arguments of a color function, without the spaces around them: three, or three and an opacity.
 #[derive(Clone, Copy)]
-pub(crate) struct Parts<'a> {
+pub(crate) struct ColorArguments<'a> {
     pub(crate) first: &'a [u8],
     pub(crate) second: &'a [u8],
     pub(crate) third: &'a [u8],
@@ -13,7 +13,7 @@ pub(crate) struct Parts<'a> {
 }
 
 /// The arguments between the brackets, with commas between them: `None` where they are not three or four.
-pub(crate) fn parts_of(bytes: &[u8]) -> Option<Parts<'_>>
+pub(crate) fn parts_of(bytes: &[u8]) -> Option<ColorArguments<'_>>
     ensures { option_map parts_view result ≡ parts_of bytes.now }
 {
     let Some((first, after_first)) = first_piece(bytes) else {
@@ -24,7 +24,7 @@ pub(crate) fn parts_of(bytes: &[u8]) -> Option<Parts<'_>>
     };
     match first_piece(after_second) {
         Some((third, last)) => parts_with_last(first, second, third, last),
-        None => Some(Parts {
+        None => Some(ColorArguments {
             first: trimmed(first),
             second: trimmed(second),
             third: trimmed(after_second),
@@ -39,13 +39,13 @@ fn parts_with_last<'a>(
     second: &'a [u8],
     third: &'a [u8],
     last: &'a [u8],
-) -> Option<Parts<'a>>
+) -> Option<ColorArguments<'a>>
     ensures { option_map parts_view result ≡ parts_with_last first.now second.now third.now last.now }
 {
     if first_piece(last).is_some() {
         return None;
     }
-    Some(Parts {
+    Some(ColorArguments {
         first: trimmed(first),
         second: trimmed(second),
         third: trimmed(third),

@@ -7,7 +7,7 @@ use crate::color::color_of_bytes;
 use crate::hexadecimal::hexadecimal_color;
 use crate::hsl::hsl_color;
 use crate::names::value_of_name;
-use crate::parts::{Parts, parts_of, trimmed};
+use crate::parts::{ColorArguments, parts_of, trimmed};
 use crate::rgb::rgb_color;
 use fixed_num::{Color, begins_with};
 
@@ -105,7 +105,7 @@ fn before_bracket(bytes: &[u8]) -> usize
 }
 
 // The color by the name of its function.
-fn color_by(name: &[u8], parts: &Parts) -> Option<Color>
+fn color_by(name: &[u8], parts: &ColorArguments) -> Option<Color>
     ensures value { result ≡ color_by name.now (parts_view parts.now) }
     ensures range { IfSome result (λ c. IsInRange c) }
 {

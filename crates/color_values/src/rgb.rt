@@ -7,13 +7,13 @@ ghost use Rattle.fixed_num.specs.ColorRange.{IsInRange};
 use crate::amount::{amount, opacity_of};
 use crate::color::color_of_millionths;
 use crate::number::{is_percent, number_at, percent_at};
-use crate::parts::Parts;
+use crate::parts::ColorArguments;
 use fixed_num::Color;
 
 /// The color of three numbers, clamped to 0 to 255, or of three percentages, clamped to 0 to 100 and
 /// multiplied by 2.55. Each is rounded once to the nearest millionth.
 #[tactic(auto, unfolding(crate::specs::RgbColor::rgb_color))]
-pub(crate) fn rgb_color(parts: &Parts) -> Option<Color>
+pub(crate) fn rgb_color(parts: &ColorArguments) -> Option<Color>
     ensures value { result ≡ rgb_color (parts_view parts.now) }
     ensures range { IfSome result (λ c. IsInRange c) }
 {
@@ -23,7 +23,7 @@ pub(crate) fn rgb_color(parts: &Parts) -> Option<Color>
     color_of_numbers(parts)
 }
 
-fn color_of_numbers(parts: &Parts) -> Option<Color>
+fn color_of_numbers(parts: &ColorArguments) -> Option<Color>
     ensures value { let p = parts_view parts.now in
         result ≡ rgb_color_of 255 1000000 (number_at p.first) (number_at p.second) (number_at p.third) (opacity_of p.opacity) }
     ensures range { IfSome result (λ c. IsInRange c) }
@@ -40,7 +40,7 @@ fn color_of_numbers(parts: &Parts) -> Option<Color>
     ))
 }
 
-fn color_of_percentages(parts: &Parts) -> Option<Color>
+fn color_of_percentages(parts: &ColorArguments) -> Option<Color>
     ensures value { let p = parts_view parts.now in
         result ≡ rgb_color_of 100 2550000 (percent_at p.first) (percent_at p.second) (percent_at p.third) (opacity_of p.opacity) }
     ensures range { IfSome result (λ c. IsInRange c) }

@@ -8,7 +8,7 @@ use Rattle.edit_script.specs.declared.command.LineFault.{LineFault}
 use Rattle.edit_script.specs.declared.command.LineFault.TheVariants.{Json, Number}
 use Rattle.edit_script.specs.Command.{in_bound, then_edit, limit_of, id_of, edit_of, edit_or_fault, command_of}
 use Rattle.edit_script.specs.Edit.{Edit}
-use Rattle.edit_script.specs.Form.{Form, plain, range, zoom, state, removal, global, form_of}
+use Rattle.edit_script.specs.Form.{LineForm, plain, range, zoom, state, removal, global, form_of}
 
 bound_read : {A : Type 0} (r : Result A NumFault) → in_bound r ≢ Err Json
 bound_read (Ok a) e = absurd (cc)
@@ -31,7 +31,7 @@ edit_read : {A : Type 0} (r : Result A LineFault) (go : A → Result Edit LineFa
 edit_read (Ok a) go h k e = k a e
 edit_read (Err fault) go h k e = h (cc)
 
-form_read : (form : Form) → edit_of form ≢ Err Json
+form_read : (form : LineForm) → edit_of form ≢ Err Json
 form_read (plain edit) e = absurd (cc)
 form_read (range layer min max) e =
     edit_read (limit_of min) _ (limit_read min) (λ a. edit_read (limit_of max) _ (limit_read max) (λ b f. absurd (cc))) e
@@ -41,7 +41,7 @@ form_read (state source layer id members) e =
 form_read (removal source layer id key) e = edit_read (id_of (read_text id)) _ (ids_read (read_text id)) (λ i f. absurd (cc)) e
 form_read (global name value) e = edit_read (in_bound (json_data value)) _ (bound_read (json_data value)) (λ v f. absurd (cc)) e
 
-formed_read : (form : Option Form) → edit_or_fault form ≢ Err Json
+formed_read : (form : Option LineForm) → edit_or_fault form ≢ Err Json
 formed_read (Some form) e = form_read form e
 formed_read None e = absurd (cc)
 

@@ -8,7 +8,7 @@ use Rattle.edit_script.specs.declared.command.LineFault.{LineFault}
 use Rattle.edit_script.specs.declared.command.LineFault.TheVariants.{Form as NoForm, Number}
 use Rattle.edit_script.specs.Edit as edits
 use Rattle.edit_script.specs.Edit.{Edit}
-use Rattle.edit_script.specs.Form.{Form, plain, range, zoom, state, removal, global, form_of}
+use Rattle.edit_script.specs.Form.{LineForm, plain, range, zoom, state, removal, global, form_of}
 
 -- what is read of numbers, where none of them is past the bound
 abbrev pub in_bound : {A : Type 0} → Result A NumFault → Result A LineFault
@@ -35,7 +35,7 @@ id_of (Ok z) = whole_id z
 id_of (Err past) = Err Number
 
 -- The edit of a form, or that a number of it is past its range. Source: own.
-abbrev pub edit_of : Form → Result Edit LineFault
+abbrev pub edit_of : LineForm → Result Edit LineFault
 edit_of (plain edit) = Ok edit
 edit_of (range layer min max) = then_edit (limit_of min) (λ a. then_edit (limit_of max) (λ b. Ok (edits.set_range layer a b)))
 edit_of (zoom z) = then_edit (in_bound (read_text z)) (λ a. Ok (edits.set_zoom a))
@@ -45,7 +45,7 @@ edit_of (removal source layer id key) = then_edit (id_of (read_text id)) (λ i. 
 edit_of (global name value) = then_edit (in_bound (json_data value)) (λ v. Ok (edits.set_global name v))
 
 -- the edit of a form, where there is one
-abbrev pub edit_or_fault : Option Form → Result Edit LineFault
+abbrev pub edit_or_fault : Option LineForm → Result Edit LineFault
 edit_or_fault (Some form) = edit_of form
 edit_or_fault None = Err NoForm
 

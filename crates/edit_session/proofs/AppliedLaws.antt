@@ -15,8 +15,8 @@ use Rattle.style_edits.specs.declared.faults.EditFault.{EditFault}
 use Rattle.style_layout.specs.Shown.{SourceTile}
 use Rattle.style_rules.specs.CodeView.{finding_seen}
 use Rattle.style_rules.specs.declared.lists.Finding.{Finding}
-use Rattle.edit_session.specs.Applied.{States, first_finding, done, refused, refusal_of, whole_refusal, unless_refused, applied}
-use Rattle.edit_session.specs.Presentation.{Presentation}
+use Rattle.edit_session.specs.Applied.{FeatureStates, first_finding, done, refused, refusal_of, whole_refusal, unless_refused, applied}
+use Rattle.edit_session.specs.SessionState.{SessionState}
 use Rattle.edit_session.specs.View.{edits_layers}
 use Rattle.edit_session.specs.declared.answer.Refusal.{Refusal}
 use Rattle.edit_session.specs.declared.answer.Refusal.TheVariants.{Finding as Refused}
@@ -27,18 +27,18 @@ first_refused [] = refl
 first_refused (f ∷ fs) = refl
 
 -- no cause holds
-accepted : (fault : Option EditFault) (whole : Option Refusal) (before after : Presentation) → fault ≡ None → whole ≡ None
+accepted : (fault : Option EditFault) (whole : Option Refusal) (before after : SessionState) → fault ≡ None → whole ≡ None
     → (after, done) ≡ unless_refused (option_or (option_map refusal_of fault) (option_or whole None)) before after
 accepted fault whole before after h w =
     λ k. unless_refused (option_or (option_map refusal_of (sym h k)) (option_or (sym w k) None)) before after
 
 -- the whole document is refused
-refused_by : (fault : Option EditFault) (whole : Option Refusal) (r : Refusal) (before after : Presentation) → fault ≡ None → whole ≡ Some r
+refused_by : (fault : Option EditFault) (whole : Option Refusal) (r : Refusal) (before after : SessionState) → fault ≡ None → whole ≡ Some r
     → (before, refused r) ≡ unless_refused (option_or (option_map refusal_of fault) (option_or whole None)) before after
 refused_by fault whole r before after h w =
     λ k. unless_refused (option_or (option_map refusal_of (sym h k)) (option_or (sym w k) None)) before after
 
-module _ (tiles : List SourceTile) (scripts : List ℕ → Bool) (can_change : Bool) (p : Presentation) where
+module _ (tiles : List SourceTile) (scripts : List ℕ → Bool) (can_change : Bool) (p : SessionState) where
   layers_applied : (e : Edit) → edits_layers e ≡ true → applied tiles scripts can_change p e ≡ unless_refused (
       option_or (option_map refusal_of (edit_fault p.document e)) (option_or (whole_refusal tiles p.globals (edited p.document e)) None))
       p (record p { document = edited p.document e })
@@ -75,7 +75,7 @@ module _ (tiles : List SourceTile) (scripts : List ℕ → Bool) (can_change : B
         ∙ (refused_by _ _ r p _ possible (ap (whole_refusal tiles p.globals) (sym made) ∙ w) ∙ sym (layers_applied e of_layers))
 
   -- members are set in the state of a feature
-  pub state_set : (source layer s l : List ℕ) (id : ℕ) (members given : List (List ℕ × Data)) (states : States)
+  pub state_set : (source layer s l : List ℕ) (id : ℕ) (members given : List (List ℕ × Data)) (states : FeatureStates)
       → whole_refusal tiles p.globals p.document ≡ None
       → edit_fault p.document (edits.set_state source layer id (pairs_of given)) ≡ None
       → s ≡ source → l ≡ layer → members ≡ given

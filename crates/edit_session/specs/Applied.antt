@@ -22,17 +22,17 @@ use Rattle.style_layout.specs.Shown.{SourceTile}
 use Rattle.style_layout.specs.StyleLayout.{cell_count, layout_of}
 use Rattle.style_rules.specs.Findings.{findings}
 use Rattle.edit_session.specs.Opening.{within_limit}
-use Rattle.edit_session.specs.Presentation.{Presentation, scene_of}
+use Rattle.edit_session.specs.SessionState.{SessionState, scene_of}
 use Rattle.edit_session.specs.declared.answer.Refusal.{Refusal}
 use Rattle.edit_session.specs.declared.answer.Refusal.TheVariants.{UnknownLayer, UnknownBefore, UnknownSource, ZoomRange, UnknownProperty, Finding, CellLimit, FixedImages}
 
 -- ---- the states of features
 
-abbrev pub States : Type 0
-States = List ℕ → List ℕ → ℕ → List (List ℕ × Data)
+abbrev pub FeatureStates : Type 0
+FeatureStates = List ℕ → List ℕ → ℕ → List (List ℕ × Data)
 
 -- the states with that of one feature changed
-abbrev pub changed_state : List ℕ → List ℕ → ℕ → (List (List ℕ × Data) → List (List ℕ × Data)) → States → States
+abbrev pub changed_state : List ℕ → List ℕ → ℕ → (List (List ℕ × Data) → List (List ℕ × Data)) → FeatureStates → FeatureStates
 changed_state source layer id change states s l i =
     if same_feature source layer id s l i then change (states s l i) else states s l i
 
@@ -63,7 +63,7 @@ with_global document name d globals = with_or_without name (value_or_default d (
 
 -- ---- what a session represents after an edit that is accepted. Source: own.
 
-abbrev pub presented_after : Presentation → Edit → Presentation
+abbrev pub presented_after : SessionState → Edit → SessionState
 presented_after p (edits.set_zoom zoom) = record p { zoom = zoom }
 presented_after p (edits.set_state source layer id members) =
     record p { states = changed_state source layer id (λ kept. merged kept (entries_of members)) p.states }
@@ -101,7 +101,7 @@ images_refusal can_change edit = None
 -- ---- what is answered
 
 -- The text of a listing over tiles, with the test on texts that can be shown: that of the full layout. Source: own.
-abbrev pub listing_of : List SourceTile → (List ℕ → Bool) → Presentation → List ℕ
+abbrev pub listing_of : List SourceTile → (List ℕ → Bool) → SessionState → List ℕ
 listing_of tiles scripts p = listing (layout_of (scene_of scripts p) tiles p.globals p.document)
 
 pub data Reply : Type 0 where
@@ -114,7 +114,7 @@ pub data Reply : Type 0 where
   refused : Refusal → Reply
 
 -- an edit that is refused changes nothing
-abbrev pub unless_refused : Option Refusal → Presentation → Presentation → Presentation × Reply
+abbrev pub unless_refused : Option Refusal → SessionState → SessionState → SessionState × Reply
 unless_refused None before after = (after, done)
 unless_refused (Some refusal) before after = (before, refused refusal)
 
@@ -126,14 +126,14 @@ whole_refusal tiles globals document =
 -- over tiles, with the test on texts that can be shown; `can_change` says whether the test of images can change
 module _ (tiles : List SourceTile) (scripts : List ℕ → Bool) (can_change : Bool) where
   -- The first cause that holds: a fault of the edit, of the whole edited document, or that images cannot change. Source: own.
-  abbrev pub refusal : Presentation → Edit → Option Refusal
+  abbrev pub refusal : SessionState → Edit → Option Refusal
   refusal p edit = first_cause (
       option_map refusal_of (edit_fault p.document edit) ∷
       whole_refusal tiles (presented_after p edit).globals (presented_after p edit).document ∷
       images_refusal can_change edit ∷ [])
 
   -- What a session represents after an edit, and what is answered. Source: own.
-  abbrev pub applied : Presentation → Edit → Presentation × Reply
+  abbrev pub applied : SessionState → Edit → SessionState × Reply
   applied p edits.list = (p, listed (listing_of tiles scripts p))
   applied p edits.stats = (p, stats_asked)
   applied p edit = unless_refused (refusal p edit) p (presented_after p edit)

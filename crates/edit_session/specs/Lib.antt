@@ -1,5 +1,5 @@
 -- To be believed.
-pub mod Presentation
+pub mod SessionState
 pub mod Opening
 pub mod Applied
 pub mod View

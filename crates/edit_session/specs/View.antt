@@ -11,7 +11,7 @@ use Rattle.style_layout.specs.Layers.{StyleLayer, style_layers}
 use Rattle.style_layout.specs.Shown.{SourceTile}
 use Rattle.edit_session.specs.Applied.{Reply, done, listed, stats_asked, refused, whole_refusal, with_image, applied}
 use Rattle.edit_session.specs.Opening.{Fault, has_findings, unknown_source, not_vector, too_many_cells, zoom_range}
-use Rattle.edit_session.specs.Presentation.{Presentation}
+use Rattle.edit_session.specs.SessionState.{SessionState}
 use Rattle.edit_session.specs.declared.answer.Answer.{Answer}
 use Rattle.edit_session.specs.declared.answer.Answer.TheVariants.{Done, Listing, Stats, Refused}
 use Rattle.edit_session.specs.declared.answer.Refusal.TheVariants.{FixedImages}
@@ -37,8 +37,8 @@ fault_seen ZoomRange = zoom_range
 -- ---- a session
 
 -- What a session represents, with the test of images that is handed in. Source: own.
-abbrev pub presented : Session → (List ℕ → Bool) → Presentation
-presented session has_image = record {
+abbrev pub session_state : Session → (List ℕ → Bool) → SessionState
+session_state session has_image = record {
   document = tree_of session.document;
   zoom = session.zoom;
   states = members_at session.states;
@@ -55,17 +55,17 @@ abbrev pub lacks_memory : Session → Bool
 lacks_memory session = session.lacks_memory
 
 -- a document over tiles that breaks no rule and is within the limit of cells, with its layers
-pub record IsWhole (tiles : List SourceTile) (globals : List (List ℕ × Data)) (document : Tree) (layers : List StyleLayer) : Type 0 where
+pub record IsWholeDocument (tiles : List SourceTile) (globals : List (List ℕ × Data)) (document : Tree) (layers : List StyleLayer) : Type 0 where
   pub is_accepted : whole_refusal tiles globals document ≡ None
   pub is_prepared : layers ≡ style_layers globals document
 
 -- so it is with a session's document
 abbrev pub IsReady : Session → Type 0
-IsReady session = IsWhole (tiles_of session) session.globals (tree_of session.document) (layers_seen session.prepared)
+IsReady session = IsWholeDocument (tiles_of session) session.globals (tree_of session.document) (layers_seen session.prepared)
 
 -- What holds of a session from its opening on, until an allocation fails.
-abbrev pub IsSound : Session → Type 0
-IsSound session = lacks_memory session ≡ false → IsReady session
+abbrev pub IsSoundSession : Session → Type 0
+IsSoundSession session = lacks_memory session ≡ false → IsReady session
 
 -- ---- what only contracts of private functions see
 
@@ -81,7 +81,7 @@ edits_layers (edits.move_layer id before) = true
 edits_layers _ = false
 
 -- an edit turns what a session represents into this, and has this answer
-abbrev pub IsAnswer : List SourceTile → (List ℕ → Bool) → Bool → Presentation → Presentation → Edit → Answer → Type 0
+abbrev pub IsAnswer : List SourceTile → (List ℕ → Bool) → Bool → SessionState → SessionState → Edit → Answer → Type 0
 IsAnswer tiles scripts can_change before after edit answer = (after, reply_seen answer) ≡ applied tiles scripts can_change before edit
 
 -- the test of images after a name was reported to it, and the answer

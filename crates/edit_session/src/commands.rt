@@ -5,7 +5,7 @@ ghost use Rattle.decimal_json.specs.View.{tree_of};
 ghost use Rattle.edit_script.specs.Edit as edits;
 ghost use Rattle.edit_script.specs.View.{command_seen};
 ghost use Rattle.edit_session.specs.Applied.{listed, listing_of, refusal_of};
-ghost use Rattle.edit_session.specs.View.{presented, reply_seen, tiles_of, IsAnswer, IsReady, edits_layers, told};
+ghost use Rattle.edit_session.specs.View.{session_state, reply_seen, tiles_of, IsAnswer, IsReady, edits_layers, told};
 ghost use Rattle.prop_values.specs.Data.{pairs_of};
 ghost use Rattle.prop_values.specs.View.{data_of};
 ghost use Rattle.style_edits.specs.Faults.{edit_fault};
@@ -33,7 +33,7 @@ impl Session<'_> {
     ) -> Result<Answer, AllocError>
         requires { IsReady self.old }
         ensures answer { IfOk result (IsAnswer (tiles_of self.old) (test scripts.now) (changes images.old)
-            (presented self.old (test images.old)) (presented self.new (test images.new)) (command_seen command.now)) }
+            (session_state self.old (test images.old)) (session_state self.new (test images.new)) (command_seen command.now)) }
         ensures tiles { tiles_of self.new ≡ tiles_of self.old }
         ensures changes { changes images.new ≡ changes images.old }
         ensures ready { OnOk result (IsReady self.new) }
@@ -57,7 +57,7 @@ impl Session<'_> {
         requires possible { edit_fault (tree_of self.old.document) (command_seen command.now) ≡ None }
         requires places { places ≡ places_of (tree_of self.old.document) (command_seen command.now) }
         ensures answer { IfOk result (IsAnswer (tiles_of self.old) (test scripts.now) (changes images.old)
-            (presented self.old (test images.old)) (presented self.new (test images.new)) (command_seen command.now)) }
+            (session_state self.old (test images.old)) (session_state self.new (test images.new)) (command_seen command.now)) }
         ensures tiles { tiles_of self.new ≡ tiles_of self.old }
         ensures changes { changes images.new ≡ changes images.old }
         ensures ready { OnOk result (IsReady self.new) }
@@ -87,7 +87,7 @@ impl Session<'_> {
     fn answer_list(&self, images: &dyn HostOp, scripts: &dyn HostOp) -> Result<Answer, AllocError>
         requires { IsReady self.now }
         ensures { IfOk result (λ answer. reply_seen answer ≡ listed
-            (listing_of (tiles_of self.now) (test scripts.now) (presented self.now (test images.now)))) }
+            (listing_of (tiles_of self.now) (test scripts.now) (session_state self.now (test images.now)))) }
     {
         let mut out = Vec::new(self.alloc);
         self.listing(images, scripts, &mut out)?;
@@ -105,8 +105,8 @@ impl Session<'_> {
         requires possible { edit_fault (tree_of self.old.document)
             (edits.set_state source.now layer.now id (pairs_of members.now)) ≡ None }
         ensures answer { (has_image scripts : List ℕ → Bool) (can_change : Bool)
-            → IfOk result (IsAnswer (tiles_of self.old) scripts can_change (presented self.old has_image)
-            (presented self.new has_image) (edits.set_state source.now layer.now id (pairs_of members.now))) }
+            → IfOk result (IsAnswer (tiles_of self.old) scripts can_change (session_state self.old has_image)
+            (session_state self.new has_image) (edits.set_state source.now layer.now id (pairs_of members.now))) }
         ensures tiles { tiles_of self.new ≡ tiles_of self.old }
         ensures ready { OnOk result (IsReady self.new) }
     {
@@ -119,8 +119,8 @@ impl Session<'_> {
     fn set_global(&mut self, name: &Text, value: &Value) -> Result<Answer, AllocError>
         requires ready { IsReady self.old }
         ensures answer { (has_image scripts : List ℕ → Bool) (can_change : Bool)
-            → IfOk result (IsAnswer (tiles_of self.old) scripts can_change (presented self.old has_image)
-            (presented self.new has_image) (edits.set_global name.now (data_of value.now))) }
+            → IfOk result (IsAnswer (tiles_of self.old) scripts can_change (session_state self.old has_image)
+            (session_state self.new has_image) (edits.set_global name.now (data_of value.now))) }
         ensures tiles { tiles_of self.new ≡ tiles_of self.old }
         ensures ready { OnOk result (IsReady self.new) }
     {
@@ -142,8 +142,8 @@ impl Session<'_> {
         requires places { places ≡ places_of (tree_of self.old.document) (command_seen command.now) }
         requires layers { edits_layers (command_seen command.now) ≡ true }
         ensures answer { (has_image scripts : List ℕ → Bool) (can_change : Bool)
-            → IfOk result (IsAnswer (tiles_of self.old) scripts can_change (presented self.old has_image)
-            (presented self.new has_image) (command_seen command.now)) }
+            → IfOk result (IsAnswer (tiles_of self.old) scripts can_change (session_state self.old has_image)
+            (session_state self.new has_image) (command_seen command.now)) }
         ensures tiles { tiles_of self.new ≡ tiles_of self.old }
         ensures ready { OnOk result (IsReady self.new) }
     {

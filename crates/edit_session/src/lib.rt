@@ -6,7 +6,7 @@
 //! session.listing(images, scripts, &mut out)?               // appends the text that `apply` answers to `list`
 //! ```
 //!
-//! What is promised: `presented` says what a session represents: a document, a zoom, states of features, images and values of the
+//! What is promised: `session_state` says what a session represents: a document, a zoom, states of features, images and values of the
 //! global state. `open` gives a session that represents the style before any edit (`opened`), or exactly the first cause why it cannot
 //! (`open_fault`). `apply` answers by `applied`: a command is refused by the first cause that holds, and then nothing changes; else the
 //! session represents what is after the edit; a listing is that of the full layout of the document as it then is, and `listing` appends
@@ -14,7 +14,7 @@
 //!
 //! After each edit of layers the whole document is looked at and prepared anew.
 //!
-//! The text to believe is in `specs/`: `Presentation`, `Opening`, `Applied`, `View`.
+//! The text to believe is in `specs/`: `SessionState`, `Opening`, `Applied`, `View`.
 #![tactic(auto)]
 
 mod answer;

@@ -6,8 +6,8 @@ ghost use Rattle.decimal_json.specs.View.{tree_of};
 ghost use Rattle.edit_script.specs.View.{command_seen};
 ghost use Rattle.edit_session.specs.Applied.{applied, listing_of};
 ghost use Rattle.edit_session.specs.Opening.{open_fault, tiles_fault};
-ghost use Rattle.edit_session.specs.Presentation.{opened};
-ghost use Rattle.edit_session.specs.View.{fault_seen, presented, reply_seen, tiles_of, lacks_memory, IsSound};
+ghost use Rattle.edit_session.specs.SessionState.{opened};
+ghost use Rattle.edit_session.specs.View.{fault_seen, session_state, reply_seen, tiles_of, lacks_memory, IsSoundSession};
 ghost use Rattle.style_layout.specs.CodeView.{tile_seen};
 ghost use Rattle.style_rules.specs.Findings.{findings};
 
@@ -28,7 +28,7 @@ use style_parts::is_zoom;
 use style_rules::findings;
 
 /// A style over tiles, under edit, with the zoom, the states of features and the values of the global state by which it is
-/// shown. The tests on images and scripts are handed in to each call. `presented` is what a session
+/// shown. The tests on images and scripts are handed in to each call. `session_state` is what a session
 /// represents, for clauses.
 #[derive(Drop)]
 pub struct Session<'a> {
@@ -55,9 +55,9 @@ impl<'a> Session<'a> {
         ensures fault { IfOk result (λ made. option_map fault_seen (result_err made)
             ≡ open_fault (tree_of style) (map tile_seen tiles.entry.items) zoom) }
         ensures opened { IfOk result (λ made. IfOk made (λ session. (has_image : List ℕ → Bool)
-            → presented session has_image ≡ opened (tree_of style) zoom has_image)) }
+            → session_state session has_image ≡ opened (tree_of style) zoom has_image)) }
         ensures tiles { IfOk result (λ made. IfOk made (λ session. tiles_of session ≡ map tile_seen tiles.entry.items)) }
-        ensures sound { IfOk result (λ made. IfOk made IsSound) }
+        ensures sound { IfOk result (λ made. IfOk made IsSoundSession) }
         ensures memory { IfOk result (λ made. IfOk made (λ session. lacks_memory session ≡ false)) }
     {
         let found = findings(alloc, &style)?;
@@ -78,9 +78,9 @@ impl<'a> Session<'a> {
         ensures fault { IfOk result (λ made. option_map fault_seen (result_err made)
             ≡ tiles_fault (tree_of style) (map tile_seen tiles.entry.items) zoom) }
         ensures opened { IfOk result (λ made. IfOk made (λ session. (has_image : List ℕ → Bool)
-            → presented session has_image ≡ opened (tree_of style) zoom has_image)) }
+            → session_state session has_image ≡ opened (tree_of style) zoom has_image)) }
         ensures tiles { IfOk result (λ made. IfOk made (λ session. tiles_of session ≡ map tile_seen tiles.entry.items)) }
-        ensures sound { IfOk result (λ made. IfOk made IsSound) }
+        ensures sound { IfOk result (λ made. IfOk made IsSoundSession) }
         ensures memory { IfOk result (λ made. IfOk made (λ session. lacks_memory session ≡ false)) }
     {
         if let Some(source) = first_unknown(&style, tiles.as_slice()) {
@@ -118,13 +118,13 @@ impl<'a> Session<'a> {
         images: &mut dyn HostOp,
         scripts: &dyn HostOp,
     ) -> Result<Answer, AllocError>
-        requires { IsSound self.old }
-        ensures answer { IfOk result (λ answer. (presented self.new (test images.new), reply_seen answer)
-            ≡ applied (tiles_of self.old) (test scripts.now) (changes images.old) (presented self.old (test images.old))
+        requires { IsSoundSession self.old }
+        ensures answer { IfOk result (λ answer. (session_state self.new (test images.new), reply_seen answer)
+            ≡ applied (tiles_of self.old) (test scripts.now) (changes images.old) (session_state self.old (test images.old))
             (command_seen command.now)) }
         ensures tiles { tiles_of self.new ≡ tiles_of self.old }
         ensures changes { changes images.new ≡ changes images.old }
-        ensures sound { IsSound self.new }
+        ensures sound { IsSoundSession self.new }
         ensures lacks { lacks_memory self.new ≡ is_err result }
         ensures memory { lacks_memory self.old ≡ true → IsErr result }
     {
@@ -145,9 +145,9 @@ impl<'a> Session<'a> {
         scripts: &dyn HostOp,
         out: &mut Vec<u8>,
     ) -> Result<(), AllocError>
-        requires { IsSound self.now }
+        requires { IsSoundSession self.now }
         ensures listing { OnOk result (out.new.items ≡ out.old.items
-            ++ listing_of (tiles_of self.now) (test scripts.now) (presented self.now (test images.now))) }
+            ++ listing_of (tiles_of self.now) (test scripts.now) (session_state self.now (test images.now))) }
         ensures kept { OnErr result (out.new.items ≡ out.old.items) }
         ensures memory { lacks_memory self.now ≡ true → IsErr result }
     {

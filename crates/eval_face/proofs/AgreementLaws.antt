@@ -24,7 +24,7 @@ use Rattle.tile_reader.specs.ShapeName.{shape_name}
 use Rattle.operator_values.specs.Arithmetic.{then_number}
 use Rattle.operator_values.specs.Evaluated.{Evaluated, then_value}
 use Rattle.eval_face.specs.World.{World}
-use Rattle.eval_face.specs.Names.{Names, bound}
+use Rattle.eval_face.specs.Names.{BoundOutcomes, bound}
 use Rattle.eval_face.specs.Meanings.{Meaning, argument_of, looked_at, is_sequence, values_of, and_values, then_values}
 use Rattle.eval_face.specs.Lookups.{entry_at, get_of, has_of, state_at, id_value, image_of, script_of}
 use Rattle.eval_face.specs.Decisions.{first_of, or_later}
@@ -66,7 +66,7 @@ and_length (Ok d) (Ok es) ds n k h = let q : d ∷ es ≡ ds = cc in ap suc (k e
 and_length (Ok d) (Err f) ds n k h = absurd (cc)
 and_length (Err f) later ds n k h = absurd (cc)
 
-values_length : (op : Operator) (m k : ℕ) (ms : List Meaning) (want : Want) (names : Names) (world : World) (ds : List Data) → values_of op m k ms want names world ≡ Ok ds → length ms ≡ length ds
+values_length : (op : Operator) (m k : ℕ) (ms : List Meaning) (want : Want) (names : BoundOutcomes) (world : World) (ds : List Data) → values_of op m k ms want names world ≡ Ok ds → length ms ≡ length ds
 values_length op m k [] want names world ds h = let q : [] ≡ ds = cc in ap length q
 values_length op m k (x ∷ ms) want names world ds h = and_length (argument_of op m k x want names world) (values_of op m (k + 1) ms want names world) ds (length ms) (values_length op m (k + 1) ms want names world) h
 
@@ -83,7 +83,7 @@ module _ (v w : World) where
   -- ---- meanings that are one in both worlds
 
   abbrev IsOne : Meaning → Type 0
-  IsOne m = (want : Want) (names : Names) → m want names v ≡ m want names w
+  IsOne m = (want : Want) (names : BoundOutcomes) → m want names v ≡ m want names w
 
   abbrev AreOne : List Meaning → Type 0
   AreOne [] = Unit {0}
@@ -92,11 +92,11 @@ module _ (v w : World) where
   argument_same : (op : Operator) (m k : ℕ) (meaning : Meaning) → IsOne meaning → IsOne (argument_of op m k meaning)
   argument_same op m k meaning h want names = ap (looked_at (is_sequence (row (operator_name op)).sequence k)) (h (want_of (wanted_by op m k) want) names)
 
-  values_same : (op : Operator) (m k : ℕ) (ms : List Meaning) → AreOne ms → (want : Want) (names : Names) → values_of op m k ms want names v ≡ values_of op m k ms want names w
+  values_same : (op : Operator) (m k : ℕ) (ms : List Meaning) → AreOne ms → (want : Want) (names : BoundOutcomes) → values_of op m k ms want names v ≡ values_of op m k ms want names w
   values_same op m k [] h want names = refl
   values_same op m k (x ∷ ms) h want names = λ i. and_values (argument_same op m k x h.0 want names i) (values_same op m (k + 1) ms h.1 want names i)
 
-  each_same : (op : Operator) (ms : List Meaning) → AreOne ms → ((ds : List Data) → length ms ≡ length ds → apply_in (rule_of op) v ds ≡ apply_in (rule_of op) w ds) → (want : Want) (names : Names) → then_values (values_of op (length ms) 0 ms want names v) (λ ds. then_value (apply_in (rule_of op) v ds) (fit want)) ≡ then_values (values_of op (length ms) 0 ms want names w) (λ ds. then_value (apply_in (rule_of op) w ds) (fit want))
+  each_same : (op : Operator) (ms : List Meaning) → AreOne ms → ((ds : List Data) → length ms ≡ length ds → apply_in (rule_of op) v ds ≡ apply_in (rule_of op) w ds) → (want : Want) (names : BoundOutcomes) → then_values (values_of op (length ms) 0 ms want names v) (λ ds. then_value (apply_in (rule_of op) v ds) (fit want)) ≡ then_values (values_of op (length ms) 0 ms want names w) (λ ds. then_value (apply_in (rule_of op) w ds) (fit want))
   each_same op ms h k want names =
       ap (λ r. then_values r (λ ds. then_value (apply_in (rule_of op) v ds) (fit want))) (values_same op (length ms) 0 ms h want names)
       ∙ then_same (values_of op (length ms) 0 ms want names w) (λ ds. then_value (apply_in (rule_of op) v ds) (fit want)) (λ ds. then_value (apply_in (rule_of op) w ds) (fit want)) (λ ds q. ap (λ x. then_value x (fit want)) (k ds (values_length op (length ms) 0 ms want names w ds q)))
@@ -105,7 +105,7 @@ module _ (v w : World) where
   first_same decides none op m k [] h want names = refl
   first_same decides none op m k (x ∷ ms) h want names = λ i. then_value (argument_same op m k x h.0 want names i) (λ d. or_later (decides d) (first_same decides none op m (k + 1) ms h.1 want names i))
 
-  deciding_same : (decides : Data → Option Data) (none : Evaluated) (op : Operator) (ms : List Meaning) → AreOne ms → (want : Want) (names : Names) → then_value (first_of decides none op (length ms) 0 ms want names v) (fit want) ≡ then_value (first_of decides none op (length ms) 0 ms want names w) (fit want)
+  deciding_same : (decides : Data → Option Data) (none : Evaluated) (op : Operator) (ms : List Meaning) → AreOne ms → (want : Want) (names : BoundOutcomes) → then_value (first_of decides none op (length ms) 0 ms want names v) (fit want) ≡ then_value (first_of decides none op (length ms) 0 ms want names w) (fit want)
   deciding_same decides none op ms h want names = ap (λ x. then_value x (fit want)) (first_same decides none op (length ms) 0 ms h want names)
 
   case_same : (ms : List Meaning) → AreOne ms → IsOne (case_of ms)
@@ -135,7 +135,7 @@ module _ (v w : World) where
   ramp_same curve inputs [] h want names = refl
   ramp_same curve inputs (m ∷ ms) h want names = λ i. with_number (h.0 wants.Number names i) (λ z. then_number (warp_of curve inputs z) (λ x. then_value (stop_same inputs ms x (place_of inputs x) h.1 (ramp_want want) names i) (fit want)))
 
-  outcomes_same : (ms : List Meaning) → AreOne ms → (names : Names) → outcomes_of ms names v ≡ outcomes_of ms names w
+  outcomes_same : (ms : List Meaning) → AreOne ms → (names : BoundOutcomes) → outcomes_of ms names v ≡ outcomes_of ms names w
   outcomes_same [] h names = refl
   outcomes_same (m ∷ ms) h names = λ i. h.0 wants.Any names i ∷ outcomes_same ms h.1 names i
 

@@ -19,7 +19,7 @@ use Rattle.operator_values.specs.Arithmetic.{then_number}
 use Rattle.operator_values.specs.Evaluated.{Evaluated, then_value}
 use Rattle.prop_values.specs.declared.kinds.Want.TheVariants as wants
 use Rattle.eval_face.specs.World.{World}
-use Rattle.eval_face.specs.Names.{Names, named, bound}
+use Rattle.eval_face.specs.Names.{BoundOutcomes, named, bound}
 use Rattle.eval_face.specs.Meanings.{Meaning, then_values, values_of}
 use Rattle.eval_face.specs.Bindings.{outcomes_of, body_of}
 use Rattle.eval_face.specs.Branches.{branch, case_of, output_at, match_of, with_number, step_of, ramp_of, ramp_at}
@@ -34,7 +34,7 @@ IsFitted want (Ok d) = fit want d ≡ Ok d
 IsFitted want (Err fault) = Unit {0}
 
 abbrev pub GivesFitted : Meaning → Type 0
-GivesFitted m = (want : Want) (names : Names) (world : World) → IsFitted want (m want names world)
+GivesFitted m = (want : Want) (names : BoundOutcomes) (world : World) → IsFitted want (m want names world)
 
 abbrev pub AllGiveFitted : List Meaning → Type 0
 AllGiveFitted [] = Unit {0}

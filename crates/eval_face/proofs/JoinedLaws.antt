@@ -12,7 +12,7 @@ use Rattle.property_tables.specs.Fitting.{fit, read_as_color}
 use Rattle.expr_syntax.specs.Operators.{piece_wanted, role_want, want_of}
 use Rattle.expr_syntax.specs.Term.{Term, node, Terms, no_terms, term}
 use Rattle.expr_syntax.specs.declared.expression.Operator.TheVariants.{Concat, Format}
-use Rattle.expr_syntax.specs.declared.parts.Piece.{Piece}
+use Rattle.expr_syntax.specs.declared.parts.FormatPiece.{FormatPiece}
 use Rattle.expr_syntax.specs.declared.parts.Role.{Role}
 use Rattle.expr_syntax.specs.declared.parts.Role.TheVariants.{Content, Scale, Font, Color}
 use Rattle.format_text.specs.Sections.{section_with, section_of, sections_values, plain_text}
@@ -23,7 +23,7 @@ use Rattle.eval_face.proofs.FittedLaws.{each_value_is_fitted}
 use Rattle.eval_face.specs.JoinedContents.{content_first, contents, IsOfContents, FormatsJoinTheirContents}
 use Rattle.eval_face.specs.Meaning.{mean, means}
 use Rattle.eval_face.specs.Meanings.{then_values, and_values, values_of}
-use Rattle.eval_face.specs.Names.{Names}
+use Rattle.eval_face.specs.Names.{BoundOutcomes}
 use Rattle.eval_face.specs.Sections.{Open, add_piece, then_open, add_pieces, closed, format_of}
 use Rattle.eval_face.specs.World.{World}
 use Rattle.eval_face.proofs.ShownLaws.{mean_shown}
@@ -135,7 +135,7 @@ finished ss current before last b h =
       plain = ap (λ o. plain_text ss ++ o.1.content) (sym e) ∙ sym (append-nil (plain_text ss ++ current.content));
     }
 
-no_values : (ps : List Piece) (o : Open) → add_pieces ps [] o ≡ Ok o
+no_values : (ps : List FormatPiece) (o : Open) → add_pieces ps [] o ≡ Ok o
 no_values [] o = refl
 no_values (p ∷ ps) o = refl
 
@@ -143,11 +143,11 @@ no_pieces : (ds : List Data) (o : Open) → add_pieces [] ds o ≡ Ok o
 no_pieces [] o = refl
 no_pieces (d ∷ ds) o = refl
 
-no_contents : (ps : List Piece) → contents ps no_terms ≡ no_terms
+no_contents : (ps : List FormatPiece) → contents ps no_terms ≡ no_terms
 no_contents [] = refl
 no_contents (p ∷ ps) = refl
 
-module _ (n : ℕ) (names : Names) (world : World) where
+module _ (n : ℕ) (names : BoundOutcomes) (world : World) where
   -- what `concat` has of these terms
   abbrev concat_values : ℕ → Terms → Result (List Data) EvalFault
   concat_values j ts = values_of Concat n j (means ts) wants.Any names world
@@ -189,7 +189,7 @@ module _ (n : ℕ) (names : Names) (world : World) where
   piece_rest Color t cs j ss current before go last d b value h later =
       let k = color_keeps d before current go last h in kept_rest cs j ss current before go last k (later j ss k.next before b k.went)
 
-  pieces_rest : (all : List Piece) (m k : ℕ) (ps : List Piece) (ts : Terms) (j : ℕ) (ds : List Data) (ss : List Section) (current : Section) (before : List Data) (last : Open)
+  pieces_rest : (all : List FormatPiece) (m k : ℕ) (ps : List FormatPiece) (ts : Terms) (j : ℕ) (ds : List Data) (ss : List Section) (current : Section) (before : List Data) (last : Open)
       → ((a i : ℕ) → a ≡ k + i → slice_get all a ≡ slice_get ps i) → before ≡ sections_values ss
       → values_of (Format all) m k (means ts) wants.Any names world ≡ Ok ds → add_pieces ps ds (before, current) ≡ Ok last → IsRest ss current last (concat_values j (contents ps ts))
   pieces_rest all m k ps no_terms j ds ss current before last at b v h =
@@ -212,7 +212,7 @@ no_text_color None s h = absurd (cc)
 color_is_no_text : (s : List ℕ) → fit wants.Color (text s) ≡ Ok (text s) → ⊥
 color_is_no_text s h = no_text_color _ s h
 
-first_is_content : (role : Role) (t : Term) (names : Names) (world : World) (s : List ℕ) → mean t (role_want role) names world ≡ Ok (text s) → role ≡ Content
+first_is_content : (role : Role) (t : Term) (names : BoundOutcomes) (world : World) (s : List ℕ) → mean t (role_want role) names world ≡ Ok (text s) → role ≡ Content
 first_is_content Content t names world s h = refl
 first_is_content Scale t names world s h = absurd (let k = each_value_is_fitted t wants.Number names world (text s) h in cc)
 first_is_content Font t names world s h = absurd (let k = each_value_is_fitted t (wants.List items.Text None) names world (text s) h in cc)
@@ -221,7 +221,7 @@ first_is_content Color t names world s h = absurd (color_is_no_text s (each_valu
 one_more : (i : ℕ) → 1 + i ≡ suc i
 one_more i = omega arith
 
-after_content : (p : Piece) (ps : List Piece) (t : Term) (ts : Terms) (names : Names) (world : World) (rest : List Data) (s : List ℕ) (d : Data)
+after_content : (p : FormatPiece) (ps : List FormatPiece) (t : Term) (ts : Terms) (names : BoundOutcomes) (world : World) (rest : List Data) (s : List ℕ) (d : Data)
     → mean t (role_want p.role) names world ≡ Ok (text s) → values_of (Format (p ∷ ps)) (length (means (term t ts))) 1 (means ts) wants.Any names world ≡ Ok rest
     → closed (add_pieces ps rest ([], section_with s)) ≡ Ok d → IsOfContents d (mean (node Concat (contents (p ∷ ps) (term t ts))) wants.Any names world)
 after_content p ps t ts names world rest s d value later h =
@@ -241,7 +241,7 @@ after_content p ps t ts names world rest s d value later h =
           ∙ ((λ i. then_values (and_values (g.given i) (r.given i)) (λ ds. then_value (concat_of ds) (fit wants.Any))) ∙ ap (λ x. Ok (text x)) plain);
     }
 
-by_first : (p : Piece) (ps : List Piece) (t : Term) (ts : Terms) (names : Names) (world : World) (here : Data) (rest : List Data) (d : Data)
+by_first : (p : FormatPiece) (ps : List FormatPiece) (t : Term) (ts : Terms) (names : BoundOutcomes) (world : World) (here : Data) (rest : List Data) (d : Data)
     → mean t (role_want p.role) names world ≡ Ok here → values_of (Format (p ∷ ps)) (length (means (term t ts))) 1 (means ts) wants.Any names world ≡ Ok rest
     → format_of (p ∷ ps) (here ∷ rest) ≡ Ok d → IsOfContents d (mean (node Concat (contents (p ∷ ps) (term t ts))) wants.Any names world)
 by_first p ps t ts names world (text s) rest d value later h = after_content p ps t ts names world rest s d value later h

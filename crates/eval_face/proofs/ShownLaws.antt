@@ -16,7 +16,7 @@ use Rattle.expr_syntax.specs.Operators.{wanted_by, want_of, piece_wanted}
 use Rattle.expr_syntax.specs.Term.{Term, literal, node, Terms, no_terms, term}
 use Rattle.expr_syntax.specs.declared.expression.Operator.{Operator}
 use Rattle.expr_syntax.specs.declared.expression.Operator.TheVariants.{Array, Boolean, Number, String, Object, ToBoolean, ToColor, ToNumber, ToString, TypeOf, Get, Has, Properties, Id, GeometryType, FeatureState, At, In, IndexOf, Length, Slice, Not, Equal, NotEqual, Less, LessOrEqual, Greater, GreaterOrEqual, All, Any, Case, Match, Coalesce, Step, Interpolate, Let, Var, Zoom, Concat, Rgb, Rgba, ToRgba, Add, Multiply, Subtract, Divide, Remainder, Abs, Ceil, Floor, Round, Min, Max, Image, IsSupportedScript, Format}
-use Rattle.expr_syntax.specs.declared.parts.Piece.{Piece}
+use Rattle.expr_syntax.specs.declared.parts.FormatPiece.{FormatPiece}
 use Rattle.operator_values.specs.Arithmetic.{then_number}
 use Rattle.operator_values.specs.Evaluated.{Evaluated, then_value}
 use Rattle.std.specs.List.{slice_get}
@@ -25,7 +25,7 @@ use Rattle.eval_face.specs.Branches.{branch, case_of, output_at, with_number, ra
 use Rattle.eval_face.specs.Decisions.{first_of, or_later}
 use Rattle.eval_face.specs.Meaning.{meaning_by, mean, means}
 use Rattle.eval_face.specs.Meanings.{Meaning, argument_of, looked_at, is_sequence, then_values, and_values, values_of}
-use Rattle.eval_face.specs.Names.{Names, named, bound}
+use Rattle.eval_face.specs.Names.{BoundOutcomes, named, bound}
 use Rattle.eval_face.specs.Rules.{Rule, each, deciding, cases, labels, stops, ramp, bindings, variable, rule_of}
 use Rattle.eval_face.specs.World.{World}
 use Rattle.expr_syntax.specs.Names.{row}
@@ -35,7 +35,7 @@ abbrev shown : Evaluated → Evaluated
 shown e = then_value e (fit wants.Shown)
 
 abbrev pub IsShownAsAny : Meaning → Type 0
-IsShownAsAny m = (names : Names) (world : World) → m wants.Shown names world ≡ shown (m wants.Any names world)
+IsShownAsAny m = (names : BoundOutcomes) (world : World) → m wants.Shown names world ≡ shown (m wants.Any names world)
 
 abbrev AllAreShown : List Meaning → Type 0
 AllAreShown [] = Unit {0}
@@ -58,7 +58,7 @@ HasOwnWants (each apply) op = (m k : ℕ) → want_of (wanted_by op m k) wants.S
 HasOwnWants (deciding decides none) op = (m k : ℕ) → want_of (wanted_by op m k) wants.Shown ≡ want_of (wanted_by op m k) wants.Any
 HasOwnWants _ op = Unit {0}
 
-piece_want : (p : Option Piece) → want_of (piece_wanted p) wants.Shown ≡ want_of (piece_wanted p) wants.Any
+piece_want : (p : Option FormatPiece) → want_of (piece_wanted p) wants.Shown ≡ want_of (piece_wanted p) wants.Any
 piece_want (Some p) = refl
 piece_want None = refl
 
@@ -129,16 +129,16 @@ own_wants Max = λ m k. refl
 own_wants Image = λ m k. refl
 own_wants IsSupportedScript = λ m k. refl
 
-argument_same : (op : Operator) (m k : ℕ) (meaning : Meaning) (names : Names) (world : World) → want_of (wanted_by op m k) wants.Shown ≡ want_of (wanted_by op m k) wants.Any
+argument_same : (op : Operator) (m k : ℕ) (meaning : Meaning) (names : BoundOutcomes) (world : World) → want_of (wanted_by op m k) wants.Shown ≡ want_of (wanted_by op m k) wants.Any
     → argument_of op m k meaning wants.Shown names world ≡ argument_of op m k meaning wants.Any names world
 argument_same op m k meaning names world own = λ i. looked_at (is_sequence (row (operator_name op)).sequence k) (meaning (own i) names world)
 
-values_same : (op : Operator) → ((m k : ℕ) → want_of (wanted_by op m k) wants.Shown ≡ want_of (wanted_by op m k) wants.Any) → (m k : ℕ) (ms : List Meaning) (names : Names) (world : World)
+values_same : (op : Operator) → ((m k : ℕ) → want_of (wanted_by op m k) wants.Shown ≡ want_of (wanted_by op m k) wants.Any) → (m k : ℕ) (ms : List Meaning) (names : BoundOutcomes) (world : World)
     → values_of op m k ms wants.Shown names world ≡ values_of op m k ms wants.Any names world
 values_same op own m k [] names world = refl
 values_same op own m k (f ∷ fs) names world = λ i. and_values (argument_same op m k f names world (own m k) i) (values_same op own m (k + 1) fs names world i)
 
-first_same : (decides : Data → Option Data) (none : Evaluated) (op : Operator) → ((m k : ℕ) → want_of (wanted_by op m k) wants.Shown ≡ want_of (wanted_by op m k) wants.Any) → (m k : ℕ) (ms : List Meaning) (names : Names) (world : World)
+first_same : (decides : Data → Option Data) (none : Evaluated) (op : Operator) → ((m k : ℕ) → want_of (wanted_by op m k) wants.Shown ≡ want_of (wanted_by op m k) wants.Any) → (m k : ℕ) (ms : List Meaning) (names : BoundOutcomes) (world : World)
     → first_of decides none op m k ms wants.Shown names world ≡ first_of decides none op m k ms wants.Any names world
 first_same decides none op own m k [] names world = refl
 first_same decides none op own m k (f ∷ fs) names world =

@@ -5,7 +5,7 @@ use Rattle.expr_syntax.specs.declared.world_parts.Mentions.{Mentions}
 use Rattle.expr_syntax.specs.Mentioned.{mentions}
 use Rattle.expr_syntax.specs.Term.{Term}
 use Rattle.eval_face.specs.Meaning.{mean}
-use Rattle.eval_face.specs.Names.{Names}
+use Rattle.eval_face.specs.Names.{BoundOutcomes}
 use Rattle.eval_face.specs.World.{World}
 
 -- The worlds agree on each part, where it is mentioned, and have one test of scripts. Source: own.
@@ -18,4 +18,4 @@ pub record AgreeOn (m : Mentions) (v w : World) : Type 0 where
 
 abbrev pub AgreeingWorldsGiveOneMeaning : Type 0
 AgreeingWorldsGiveOneMeaning =
-    (t : Term) (want : Want) (names : Names) (v w : World) → AgreeOn (mentions t) v w → mean t want names v ≡ mean t want names w
+    (t : Term) (want : Want) (names : BoundOutcomes) (v w : World) → AgreeOn (mentions t) v w → mean t want names v ≡ mean t want names w

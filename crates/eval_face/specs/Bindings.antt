@@ -6,11 +6,11 @@ use Rattle.prop_values.specs.declared.kinds.Want.TheVariants as wants
 use Rattle.property_tables.specs.Fitting.{fit}
 use Rattle.operator_values.specs.Evaluated.{Evaluated, then_value}
 use Rattle.eval_face.specs.Meanings.{Meaning}
-use Rattle.eval_face.specs.Names.{Names, bound, named}
+use Rattle.eval_face.specs.Names.{BoundOutcomes, bound, named}
 use Rattle.eval_face.specs.World.{World}
 
 -- what bindings give, as they are
-abbrev pub outcomes_of : List Meaning → Names → World → List Evaluated
+abbrev pub outcomes_of : List Meaning → BoundOutcomes → World → List Evaluated
 outcomes_of [] names world = []
 outcomes_of (meaning ∷ meanings) names world = meaning wants.Any names world ∷ outcomes_of meanings names world
 

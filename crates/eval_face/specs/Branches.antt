@@ -19,7 +19,7 @@ use Rattle.operator_values.specs.Arithmetic.{then_number}
 use Rattle.operator_values.specs.Evaluated.{Evaluated, then_value}
 use Rattle.operator_values.specs.Ramps.{between_of}
 use Rattle.eval_face.specs.Meanings.{Meaning}
-use Rattle.eval_face.specs.Names.{Names}
+use Rattle.eval_face.specs.Names.{BoundOutcomes}
 use Rattle.eval_face.specs.World.{World}
 
 -- ---- `case`: the output after the first condition that is true, else the last
@@ -73,7 +73,7 @@ between_values x x0 x1 (Ok d) (Ok e) = between_of x x0 d x1 e
 between_values x x0 x1 (Ok d) (Err fault) = Err fault
 between_values x x0 x1 (Err fault) later = Err fault
 
-abbrev pub ramp_at : List ℤ → List Meaning → ℤ → StopPlace → Want → Names → World → Evaluated
+abbrev pub ramp_at : List ℤ → List Meaning → ℤ → StopPlace → Want → BoundOutcomes → World → Evaluated
 ramp_at inputs outputs x First want names world = output_at outputs 0 want names world
 ramp_at inputs outputs x Last want names world = output_at outputs (length inputs - 1) want names world
 ramp_at inputs outputs x (Between i) want names world =

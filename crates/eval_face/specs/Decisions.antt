@@ -7,7 +7,7 @@ use Rattle.expr_syntax.specs.declared.expression.Operator.{Operator}
 use Rattle.operator_values.specs.Evaluated.{Evaluated, then_value}
 use Rattle.operator_values.specs.Conversions.{number_in, color_in}
 use Rattle.eval_face.specs.Meanings.{Meaning, argument_of}
-use Rattle.eval_face.specs.Names.{Names}
+use Rattle.eval_face.specs.Names.{BoundOutcomes}
 use Rattle.eval_face.specs.World.{World}
 
 -- `boolean`, `number`, `string` and `object`: the first of the form
@@ -53,7 +53,7 @@ or_later (Some d) later = Ok d
 or_later None later = later
 
 -- what the first of the arguments from place k on decides, or the other value where none does
-abbrev pub first_of : (Data → Option Data) → Evaluated → Operator → ℕ → ℕ → List Meaning → Want → Names → World → Evaluated
+abbrev pub first_of : (Data → Option Data) → Evaluated → Operator → ℕ → ℕ → List Meaning → Want → BoundOutcomes → World → Evaluated
 first_of decides none op m k [] want names world = none
 first_of decides none op m k (meaning ∷ meanings) want names world =
     then_value (argument_of op m k meaning want names world) (λ d. or_later (decides d) (first_of decides none op m (k + 1) meanings want names world))

@@ -4,14 +4,14 @@ use Rattle.prop_values.specs.Data.{Data, text}
 use Rattle.prop_values.specs.declared.kinds.Want.TheVariants as wants
 use Rattle.expr_syntax.specs.Term.{Term, node, Terms, no_terms, term}
 use Rattle.expr_syntax.specs.declared.expression.Operator.TheVariants.{Concat, Format}
-use Rattle.expr_syntax.specs.declared.parts.Piece.{Piece}
+use Rattle.expr_syntax.specs.declared.parts.FormatPiece.{FormatPiece}
 use Rattle.expr_syntax.specs.declared.parts.Role.{Role}
 use Rattle.expr_syntax.specs.declared.parts.Role.TheVariants.{Content, Scale, Font, Color}
 use Rattle.format_text.specs.Sections.{sections_data, plain_text}
 use Rattle.format_text.specs.declared.formatted.Section.{Section}
 use Rattle.operator_values.specs.Evaluated.{Evaluated}
 use Rattle.eval_face.specs.Meaning.{mean}
-use Rattle.eval_face.specs.Names.{Names}
+use Rattle.eval_face.specs.Names.{BoundOutcomes}
 use Rattle.eval_face.specs.World.{World}
 
 -- the contents among the arguments of a `format`
@@ -21,7 +21,7 @@ content_first Scale t ts = ts
 content_first Font t ts = ts
 content_first Color t ts = ts
 
-abbrev pub contents : List Piece → Terms → Terms
+abbrev pub contents : List FormatPiece → Terms → Terms
 contents (p ∷ ps) (term t ts) = content_first p.role t (contents ps ts)
 contents _ _ = no_terms
 
@@ -33,5 +33,5 @@ pub record IsOfContents (d : Data) (joined : Evaluated) : Type 0 where
 
 abbrev pub FormatsJoinTheirContents : Type 0
 FormatsJoinTheirContents =
-    (ps : List Piece) (ts : Terms) (names : Names) (world : World) (d : Data) →
+    (ps : List FormatPiece) (ts : Terms) (names : BoundOutcomes) (world : World) (d : Data) →
     mean (node (Format ps) ts) wants.Any names world ≡ Ok d → IsOfContents d (mean (node Concat (contents ps ts)) wants.Any names world)

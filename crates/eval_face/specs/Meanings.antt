@@ -8,12 +8,12 @@ use Rattle.expr_syntax.specs.declared.expression.Operator.{Operator}
 use Rattle.expr_syntax.specs.Names.{row}
 use Rattle.expr_syntax.specs.Operators.{operator_name, wanted_by, want_of}
 use Rattle.operator_values.specs.Evaluated.{Evaluated, then_value}
-use Rattle.eval_face.specs.Names.{Names}
+use Rattle.eval_face.specs.Names.{BoundOutcomes}
 use Rattle.eval_face.specs.World.{World}
 
 -- what an expression gives where a value of some form is wanted
 abbrev pub Meaning : Type 0
-Meaning = Want → Names → World → Evaluated
+Meaning = Want → BoundOutcomes → World → Evaluated
 
 -- an argument that has to be a text or a list is looked at at once
 abbrev pub as_sequence : Data → Evaluated
@@ -46,7 +46,7 @@ and_values (Ok d) (Err fault) = Err fault
 and_values (Err fault) later = Err fault
 
 -- the arguments from left to right, from that of place k on; the first fault is the answer
-abbrev pub values_of : Operator → ℕ → ℕ → List Meaning → Want → Names → World → Result (List Data) EvalFault
+abbrev pub values_of : Operator → ℕ → ℕ → List Meaning → Want → BoundOutcomes → World → Result (List Data) EvalFault
 values_of op m k [] want names world = Ok []
 values_of op m k (meaning ∷ meanings) want names world =
     and_values (argument_of op m k meaning want names world) (values_of op m (k + 1) meanings want names world)

@@ -5,8 +5,8 @@ use Rattle.prop_values.specs.declared.fault.EvalFault.TheVariants.{WrongType}
 use Rattle.operator_values.specs.Evaluated.{Evaluated}
 
 -- a list for each `let`, the innermost first
-abbrev pub Names : Type 0
-Names = List (List (List ℕ × Evaluated))
+abbrev pub BoundOutcomes : Type 0
+BoundOutcomes = List (List (List ℕ × Evaluated))
 
 -- names, each with the outcome of its binding
 abbrev pub bound : List (List ℕ) → List Evaluated → List (List ℕ × Evaluated)
@@ -30,6 +30,6 @@ or_outer None outer = outer
 
 -- What a name represents: in the innermost `let` that has it. An expression that was read asks for no other
 -- name.
-abbrev pub named : Names → List ℕ → Evaluated
+abbrev pub named : BoundOutcomes → List ℕ → Evaluated
 named [] asked = Err WrongType
 named (bs ∷ outer) asked = or_outer (last_named bs asked) (named outer asked)

@@ -5,7 +5,7 @@ use Rattle.prop_values.specs.Data.{Data, number, text, color, list, items_of}
 use Rattle.prop_values.specs.View.{value_of}
 use Rattle.prop_values.specs.declared.fault.EvalFault.{EvalFault}
 use Rattle.prop_values.specs.declared.fault.EvalFault.TheVariants.{WrongType}
-use Rattle.expr_syntax.specs.declared.parts.Piece.{Piece}
+use Rattle.expr_syntax.specs.declared.parts.FormatPiece.{FormatPiece}
 use Rattle.expr_syntax.specs.declared.parts.Role.{Role}
 use Rattle.expr_syntax.specs.declared.parts.Role.TheVariants.{Content, Scale, Font, Color}
 use Rattle.format_text.specs.Sections.{section_with, section_of}
@@ -29,7 +29,7 @@ abbrev pub then_open : Result Open EvalFault → (Open → Result Open EvalFault
 then_open (Ok sections) go = go sections
 then_open (Err fault) go = Err fault
 
-abbrev pub add_pieces : List Piece → List Data → Open → Result Open EvalFault
+abbrev pub add_pieces : List FormatPiece → List Data → Open → Result Open EvalFault
 add_pieces (p ∷ ps) (d ∷ ds) sections = then_open (add_piece p.role d sections) (add_pieces ps ds)
 add_pieces _ _ sections = Ok sections
 
@@ -39,6 +39,6 @@ closed (Ok (before, current)) = Ok (list (items_of (before ++ section_of current
 closed (Err fault) = Err fault
 
 -- the first argument is a content
-abbrev pub format_of : List Piece → List Data → Evaluated
+abbrev pub format_of : List FormatPiece → List Data → Evaluated
 format_of (p ∷ ps) (text s ∷ ds) = closed (add_pieces ps ds ([], section_with s))
 format_of _ _ = Err WrongType

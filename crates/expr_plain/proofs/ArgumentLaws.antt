@@ -15,9 +15,9 @@ use Rattle.expr_syntax.specs.declared.expression.Expr.{Expr}
 use Rattle.expr_syntax.specs.declared.expression.Operator.{Operator}
 use Rattle.halts.specs.declared.halt.Halt.{Halt}
 use Rattle.halts.specs.declared.halt.Halt.TheVariants.{Fault, NoMemory}
-use Rattle.operator_values.specs.Evaluated.{Evaluated, Gives, then_value}
+use Rattle.operator_values.specs.Evaluated.{Evaluated, GivesValue, then_value}
 use Rattle.eval_face.specs.World.{World}
-use Rattle.eval_face.specs.Names.{Names}
+use Rattle.eval_face.specs.Names.{BoundOutcomes}
 use Rattle.eval_face.specs.Branches.{the_output}
 use Rattle.eval_face.specs.Decisions.{first_of, or_later}
 use Rattle.eval_face.specs.Meanings.{Meaning, values_of, and_values, then_values, looked_at, is_sequence, as_sequence}
@@ -42,7 +42,7 @@ meaning_at (x ∷ es) zero e p h = ap (λ y. Some (mean (term_of y))) (sym p)
 meaning_at (x ∷ es) (suc k) e p h = meaning_at es k e p (omega arith)
 
 -- an argument by its expression
-pub argument_here : (op : Operator) (es : List Expr) (k : ℕ) (e : Expr) (own want : Want) (names : Names) (world : World) → e ≡ get_or es k e → k < length es → own ≡ want_of (wanted_by op (length es) k) want → looked_at (is_sequence (row (operator_name op)).sequence k) (mean (term_of e) own names world) ≡ argument_at op (meanings es) k want names world
+pub argument_here : (op : Operator) (es : List Expr) (k : ℕ) (e : Expr) (own want : Want) (names : BoundOutcomes) (world : World) → e ≡ get_or es k e → k < length es → own ≡ want_of (wanted_by op (length es) k) want → looked_at (is_sequence (row (operator_name op)).sequence k) (mean (term_of e) own names world) ≡ argument_at op (meanings es) k want names world
 argument_here op es k e own want names world p h w =
     let looked = λ (a : Evaluated). looked_at (is_sequence (row (operator_name op)).sequence k) a in
     let meant = λ (a : Option Meaning) (n : ℕ). looked (the_output a (want_of (wanted_by op n k) want) names world) in
@@ -64,13 +64,13 @@ after ds (Ok es) = Ok (ds ++ es)
 after ds (Err fault) = Err fault
 
 -- the values from place k on
-abbrev pub values_from : Operator → List Meaning → ℕ → Want → Names → World → Result (List Data) EvalFault
+abbrev pub values_from : Operator → List Meaning → ℕ → Want → BoundOutcomes → World → Result (List Data) EvalFault
 values_from op ms k want names world = values_of op (length ms) k (drop k ms) want names world
 
-pub values_next : (op : Operator) (ms : List Meaning) (k : ℕ) (want : Want) (names : Names) (world : World) → k < length ms → values_from op ms k want names world ≡ and_values (argument_at op ms k want names world) (values_from op ms (k + 1) want names world)
+pub values_next : (op : Operator) (ms : List Meaning) (k : ℕ) (want : Want) (names : BoundOutcomes) (world : World) → k < length ms → values_from op ms k want names world ≡ and_values (argument_at op ms k want names world) (values_from op ms (k + 1) want names world)
 values_next op ms k want names world h = ap (λ xs. values_of op (length ms) k xs want names world) (drop_at ms k h)
 
-pub no_values : (op : Operator) (ms : List Meaning) (k : ℕ) (want : Want) (names : Names) (world : World) → length ms ≤ k → values_from op ms k want names world ≡ Ok []
+pub no_values : (op : Operator) (ms : List Meaning) (k : ℕ) (want : Want) (names : BoundOutcomes) (world : World) → length ms ≤ k → values_from op ms k want names world ≡ Ok []
 no_values op ms k want names world h = ap (λ xs. values_of op (length ms) k xs want names world) (drop_all k ms h)
 
 one_then : (a : Evaluated) (rest : Result (List Data) EvalFault) (go : List Data → Evaluated) → rest ≡ Ok [] → then_values (and_values a rest) go ≡ then_value a (λ d. go (d ∷ []))
@@ -87,12 +87,12 @@ abbrev pub made_of : Operator → Want → World → List Data → Evaluated
 made_of op want world ds = then_value (applied_by (rule_of op) world ds) (fit want)
 
 -- a node of one argument, and of two, by the values of its arguments
-each_one : (op : Operator) (ms : List Meaning) (want : Want) (names : Names) (world : World) → length ms ≡ 1 → then_value (argument_at op ms 0 want names world) (λ d. made_of op want world (d ∷ [])) ≡ each_of op ms want names world
+each_one : (op : Operator) (ms : List Meaning) (want : Want) (names : BoundOutcomes) (world : World) → length ms ≡ 1 → then_value (argument_at op ms 0 want names world) (λ d. made_of op want world (d ∷ [])) ≡ each_of op ms want names world
 each_one op ms want names world h =
     sym (ap (λ r. then_values r (made_of op want world)) (values_next op ms 0 want names world (omega arith))
     ∙ one_then (argument_at op ms 0 want names world) (values_from op ms 1 want names world) (made_of op want world) (no_values op ms 1 want names world (omega arith)))
 
-each_two : (op : Operator) (ms : List Meaning) (want : Want) (names : Names) (world : World) → length ms ≡ 2 → then_value (argument_at op ms 0 want names world) (λ d. then_value (argument_at op ms 1 want names world) (λ e. made_of op want world (d ∷ e ∷ []))) ≡ each_of op ms want names world
+each_two : (op : Operator) (ms : List Meaning) (want : Want) (names : BoundOutcomes) (world : World) → length ms ≡ 2 → then_value (argument_at op ms 0 want names world) (λ d. then_value (argument_at op ms 1 want names world) (λ e. made_of op want world (d ∷ e ∷ []))) ≡ each_of op ms want names world
 each_two op ms want names world h =
     let first = argument_at op ms 0 want names world in
     let second = argument_at op ms 1 want names world in
@@ -100,11 +100,11 @@ each_two op ms want names world h =
     ∙ (ap (λ r. then_values (and_values first r) (made_of op want world)) (values_next op ms 1 want names world (omega arith))
     ∙ two_then first second (values_from op ms 2 want names world) (made_of op want world) (no_values op ms 2 want names world (omega arith))))
 
-pub one_given : (op : Operator) (es : List Expr) (want : Want) (names : Names) (world : World) (d : Data) → length es ≡ 1 → argument_at op (meanings es) 0 want names world ≡ Ok d → made_of op want world (d ∷ []) ≡ each_of op (meanings es) want names world
+pub one_given : (op : Operator) (es : List Expr) (want : Want) (names : BoundOutcomes) (world : World) (d : Data) → length es ≡ 1 → argument_at op (meanings es) 0 want names world ≡ Ok d → made_of op want world (d ∷ []) ≡ each_of op (meanings es) want names world
 one_given op es want names world d h a =
     ap (λ x. then_value x (λ y. made_of op want world (y ∷ []))) (sym a) ∙ each_one op (meanings es) want names world (meanings_length es ∙ h)
 
-pub two_given : (op : Operator) (es : List Expr) (want : Want) (names : Names) (world : World) (d e : Data) → length es ≡ 2 → argument_at op (meanings es) 0 want names world ≡ Ok d → argument_at op (meanings es) 1 want names world ≡ Ok e → made_of op want world (d ∷ e ∷ []) ≡ each_of op (meanings es) want names world
+pub two_given : (op : Operator) (es : List Expr) (want : Want) (names : BoundOutcomes) (world : World) (d e : Data) → length es ≡ 2 → argument_at op (meanings es) 0 want names world ≡ Ok d → argument_at op (meanings es) 1 want names world ≡ Ok e → made_of op want world (d ∷ e ∷ []) ≡ each_of op (meanings es) want names world
 two_given op es want names world d e h a b =
     let second = argument_at op (meanings es) 1 want names world in
     ap (λ x. then_value x (λ z. made_of op want world (d ∷ z ∷ []))) (sym b)
@@ -112,21 +112,21 @@ two_given op es want names world d e h a b =
     ∙ each_two op (meanings es) want names world (meanings_length es ∙ h))
 
 -- or by the argument that halts
-pub one_halted : (h : Halt EvalFault) (op : Operator) (es : List Expr) (want : Want) (names : Names) (world : World) → length es ≡ 1 → Gives (Err h) (argument_at op (meanings es) 0 want names world) → Gives (Err h) (each_of op (meanings es) want names world)
+pub one_halted : (h : Halt EvalFault) (op : Operator) (es : List Expr) (want : Want) (names : BoundOutcomes) (world : World) → length es ≡ 1 → GivesValue (Err h) (argument_at op (meanings es) 0 want names world) → GivesValue (Err h) (each_of op (meanings es) want names world)
 one_halted h op es want names world l g =
-    subst (Gives (Err h)) (each_one op (meanings es) want names world (meanings_length es ∙ l))
+    subst (GivesValue (Err h)) (each_one op (meanings es) want names world (meanings_length es ∙ l))
     (then_halted h (argument_at op (meanings es) 0 want names world) (λ d. made_of op want world (d ∷ [])) g)
 
-pub two_halted : (h : Halt EvalFault) (op : Operator) (es : List Expr) (want : Want) (names : Names) (world : World) → length es ≡ 2 → Gives (Err h) (argument_at op (meanings es) 0 want names world) → Gives (Err h) (each_of op (meanings es) want names world)
+pub two_halted : (h : Halt EvalFault) (op : Operator) (es : List Expr) (want : Want) (names : BoundOutcomes) (world : World) → length es ≡ 2 → GivesValue (Err h) (argument_at op (meanings es) 0 want names world) → GivesValue (Err h) (each_of op (meanings es) want names world)
 two_halted h op es want names world l g =
     let second = argument_at op (meanings es) 1 want names world in
-    subst (Gives (Err h)) (each_two op (meanings es) want names world (meanings_length es ∙ l))
+    subst (GivesValue (Err h)) (each_two op (meanings es) want names world (meanings_length es ∙ l))
     (then_halted h (argument_at op (meanings es) 0 want names world) (λ d. then_value second (λ e. made_of op want world (d ∷ e ∷ []))) g)
 
-pub second_halted : (h : Halt EvalFault) (op : Operator) (es : List Expr) (want : Want) (names : Names) (world : World) (d : Data) → length es ≡ 2 → argument_at op (meanings es) 0 want names world ≡ Ok d → Gives (Err h) (argument_at op (meanings es) 1 want names world) → Gives (Err h) (each_of op (meanings es) want names world)
+pub second_halted : (h : Halt EvalFault) (op : Operator) (es : List Expr) (want : Want) (names : BoundOutcomes) (world : World) (d : Data) → length es ≡ 2 → argument_at op (meanings es) 0 want names world ≡ Ok d → GivesValue (Err h) (argument_at op (meanings es) 1 want names world) → GivesValue (Err h) (each_of op (meanings es) want names world)
 second_halted h op es want names world d l a g =
     let second = argument_at op (meanings es) 1 want names world in
-    subst (Gives (Err h))
+    subst (GivesValue (Err h))
     (ap (λ x. then_value x (λ y. then_value second (λ e. made_of op want world (y ∷ e ∷ [])))) (sym a) ∙ each_two op (meanings es) want names world (meanings_length es ∙ l))
     (then_halted h second (λ e. made_of op want world (d ∷ e ∷ [])) g)
 
@@ -148,7 +148,7 @@ added_one old vs v b = ap values_view (drop-append-le (length old) vs (v ∷ [])
 pub below_one : (old vs : List Value) (v : Value) → IsBelow old vs → IsBelow old (vs ++ v ∷ [])
 below_one old vs v b = take-append-le (length old) vs (v ∷ []) (below_length old vs b) ∙ b
 
-pub values_more : (op : Operator) (ms : List Meaning) (k : ℕ) (want : Want) (names : Names) (world : World) (old vs : List Value) (v : Value) (whole : Result (List Data) EvalFault) → k < length ms → IsBelow old vs → after (added old vs) (values_from op ms k want names world) ≡ whole → argument_at op ms k want names world ≡ Ok (data_of v) → after (added old (vs ++ v ∷ [])) (values_from op ms (k + 1) want names world) ≡ whole
+pub values_more : (op : Operator) (ms : List Meaning) (k : ℕ) (want : Want) (names : BoundOutcomes) (world : World) (old vs : List Value) (v : Value) (whole : Result (List Data) EvalFault) → k < length ms → IsBelow old vs → after (added old vs) (values_from op ms k want names world) ≡ whole → argument_at op ms k want names world ≡ Ok (data_of v) → after (added old (vs ++ v ∷ [])) (values_from op ms (k + 1) want names world) ≡ whole
 values_more op ms k want names world old vs v whole h b q a =
     let rest = values_from op ms (k + 1) want names world in
     ap (λ ds. after ds rest) (added_one old vs v b)
@@ -157,68 +157,68 @@ values_more op ms k want names world old vs v whole h b q a =
     ∙ (ap (after (added old vs)) (sym (values_next op ms k want names world h)) ∙ q)))
 
 -- all values, where none is left
-pub all_values : (op : Operator) (ms : List Meaning) (k : ℕ) (want : Want) (names : Names) (world : World) (ds : List Data) (whole : Result (List Data) EvalFault) → length ms ≤ k → after ds (values_from op ms k want names world) ≡ whole → whole ≡ Ok ds
+pub all_values : (op : Operator) (ms : List Meaning) (k : ℕ) (want : Want) (names : BoundOutcomes) (world : World) (ds : List Data) (whole : Result (List Data) EvalFault) → length ms ≤ k → after ds (values_from op ms k want names world) ≡ whole → whole ≡ Ok ds
 all_values op ms k want names world ds whole h q = sym q ∙ (ap (after ds) (no_values op ms k want names world h) ∙ ap Ok (append-nil ds))
 
 -- the values end at an argument that halts
-end_halted : (h : Halt EvalFault) (ds : List Data) (a : Evaluated) (rest whole : Result (List Data) EvalFault) → after ds (and_values a rest) ≡ whole → Gives (Err h) a → EndsAll h whole
+end_halted : (h : Halt EvalFault) (ds : List Data) (a : Evaluated) (rest whole : Result (List Data) EvalFault) → after ds (and_values a rest) ≡ whole → GivesValue (Err h) a → EndsAll h whole
 end_halted (Fault f) ds a rest whole q g = sym q ∙ ap (λ x. after ds (and_values x rest)) g
 end_halted NoMemory ds a rest whole q g = tt
 
-values_halted_at : (h : Halt EvalFault) (op : Operator) (ms : List Meaning) (k : ℕ) (want : Want) (names : Names) (world : World) (ds : List Data) (whole : Result (List Data) EvalFault) → k < length ms → after ds (values_from op ms k want names world) ≡ whole → Gives (Err h) (argument_at op ms k want names world) → EndsAll h whole
+values_halted_at : (h : Halt EvalFault) (op : Operator) (ms : List Meaning) (k : ℕ) (want : Want) (names : BoundOutcomes) (world : World) (ds : List Data) (whole : Result (List Data) EvalFault) → k < length ms → after ds (values_from op ms k want names world) ≡ whole → GivesValue (Err h) (argument_at op ms k want names world) → EndsAll h whole
 values_halted_at h op ms k want names world ds whole l q g =
     end_halted h ds (argument_at op ms k want names world) (values_from op ms (k + 1) want names world) whole (ap (after ds) (sym (values_next op ms k want names world l)) ∙ q) g
 
 -- ---- operators that stop at the argument that decides
 
 -- what the first that decides gives, from place k on
-abbrev pub decision_from : Operator → List Meaning → ℕ → Want → Names → World → Evaluated
+abbrev pub decision_from : Operator → List Meaning → ℕ → Want → BoundOutcomes → World → Evaluated
 decision_from op ms k want names world =
     first_of (decided_by (rule_of op)) (undecided_by (rule_of op)) op (length ms) k (drop k ms) want names world
 
-decision_next : (op : Operator) (ms : List Meaning) (k : ℕ) (want : Want) (names : Names) (world : World) → k < length ms → decision_from op ms k want names world ≡ then_value (argument_at op ms k want names world) (λ d. or_later (decided_by (rule_of op) d) (decision_from op ms (k + 1) want names world))
+decision_next : (op : Operator) (ms : List Meaning) (k : ℕ) (want : Want) (names : BoundOutcomes) (world : World) → k < length ms → decision_from op ms k want names world ≡ then_value (argument_at op ms k want names world) (λ d. or_later (decided_by (rule_of op) d) (decision_from op ms (k + 1) want names world))
 decision_next op ms k want names world h =
     ap (λ xs. first_of (decided_by (rule_of op)) (undecided_by (rule_of op)) op (length ms) k xs want names world) (drop_at ms k h)
 
 -- an argument that halts, one that decides, and one that does not
-pub decision_halted : (h : Halt EvalFault) (op : Operator) (ms : List Meaning) (k : ℕ) (want : Want) (names : Names) (world : World) → k < length ms → decision_from op ms k want names world ≡ decision_from op ms 0 want names world → Gives (Err h) (argument_at op ms k want names world) → Gives (Err h) (deciding_of op ms want names world)
+pub decision_halted : (h : Halt EvalFault) (op : Operator) (ms : List Meaning) (k : ℕ) (want : Want) (names : BoundOutcomes) (world : World) → k < length ms → decision_from op ms k want names world ≡ decision_from op ms 0 want names world → GivesValue (Err h) (argument_at op ms k want names world) → GivesValue (Err h) (deciding_of op ms want names world)
 decision_halted h op ms k want names world l q g =
     let later = λ (d : Data). or_later (decided_by (rule_of op) d) (decision_from op ms (k + 1) want names world) in
-    subst (λ (a : Evaluated). Gives (Err h) (then_value a (fit want))) (sym (decision_next op ms k want names world l) ∙ q)
+    subst (λ (a : Evaluated). GivesValue (Err h) (then_value a (fit want))) (sym (decision_next op ms k want names world l) ∙ q)
     (then_halted h (then_value (argument_at op ms k want names world) later) (fit want) (then_halted h (argument_at op ms k want names world) later g))
 
-decision_with : (op : Operator) (ms : List Meaning) (k : ℕ) (want : Want) (names : Names) (world : World) (d : Data) → k < length ms → argument_at op ms k want names world ≡ Ok d → decision_from op ms k want names world ≡ or_later (decided_by (rule_of op) d) (decision_from op ms (k + 1) want names world)
+decision_with : (op : Operator) (ms : List Meaning) (k : ℕ) (want : Want) (names : BoundOutcomes) (world : World) (d : Data) → k < length ms → argument_at op ms k want names world ≡ Ok d → decision_from op ms k want names world ≡ or_later (decided_by (rule_of op) d) (decision_from op ms (k + 1) want names world)
 decision_with op ms k want names world d l a =
     let later = decision_from op ms (k + 1) want names world in
     decision_next op ms k want names world l ∙ ap (λ x. then_value x (λ y. or_later (decided_by (rule_of op) y) later)) a
 
-pub decision_found : (op : Operator) (ms : List Meaning) (k : ℕ) (want : Want) (names : Names) (world : World) (d found : Data) → k < length ms → decision_from op ms k want names world ≡ decision_from op ms 0 want names world → argument_at op ms k want names world ≡ Ok d → decided_by (rule_of op) d ≡ Some found → fit want found ≡ deciding_of op ms want names world
+pub decision_found : (op : Operator) (ms : List Meaning) (k : ℕ) (want : Want) (names : BoundOutcomes) (world : World) (d found : Data) → k < length ms → decision_from op ms k want names world ≡ decision_from op ms 0 want names world → argument_at op ms k want names world ≡ Ok d → decided_by (rule_of op) d ≡ Some found → fit want found ≡ deciding_of op ms want names world
 decision_found op ms k want names world d found l q a e =
     let later = decision_from op ms (k + 1) want names world in
     ap (λ x. then_value x (fit want)) (sym (ap (λ o. or_later o later) e) ∙ (sym (decision_with op ms k want names world d l a) ∙ q))
 
-pub decision_later : (op : Operator) (ms : List Meaning) (k : ℕ) (want : Want) (names : Names) (world : World) (d : Data) → k < length ms → decision_from op ms k want names world ≡ decision_from op ms 0 want names world → argument_at op ms k want names world ≡ Ok d → decided_by (rule_of op) d ≡ None → decision_from op ms (k + 1) want names world ≡ decision_from op ms 0 want names world
+pub decision_later : (op : Operator) (ms : List Meaning) (k : ℕ) (want : Want) (names : BoundOutcomes) (world : World) (d : Data) → k < length ms → decision_from op ms k want names world ≡ decision_from op ms 0 want names world → argument_at op ms k want names world ≡ Ok d → decided_by (rule_of op) d ≡ None → decision_from op ms (k + 1) want names world ≡ decision_from op ms 0 want names world
 decision_later op ms k want names world d l q a e =
     let later = decision_from op ms (k + 1) want names world in
     sym (ap (λ o. or_later o later) e) ∙ (sym (decision_with op ms k want names world d l a) ∙ q)
 
-pub undecided : (op : Operator) (ms : List Meaning) (k : ℕ) (want : Want) (names : Names) (world : World) → length ms ≤ k → decision_from op ms k want names world ≡ decision_from op ms 0 want names world → then_value (undecided_by (rule_of op)) (fit want) ≡ deciding_of op ms want names world
+pub undecided : (op : Operator) (ms : List Meaning) (k : ℕ) (want : Want) (names : BoundOutcomes) (world : World) → length ms ≤ k → decision_from op ms k want names world ≡ decision_from op ms 0 want names world → then_value (undecided_by (rule_of op)) (fit want) ≡ deciding_of op ms want names world
 undecided op ms k want names world l q =
     ap (λ x. then_value x (fit want)) (sym (ap (λ xs. first_of (decided_by (rule_of op)) (undecided_by (rule_of op)) op (length ms) k xs want names world) (drop_all k ms l)) ∙ q)
 
 -- ---- what is given of evaluated arguments
 
-pub one_evaluates : {r : Result Value (Halt EvalFault)} {v : Value} (op : Operator) (es : List Expr) {want : Want} {frames : Frames} {world : World} {a : Evaluation} {b : Evaluation} → length es ≡ 1 → Evaluates (Ok v) (argument_at op (meanings es) 0) want frames world a b → Gives r (made_of op want world (data_of v ∷ [])) → Evaluates r (each_of op (meanings es)) want frames world a b
+pub one_evaluates : {r : Result Value (Halt EvalFault)} {v : Value} (op : Operator) (es : List Expr) {want : Want} {frames : Frames} {world : World} {a : Evaluation} {b : Evaluation} → length es ≡ 1 → Evaluates (Ok v) (argument_at op (meanings es) 0) want frames world a b → GivesValue r (made_of op want world (data_of v ∷ [])) → Evaluates r (each_of op (meanings es)) want frames world a b
 one_evaluates {r} {v} op es {want} {frames} {world} l h g =
-    given (subst (Gives r) (one_given op es want (names_of frames.scope.now world) world (data_of v) l h.meant) g) h.entered h.stands
+    given (subst (GivesValue r) (one_given op es want (names_of frames.scope.now world) world (data_of v) l h.meant) g) h.entered h.stands
 
 pub one_halts : {r : Result Value (Halt EvalFault)} {h : (Halt EvalFault)} (op : Operator) (es : List Expr) {want : Want} {frames : Frames} {world : World} {a : Evaluation} {b : Evaluation} {c : Evaluation} {d : Evaluation} → length es ≡ 1 → Evaluates (Err h) (argument_at op (meanings es) 0) want frames world a b → IsErrAnd r (λ y. y ≡ h) → Evaluates r (each_of op (meanings es)) want frames world c d
 one_halts {r} {h} op es {want} {frames} {world} l e k =
     halted _ k (one_halted h op es want (names_of frames.scope.now world) world l e.meant)
 
-pub two_evaluate : {r : Result Value (Halt EvalFault)} {v : Value} {w : Value} (op : Operator) (es : List Expr) {want : Want} {frames : Frames} {world : World} {a : Evaluation} {b : Evaluation} {c : Evaluation} → length es ≡ 2 → Evaluates (Ok v) (argument_at op (meanings es) 0) want frames world a b → Evaluates (Ok w) (argument_at op (meanings es) 1) want frames world b c → Gives r (made_of op want world (data_of v ∷ data_of w ∷ [])) → Evaluates r (each_of op (meanings es)) want frames world a c
+pub two_evaluate : {r : Result Value (Halt EvalFault)} {v : Value} {w : Value} (op : Operator) (es : List Expr) {want : Want} {frames : Frames} {world : World} {a : Evaluation} {b : Evaluation} {c : Evaluation} → length es ≡ 2 → Evaluates (Ok v) (argument_at op (meanings es) 0) want frames world a b → Evaluates (Ok w) (argument_at op (meanings es) 1) want frames world b c → GivesValue r (made_of op want world (data_of v ∷ data_of w ∷ [])) → Evaluates r (each_of op (meanings es)) want frames world a c
 two_evaluate {r} {v} {w} op es {want} {frames} {world} l h i g =
-    given (subst (Gives r) (two_given op es want (names_of frames.scope.now world) world (data_of v) (data_of w) l h.meant i.meant) g) i.entered (i.stands ∙ h.stands)
+    given (subst (GivesValue r) (two_given op es want (names_of frames.scope.now world) world (data_of v) (data_of w) l h.meant i.meant) g) i.entered (i.stands ∙ h.stands)
 
 pub first_halts : {r : Result Value (Halt EvalFault)} {h : (Halt EvalFault)} (op : Operator) (es : List Expr) {want : Want} {frames : Frames} {world : World} {a : Evaluation} {b : Evaluation} {c : Evaluation} {d : Evaluation} → length es ≡ 2 → Evaluates (Err h) (argument_at op (meanings es) 0) want frames world a b → IsErrAnd r (λ y. y ≡ h) → Evaluates r (each_of op (meanings es)) want frames world c d
 first_halts {r} {h} op es {want} {frames} {world} l e k =
@@ -244,23 +244,23 @@ argument_evaluates {r} op es {k} {e} {own} {want} {frames} {world} p l w s h =
     as_meant (ap (λ (x : Bool). looked_at x (mean (term_of e) own names world)) s ∙ argument_here op es k e own want names world p l w) refl h
 
 -- what is made of the value of an argument that has to be a text or a list
-looked : (op : Operator) (es : List Expr) {k : ℕ} {e : Expr} {own : Want} (want : Want) (names : Names) (world : World) (v : Value) → e ≡ get_or es k e → k < length es → own ≡ want_of (wanted_by op (length es) k) want → true ≡ is_sequence (row (operator_name op)).sequence k → mean (term_of e) own names world ≡ Ok (data_of v) → as_sequence (data_of v) ≡ argument_at op (meanings es) k want names world
+looked : (op : Operator) (es : List Expr) {k : ℕ} {e : Expr} {own : Want} (want : Want) (names : BoundOutcomes) (world : World) (v : Value) → e ≡ get_or es k e → k < length es → own ≡ want_of (wanted_by op (length es) k) want → true ≡ is_sequence (row (operator_name op)).sequence k → mean (term_of e) own names world ≡ Ok (data_of v) → as_sequence (data_of v) ≡ argument_at op (meanings es) k want names world
 looked op es {k} {e} {own} want names world v p l w s m =
     ap (λ x. then_value x as_sequence) (sym m)
     ∙ (ap (λ (x : Bool). looked_at x (mean (term_of e) own names world)) s ∙ argument_here op es k e own want names world p l w)
 
-pub sequence_evaluates : {r : Result Value (Halt EvalFault)} {v : Value} (op : Operator) (es : List Expr) {k : ℕ} {e : Expr} {own : Want} {want : Want} {frames : Frames} {world : World} {a : Evaluation} {b : Evaluation} → e ≡ get_or es k e → k < length es → own ≡ want_of (wanted_by op (length es) k) want → true ≡ is_sequence (row (operator_name op)).sequence k → Evaluates (Ok v) (mean (term_of e)) own frames world a b → Gives r (as_sequence (data_of v)) → Evaluates r (argument_at op (meanings es) k) want frames world a b
-sequence_evaluates {r} op es {want = want} {frames} {world} p l w s h g = given (subst (Gives r) (looked op es want (names_of frames.scope.now world) world _ p l w s h.meant) g) h.entered h.stands
+pub sequence_evaluates : {r : Result Value (Halt EvalFault)} {v : Value} (op : Operator) (es : List Expr) {k : ℕ} {e : Expr} {own : Want} {want : Want} {frames : Frames} {world : World} {a : Evaluation} {b : Evaluation} → e ≡ get_or es k e → k < length es → own ≡ want_of (wanted_by op (length es) k) want → true ≡ is_sequence (row (operator_name op)).sequence k → Evaluates (Ok v) (mean (term_of e)) own frames world a b → GivesValue r (as_sequence (data_of v)) → Evaluates r (argument_at op (meanings es) k) want frames world a b
+sequence_evaluates {r} op es {want = want} {frames} {world} p l w s h g = given (subst (GivesValue r) (looked op es want (names_of frames.scope.now world) world _ p l w s h.meant) g) h.entered h.stands
 
 pub sequence_halts : {r : Result Value (Halt EvalFault)} {h : (Halt EvalFault)} (op : Operator) (es : List Expr) {k : ℕ} {e : Expr} {own : Want} {want : Want} {frames : Frames} {world : World} {a : Evaluation} {b : Evaluation} {c : Evaluation} {d : Evaluation} → e ≡ get_or es k e → k < length es → own ≡ want_of (wanted_by op (length es) k) want → true ≡ is_sequence (row (operator_name op)).sequence k → Evaluates (Err h) (mean (term_of e)) own frames world a b → IsErrAnd r (λ y. y ≡ h) → Evaluates r (argument_at op (meanings es) k) want frames world c d
 sequence_halts {r} {h} op es {k} {e} {own} {want} {frames} {world} p l w s i q =
     let names = names_of frames.scope.now world in
-    halted _ q (subst (Gives (Err h)) (ap (λ (x : Bool). looked_at x (mean (term_of e) own names world)) s ∙ argument_here op es k e own want names world p l w) (then_halted h (mean (term_of e) own names world) as_sequence i.meant))
+    halted _ q (subst (GivesValue (Err h)) (ap (λ (x : Bool). looked_at x (mean (term_of e) own names world)) s ∙ argument_here op es k e own want names world p l w) (then_halted h (mean (term_of e) own names world) as_sequence i.meant))
 
 -- the first that decides
-pub deciding_evaluates : {r : Result Value (Halt EvalFault)} {v : Value} (found : Value) (op : Operator) (ms : List Meaning) {k : ℕ} {want : Want} {frames : Frames} {world : World} {a : Evaluation} {b : Evaluation} {c : Evaluation} → k < length ms → meant_in (decision_from op ms k) want frames world ≡ meant_in (decision_from op ms 0) want frames world → b.values.items ≡ a.values.items → Evaluates (Ok v) (argument_at op ms k) want frames world b c → Some (data_of found) ≡ decided_by (rule_of op) (data_of v) → Gives r (fit want (data_of found)) → Evaluates r (deciding_of op ms) want frames world a c
+pub deciding_evaluates : {r : Result Value (Halt EvalFault)} {v : Value} (found : Value) (op : Operator) (ms : List Meaning) {k : ℕ} {want : Want} {frames : Frames} {world : World} {a : Evaluation} {b : Evaluation} {c : Evaluation} → k < length ms → meant_in (decision_from op ms k) want frames world ≡ meant_in (decision_from op ms 0) want frames world → b.values.items ≡ a.values.items → Evaluates (Ok v) (argument_at op ms k) want frames world b c → Some (data_of found) ≡ decided_by (rule_of op) (data_of v) → GivesValue r (fit want (data_of found)) → Evaluates r (deciding_of op ms) want frames world a c
 deciding_evaluates {r} {v} found op ms {k} {want} {frames} {world} l q s h d g =
-    given (subst (Gives r) (decision_found op ms k want (names_of frames.scope.now world) world (data_of v) (data_of found) l q h.meant (sym d)) g) h.entered (h.stands ∙ s)
+    given (subst (GivesValue r) (decision_found op ms k want (names_of frames.scope.now world) world (data_of v) (data_of found) l q h.meant (sym d)) g) h.entered (h.stands ∙ s)
 
 pub deciding_halts : {r : Result Value (Halt EvalFault)} {h : (Halt EvalFault)} (op : Operator) (ms : List Meaning) {k : ℕ} {want : Want} {frames : Frames} {world : World} {a : Evaluation} {b : Evaluation} {c : Evaluation} {d : Evaluation} → k < length ms → meant_in (decision_from op ms k) want frames world ≡ meant_in (decision_from op ms 0) want frames world → Evaluates (Err h) (argument_at op ms k) want frames world a b → IsErrAnd r (λ y. y ≡ h) → Evaluates r (deciding_of op ms) want frames world c d
 deciding_halts {r} {h} op ms {k} {want} {frames} {world} l q e p =

@@ -20,9 +20,9 @@ use Rattle.expr_syntax.specs.TermView.{term_of}
 use Rattle.expr_syntax.specs.TermView.{weight}
 use Rattle.halts.specs.declared.halt.Halt.{Halt}
 use Rattle.operator_values.specs.Arithmetic.{then_number}
-use Rattle.operator_values.specs.Evaluated.{Evaluated, Gives, then_value, or_fault}
+use Rattle.operator_values.specs.Evaluated.{Evaluated, GivesValue, then_value, or_fault}
 use Rattle.eval_face.specs.World.{World}
-use Rattle.eval_face.specs.Names.{Names}
+use Rattle.eval_face.specs.Names.{BoundOutcomes}
 use Rattle.eval_face.specs.Branches.{branch, case_of, output_at, match_of, with_number, ramp_of, ramp_at}
 use Rattle.eval_face.specs.Meaning.{mean}
 use Rattle.expr_plain.specs.Terms.{meanings, condition_in, number_in}
@@ -56,7 +56,7 @@ abbrev pub rest_of : List Expr → List Expr
 rest_of es = take (length es - 2) (drop 2 es)
 
 -- a `case` by its first condition
-case_first : (es : List Expr) (e f : Expr) (want : Want) (names : Names) (world : World) → e ≡ get_or es 0 e → f ≡ get_or es 1 f → 2 ≤ length es → case_of (meanings es) want names world ≡ branch (mean (term_of e) wants.Boolean names world) (mean (term_of f) want names world) (case_of (meanings (rest_of es)) want names world)
+case_first : (es : List Expr) (e f : Expr) (want : Want) (names : BoundOutcomes) (world : World) → e ≡ get_or es 0 e → f ≡ get_or es 1 f → 2 ≤ length es → case_of (meanings es) want names world ≡ branch (mean (term_of e) wants.Boolean names world) (mean (term_of f) want names world) (case_of (meanings (rest_of es)) want names world)
 case_first [] e f want names world p q h = absurd (omega arith)
 case_first (x ∷ []) e f want names world p q h = absurd (omega arith)
 case_first (x ∷ y ∷ es) e f want names world p q h =
@@ -64,7 +64,7 @@ case_first (x ∷ y ∷ es) e f want names world p q h =
     ∙ (ap (λ b. branch (mean (term_of e) wants.Boolean names world) (mean (term_of b) want names world) (case_of (meanings es) want names world)) (sym q)
     ∙ ap (λ zs. branch (mean (term_of e) wants.Boolean names world) (mean (term_of f) want names world) (case_of (meanings zs) want names world)) (sym (take_all (length (x ∷ y ∷ es) - 2) es (omega arith))))
 
-pub case_by : (es : List Expr) (e f : Expr) (want : Want) (names : Names) (world : World) (d : Data) (flag : Result Bool EvalFault) → e ≡ get_or es 0 e → f ≡ get_or es 1 f → 2 ≤ length es → mean (term_of e) wants.Boolean names world ≡ Ok d → flag ≡ condition_in d → by_flag flag (mean (term_of f) want names world) (case_of (meanings (rest_of es)) want names world) ≡ case_of (meanings es) want names world
+pub case_by : (es : List Expr) (e f : Expr) (want : Want) (names : BoundOutcomes) (world : World) (d : Data) (flag : Result Bool EvalFault) → e ≡ get_or es 0 e → f ≡ get_or es 1 f → 2 ≤ length es → mean (term_of e) wants.Boolean names world ≡ Ok d → flag ≡ condition_in d → by_flag flag (mean (term_of f) want names world) (case_of (meanings (rest_of es)) want names world) ≡ case_of (meanings es) want names world
 case_by es e f want names world d flag p q h m t =
     let rest = case_of (meanings (rest_of es)) want names world in
     let output = mean (term_of f) want names world in
@@ -79,12 +79,12 @@ rest_weight (x ∷ y ∷ es) h = rw (take_all (length (x ∷ y ∷ es) - 2) es (
 
 -- ---- outputs by their numbers
 
-pub output_here : (es : List Expr) (k : ℕ) (e : Expr) (want : Want) (names : Names) (world : World) → e ≡ get_or es k e → k < length es → mean (term_of e) want names world ≡ output_at (meanings es) k want names world
+pub output_here : (es : List Expr) (k : ℕ) (e : Expr) (want : Want) (names : BoundOutcomes) (world : World) → e ≡ get_or es k e → k < length es → mean (term_of e) want names world ≡ output_at (meanings es) k want names world
 output_here [] k e want names world p h = absurd (omega arith)
 output_here (x ∷ es) zero e want names world p h = ap (λ y. mean (term_of y) want names world) p
 output_here (x ∷ es) (suc k) e want names world p h = output_here es k e want names world p (omega arith)
 
-pub output_none : (es : List Expr) (k : ℕ) (want : Want) (names : Names) (world : World) → length es ≤ k → output_at (meanings es) k want names world ≡ Err WrongType
+pub output_none : (es : List Expr) (k : ℕ) (want : Want) (names : BoundOutcomes) (world : World) → length es ≤ k → output_at (meanings es) k want names world ≡ Err WrongType
 output_none [] k want names world h = refl
 output_none (x ∷ es) zero want names world h = absurd (omega arith)
 output_none (x ∷ es) (suc k) want names world h = output_none es k want names world (omega arith)
@@ -100,13 +100,13 @@ input_first (x ∷ es) e p h =
     ap (λ zs. mean (term_of e) ∷ meanings zs) (take_all (length (x ∷ es) - 1) es (omega arith))
     ∙ ap (λ a. mean (term_of a) ∷ meanings es) p
 
-pub match_first : (labels : List Labelled) (es : List Expr) (e : Expr) (want : Want) (names : Names) (world : World) → e ≡ get_or es 0 e → 1 ≤ length es → then_value (mean (term_of e) wants.Any names world) (λ d. output_at (meanings (outputs_in es)) (output_of labels d (length (outputs_in es) - 1)) want names world) ≡ match_of labels (meanings es) want names world
+pub match_first : (labels : List Labelled) (es : List Expr) (e : Expr) (want : Want) (names : BoundOutcomes) (world : World) → e ≡ get_or es 0 e → 1 ≤ length es → then_value (mean (term_of e) wants.Any names world) (λ d. output_at (meanings (outputs_in es)) (output_of labels d (length (outputs_in es) - 1)) want names world) ≡ match_of labels (meanings es) want names world
 match_first labels es e want names world p h =
     let outputs = outputs_in es in
     ap (λ n. then_value (mean (term_of e) wants.Any names world) (λ d. output_at (meanings outputs) (output_of labels d (n - 1)) want names world)) (sym (meanings_length outputs))
     ∙ ap (λ ms. match_of labels ms want names world) (input_first es e p h)
 
-pub match_with : (labels : List Labelled) (es : List Expr) (e : Expr) (want : Want) (names : Names) (world : World) (d : Data) (place : ℕ) → e ≡ get_or es 0 e → 1 ≤ length es → mean (term_of e) wants.Any names world ≡ Ok d → place ≡ output_of labels d (length (outputs_in es) - 1) → output_at (meanings (outputs_in es)) place want names world ≡ match_of labels (meanings es) want names world
+pub match_with : (labels : List Labelled) (es : List Expr) (e : Expr) (want : Want) (names : BoundOutcomes) (world : World) (d : Data) (place : ℕ) → e ≡ get_or es 0 e → 1 ≤ length es → mean (term_of e) wants.Any names world ≡ Ok d → place ≡ output_of labels d (length (outputs_in es) - 1) → output_at (meanings (outputs_in es)) place want names world ≡ match_of labels (meanings es) want names world
 match_with labels es e want names world d place p h m s =
     let outputs = outputs_in es in
     ap (λ (n : ℕ). output_at (meanings outputs) n want names world) s
@@ -133,19 +133,19 @@ number_with a d x go p q = ap (λ y. by_number y go) q ∙ (sym (number_by d go)
 -- ---- `interpolate`
 
 -- what is at an input that was moved, before it is fitted, and the ramp of a value
-abbrev pub output_in : List ℤ → List Expr → Want → Names → World → ℤ → Evaluated
+abbrev pub output_in : List ℤ → List Expr → Want → BoundOutcomes → World → ℤ → Evaluated
 output_in inputs es want names world x = ramp_at inputs (meanings (outputs_in es)) x (place_of inputs x) (ramp_want want) names world
 
 abbrev pub moved_to : Result ℤ EvalFault → (ℤ → Evaluated) → Want → Evaluated
 moved_to at output want = by_number at (λ x. then_value (output x) (fit want))
 
-abbrev pub ramp_from : Curve → List ℤ → List Expr → Want → Names → World → ℤ → Evaluated
+abbrev pub ramp_from : Curve → List ℤ → List Expr → Want → BoundOutcomes → World → ℤ → Evaluated
 ramp_from curve inputs es want names world v = then_number (warp_of curve inputs v) (λ x. then_value (output_in inputs es want names world x) (fit want))
 
-ramp_first : (curve : Curve) (inputs : List ℤ) (es : List Expr) (e : Expr) (want : Want) (names : Names) (world : World) → e ≡ get_or es 0 e → 1 ≤ length es → with_number (mean (term_of e) wants.Number names world) (ramp_from curve inputs es want names world) ≡ ramp_of curve inputs (meanings es) want names world
+ramp_first : (curve : Curve) (inputs : List ℤ) (es : List Expr) (e : Expr) (want : Want) (names : BoundOutcomes) (world : World) → e ≡ get_or es 0 e → 1 ≤ length es → with_number (mean (term_of e) wants.Number names world) (ramp_from curve inputs es want names world) ≡ ramp_of curve inputs (meanings es) want names world
 ramp_first curve inputs es e want names world p h = ap (λ ms. ramp_of curve inputs ms want names world) (input_first es e p h)
 
-pub ramp_with : (curve : Curve) (inputs : List ℤ) (es : List Expr) (e : Expr) (want : Want) (names : Names) (world : World) (d : Data) (x : Result ℤ EvalFault) → e ≡ get_or es 0 e → 1 ≤ length es → mean (term_of e) wants.Number names world ≡ Ok d → x ≡ number_in d → by_number x (ramp_from curve inputs es want names world) ≡ ramp_of curve inputs (meanings es) want names world
+pub ramp_with : (curve : Curve) (inputs : List ℤ) (es : List Expr) (e : Expr) (want : Want) (names : BoundOutcomes) (world : World) (d : Data) (x : Result ℤ EvalFault) → e ≡ get_or es 0 e → 1 ≤ length es → mean (term_of e) wants.Number names world ≡ Ok d → x ≡ number_in d → by_number x (ramp_from curve inputs es want names world) ≡ ramp_of curve inputs (meanings es) want names world
 ramp_with curve inputs es e want names world d x p h m n =
     number_with (mean (term_of e) wants.Number names world) d x (ramp_from curve inputs es want names world) m n ∙ ramp_first curve inputs es e want names world p h
 
@@ -154,7 +154,7 @@ moved_by (Ok z) go = refl
 moved_by (Err a) go = refl
 
 -- a ramp by the input that its curve moved
-pub ramp_moved : (curve : Curve) (inputs : List ℤ) (es : List Expr) (e : Expr) (want : Want) (names : Names) (world : World) (d : Data) (z : ℤ) (at : Result ℤ EvalFault) → e ≡ get_or es 0 e → 1 ≤ length es → mean (term_of e) wants.Number names world ≡ Ok d → Ok z ≡ number_in d → at ≡ or_fault (warp_of curve inputs z) → moved_to at (output_in inputs es want names world) want ≡ ramp_of curve inputs (meanings es) want names world
+pub ramp_moved : (curve : Curve) (inputs : List ℤ) (es : List Expr) (e : Expr) (want : Want) (names : BoundOutcomes) (world : World) (d : Data) (z : ℤ) (at : Result ℤ EvalFault) → e ≡ get_or es 0 e → 1 ≤ length es → mean (term_of e) wants.Number names world ≡ Ok d → Ok z ≡ number_in d → at ≡ or_fault (warp_of curve inputs z) → moved_to at (output_in inputs es want names world) want ≡ ramp_of curve inputs (meanings es) want names world
 ramp_moved curve inputs es e want names world d z at p h m n w =
     let go = λ (x : ℤ). then_value (output_in inputs es want names world x) (fit want) in
     ap (λ a. by_number a go) w
@@ -167,8 +167,8 @@ match_evaluates {v = v} labels es {e} {want} {frames} {world} {place = place} p 
     as_meant (match_with labels es e want (names_of frames.scope.now world) world (data_of v) place p l h.meant s) h.stands i
 
 -- the whole ramp, where what is at the input is evaluated
-pub ramp_evaluates : {r : Result Value (Halt EvalFault)} {v : Value} {w : Value} {z : ℤ} {x : ℤ} (curve : Curve) (inputs : List ℤ) (es : List Expr) {e : Expr} {want : Want} {own : Want} {frames : Frames} {world : World} {a : Evaluation} {b : Evaluation} {c : Evaluation} → e ≡ get_or es 0 e → 1 ≤ length es → Evaluates (Ok v) (mean (term_of e)) wants.Number frames world a b → Ok z ≡ number_in (data_of v) → Ok x ≡ or_fault (warp_of curve inputs z) → own ≡ ramp_want want → Evaluates (Ok w) (ramp_at inputs (meanings (outputs_in es)) x (place_of inputs x)) own frames world b c → Gives r (fit want (data_of w)) → Evaluates r (ramp_of curve inputs (meanings es)) want frames world a c
+pub ramp_evaluates : {r : Result Value (Halt EvalFault)} {v : Value} {w : Value} {z : ℤ} {x : ℤ} (curve : Curve) (inputs : List ℤ) (es : List Expr) {e : Expr} {want : Want} {own : Want} {frames : Frames} {world : World} {a : Evaluation} {b : Evaluation} {c : Evaluation} → e ≡ get_or es 0 e → 1 ≤ length es → Evaluates (Ok v) (mean (term_of e)) wants.Number frames world a b → Ok z ≡ number_in (data_of v) → Ok x ≡ or_fault (warp_of curve inputs z) → own ≡ ramp_want want → Evaluates (Ok w) (ramp_at inputs (meanings (outputs_in es)) x (place_of inputs x)) own frames world b c → GivesValue r (fit want (data_of w)) → Evaluates r (ramp_of curve inputs (meanings es)) want frames world a c
 ramp_evaluates {r} {v} {w} {z} {x} curve inputs es {e} {want} {own} {frames} {world} p l h n m o i g =
     let names = names_of frames.scope.now world in
     let at = ap (λ (y : Want). then_value (ramp_at inputs (meanings (outputs_in es)) x (place_of inputs x) y names world) (fit want)) o in
-    given (subst (Gives r) (ap (λ y. then_value y (fit want)) (sym i.meant) ∙ (at ∙ ramp_moved curve inputs es e want names world (data_of v) z (Ok x) p l h.meant n m)) g) i.entered (i.stands ∙ h.stands)
+    given (subst (GivesValue r) (ap (λ y. then_value y (fit want)) (sym i.meant) ∙ (at ∙ ramp_moved curve inputs es e want names world (data_of v) z (Ok x) p l h.meant n m)) g) i.entered (i.stands ∙ h.stands)

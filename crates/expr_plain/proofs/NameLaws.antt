@@ -14,13 +14,13 @@ use Rattle.expr_syntax.specs.Term.{nodes}
 use Rattle.expr_syntax.specs.TermView.{term_of}
 use Rattle.operator_values.specs.Evaluated.{Evaluated}
 use Rattle.eval_face.specs.World.{World}
-use Rattle.eval_face.specs.Names.{Names, bound, last_named, or_outer, named}
+use Rattle.eval_face.specs.Names.{BoundOutcomes, bound, last_named, or_outer, named}
 use Rattle.eval_face.specs.Bindings.{outcomes_of, body_of, let_of}
 use Rattle.eval_face.specs.Meaning.{mean}
 use Rattle.expr_plain.specs.Frames.{names_of, promise_of, scope_size, IsReady, IsNamed, Finds}
 use Rattle.expr_plain.specs.Terms.{meanings}
 use Rattle.expr_plain.specs.declared.frames.Binding.{Binding}
-use Rattle.expr_plain.specs.declared.frames.Scope.{Scope, Empty, Frame'}
+use Rattle.expr_plain.specs.declared.frames.BindingScope.{BindingScope, Empty, Frame'}
 use Rattle.expr_plain.proofs.FrameLaws.{has_at, outcome_at}
 
 -- Of names and outcomes.
@@ -33,7 +33,7 @@ last_none (n ∷ ns) (o ∷ os) x i h =
     let r = last_none ns os x (i + 1) q.0 in
     rw (r, q.1) refl
 
-last_some : (ns : List (List ℕ)) (es : List Expr) (x : List ℕ) (i j k : ℕ) (e : Expr) (names : Names) (world : World) → length ns ≡ length es → last_place i ns x ≡ Some j → j ≡ i + k → e ≡ get_or es k e → last_named (bound ns (outcomes_of (meanings es) names world)) x ≡ Some (mean (term_of e) wants.Any names world)
+last_some : (ns : List (List ℕ)) (es : List Expr) (x : List ℕ) (i j k : ℕ) (e : Expr) (names : BoundOutcomes) (world : World) → length ns ≡ length es → last_place i ns x ≡ Some j → j ≡ i + k → e ≡ get_or es k e → last_named (bound ns (outcomes_of (meanings es) names world)) x ≡ Some (mean (term_of e) wants.Any names world)
 last_some [] es x i j k e names world l h q g = absurd (cc)
 last_some (n ∷ ns) [] x i j k e names world l h q g = absurd (omega arith)
 last_some (n ∷ ns) (a ∷ es) x i j zero e names world l h q g =
@@ -42,17 +42,17 @@ last_some (n ∷ ns) (a ∷ es) x i j (suc k) e names world l h q g =
     elim (some_cases (last_place (i + 1) ns x) (same_text n x) i j h) [ inl r ↦ rw (last_some ns es x (i + 1) j k e names world (omega arith) r (omega arith) g) refl | inr r ↦ absurd (omega (arith, r.2)) ]
 
 -- a name means what its binding means in the outer names
-var_found : (ns : List (List ℕ)) (es : List Expr) (x : List ℕ) (k : ℕ) (e : Expr) (names : Names) (world : World) → length ns ≡ length es → last_place 0 ns x ≡ Some k → e ≡ get_or es k e → named (bound ns (outcomes_of (meanings es) names world) ∷ names) x ≡ mean (term_of e) wants.Any names world
+var_found : (ns : List (List ℕ)) (es : List Expr) (x : List ℕ) (k : ℕ) (e : Expr) (names : BoundOutcomes) (world : World) → length ns ≡ length es → last_place 0 ns x ≡ Some k → e ≡ get_or es k e → named (bound ns (outcomes_of (meanings es) names world) ∷ names) x ≡ mean (term_of e) wants.Any names world
 var_found ns es x k e names world l h g = ap (λ o. or_outer o (named names x)) (last_some ns es x 0 k k e names world l h (omega arith) g)
 
 -- or what it means in them
-var_later : (ns : List (List ℕ)) (os : List Evaluated) (x : List ℕ) (names : Names) → last_place 0 ns x ≡ None → named (bound ns os ∷ names) x ≡ named names x
+var_later : (ns : List (List ℕ)) (os : List Evaluated) (x : List ℕ) (names : BoundOutcomes) → last_place 0 ns x ≡ None → named (bound ns os ∷ names) x ≡ named names x
 var_later ns os x names h = ap (λ o. or_outer o (named names x)) (last_none ns os x 0 h)
 
 -- Of frames.
 
 -- a name is that of binding k in the innermost frame
-abbrev pub IsHere : Scope → List ℕ → ℕ → Binding → Type 0
+abbrev pub IsHere : BindingScope → List ℕ → ℕ → Binding → Type 0
 IsHere Empty name k b = ⊥
 IsHere (Frame' names es first p outer q below) name k b =
     (last_place 0 names.now name ≡ Some k)
@@ -62,23 +62,23 @@ IsHere (Frame' names es first p outer q below) name k b =
     × (b.slot ≡ first + k)
     × (b.outer.now ≡ outer)
 
-pub named_here : (scope : Scope) (name : List ℕ) (k : ℕ) (b : Binding) → IsHere scope name k b → IsNamed name scope b
+pub named_here : (scope : BindingScope) (name : List ℕ) (k : ℕ) (b : Binding) → IsHere scope name k b → IsNamed name scope b
 named_here Empty name k b h = absurd h
 named_here (Frame' names es first p outer q below) name k b h =
     let e = b.expression.now in
     record {
       meant = λ world. var_found names.now es.now name k e (names_of outer world) world h.1 h.0 h.3 ∙ ap (λ o. promise_of e o world) (sym h.5);
       promised = λ world ps r. has_at (outcomes_of (meanings es.now) (names_of outer world) world) first ps k b.slot (promise_of e outer world) r.0 (outcome_at es.now k e (names_of outer world) world h.3 h.2) h.4 ∙ ap (λ o. Some (promise_of e o world)) (sym h.5);
-      ready = λ world ps r. let R : Scope → Type 0 = λ s. IsReady s world ps in subst R (sym h.5) r.2;
+      ready = λ world ps r. let R : BindingScope → Type 0 = λ s. IsReady s world ps in subst R (sym h.5) r.2;
       smaller = let w = argument_weight es.now k e h.3 h.2 in let s = ap scope_size h.5 in omega arith;
     }
 
 -- or it is none of that frame
-abbrev pub IsLater : Scope → List ℕ → Option Binding → Type 0
+abbrev pub IsLater : BindingScope → List ℕ → Option Binding → Type 0
 IsLater Empty name found = ⊥
 IsLater (Frame' names es first p outer q below) name found = (last_place 0 names.now name ≡ None) × Finds name outer found
 
-pub named_later : (scope : Scope) (name : List ℕ) (found : Option Binding) → IsLater scope name found → Finds name scope found
+pub named_later : (scope : BindingScope) (name : List ℕ) (found : Option Binding) → IsLater scope name found → Finds name scope found
 named_later Empty name found h = absurd h
 named_later (Frame' names es first p outer q below) name (Some b) h = record {
   meant = λ world. var_later names.now (outcomes_of (meanings es.now) (names_of outer world) world) name (names_of outer world) h.0 ∙ h.1.meant world;
@@ -104,17 +104,17 @@ last_argument (suc n) [] e l g = absurd (omega arith)
 last_argument (suc n) (x ∷ es) e l g = last_argument n es e (omega arith) g
 
 -- a `let` means its body in the names of its frame
-body_last : (ns : List (List ℕ)) (es : List Expr) (e : Expr) (want : Want) (names : Names) (world : World) → length es ≡ length ns + 1 → e ≡ get_or es (length ns) e → let_of ns (meanings es) want names world ≡ mean (term_of e) want (bound ns (outcomes_of (meanings (take (length ns) es)) names world) ∷ names) world
+body_last : (ns : List (List ℕ)) (es : List Expr) (e : Expr) (want : Want) (names : BoundOutcomes) (world : World) → length es ≡ length ns + 1 → e ≡ get_or es (length ns) e → let_of ns (meanings es) want names world ≡ mean (term_of e) want (bound ns (outcomes_of (meanings (take (length ns) es)) names world) ∷ names) world
 body_last ns es e want names world l g =
     ap (λ ms. body_of (drop (length ns) (meanings es)) want (bound ns (outcomes_of ms names world) ∷ names) world) (meanings_take (length ns) es)
     ∙ ap (λ ms. body_of ms want (bound ns (outcomes_of (meanings (take (length ns) es)) names world) ∷ names) world) (last_argument (length ns) es e l g)
 
-pub let_body : (ns : List (List ℕ)) (es : List Expr) (e : Expr) (want : Want) (names : Names) (world : World) (n : ℕ) → n ≡ length ns → length es ≡ n + 1 → e ≡ get_or es n e → let_of ns (meanings es) want names world ≡ mean (term_of e) want (bound ns (outcomes_of (meanings (take n es)) names world) ∷ names) world
+pub let_body : (ns : List (List ℕ)) (es : List Expr) (e : Expr) (want : Want) (names : BoundOutcomes) (world : World) (n : ℕ) → n ≡ length ns → length es ≡ n + 1 → e ≡ get_or es n e → let_of ns (meanings es) want names world ≡ mean (term_of e) want (bound ns (outcomes_of (meanings (take n es)) names world) ∷ names) world
 let_body ns es e want names world n count =
     let P : ℕ → Type 0 = λ m. length es ≡ m + 1 → e ≡ get_or es m e → let_of ns (meanings es) want names world ≡ mean (term_of e) want (bound ns (outcomes_of (meanings (take m es)) names world) ∷ names) world in
     subst P (sym count) (body_last ns es e want names world)
 
-body_misfit : (n : ℕ) (es : List Expr) (want : Want) (names : Names) (world : World) → (length es ≡ n + 1 → ⊥) → body_of (drop n (meanings es)) want names world ≡ Err WrongType
+body_misfit : (n : ℕ) (es : List Expr) (want : Want) (names : BoundOutcomes) (world : World) → (length es ≡ n + 1 → ⊥) → body_of (drop n (meanings es)) want names world ≡ Err WrongType
 body_misfit zero [] want names world l = refl
 body_misfit zero (x ∷ []) want names world l = absurd (l (omega arith))
 body_misfit zero (x ∷ y ∷ es) want names world l = refl
@@ -122,7 +122,7 @@ body_misfit (suc n) [] want names world l = refl
 body_misfit (suc n) (x ∷ es) want names world l = body_misfit n es want names world (λ q. l (omega arith))
 
 -- a `let` of too few or too many arguments
-pub let_misfit : (ns : List (List ℕ)) (es : List Expr) (want : Want) (names : Names) (world : World) → (length es ≡ length ns + 1 → ⊥) → let_of ns (meanings es) want names world ≡ Err WrongType
+pub let_misfit : (ns : List (List ℕ)) (es : List Expr) (want : Want) (names : BoundOutcomes) (world : World) → (length es ≡ length ns + 1 → ⊥) → let_of ns (meanings es) want names world ≡ Err WrongType
 let_misfit ns es want names world l = body_misfit (length ns) es want _ world l
 
 pub bindings_length : (n : ℕ) (es : List Expr) → length es ≡ n + 1 → n ≡ length (take n es)

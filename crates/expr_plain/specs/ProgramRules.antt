@@ -3,8 +3,8 @@ use Rattle.interpolate_fixed.specs.Places.{IsAscending}
 use Rattle.expr_syntax.specs.declared.expression.Operator.{Operator}
 use Rattle.eval_face.specs.Rules.{Rule, each, deciding, cases, labels, stops, ramp, bindings, variable, rule_of}
 use Rattle.expr_plain.specs.RuleParts.{applied_by, decided_by, undecided_by}
-use Rattle.expr_plain.specs.declared.rule.Rule.{Rule as ProgramRule}
-use Rattle.expr_plain.specs.declared.rule.Rule.TheVariants.{Each, Deciding, Cases, Labels, Stops, Ramp, Bindings, Variable}
+use Rattle.expr_plain.specs.declared.rule.OperatorRule.{OperatorRule as ProgramRule}
+use Rattle.expr_plain.specs.declared.rule.OperatorRule.TheVariants.{Each, Deciding, Cases, Labels, Stops, Ramp, Bindings, Variable}
 
 -- the definition of the program's rule of an operator
 abbrev pub rule_in : Operator → ProgramRule → Rule
@@ -18,6 +18,6 @@ rule_in op (Bindings names) = bindings names.now
 rule_in op (Variable name) = variable name.now
 
 -- the inputs of stops ascend
-abbrev pub IsSound : ProgramRule → Type 0
-IsSound (Stops inputs) = IsAscending inputs.now
-IsSound _ = Unit {0}
+abbrev pub HasAscendingInputs : ProgramRule → Type 0
+HasAscendingInputs (Stops inputs) = IsAscending inputs.now
+HasAscendingInputs _ = Unit {0}

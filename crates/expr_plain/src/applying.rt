@@ -4,7 +4,7 @@ ghost use Rattle.std.specs.Prelude.{◌≡◌, Ok, true};
 ghost use Rattle.std.specs.Option.{option_map};
 ghost use Rattle.prop_values.specs.View.{data_of, values_view, evaluated_of};
 ghost use Rattle.property_tables.specs.Fitting.{fit};
-ghost use Rattle.operator_values.specs.Evaluated.{Gives, then_value};
+ghost use Rattle.operator_values.specs.Evaluated.{GivesValue, then_value};
 ghost use Rattle.eval_face.specs.Rules.{rule_of, array_of};
 ghost use Rattle.expr_plain.specs.RuleParts.{applied_by, decided_by, undecided_by, asserts, decides_as_it_is};
 
@@ -27,7 +27,7 @@ use std::alloc::Global;
 
 /// A value fitted to a want.
 pub(crate) fn fitted(alloc: Global, value: Value, want: &Want) -> Result<Value, Halt>
-    ensures { Gives result (fit want.now (data_of value)) }
+    ensures { GivesValue result (fit want.now (data_of value)) }
 {
     if is_fitted(&value, want) {
         return Ok(value);
@@ -38,7 +38,7 @@ pub(crate) fn fitted(alloc: Global, value: Value, want: &Want) -> Result<Value, 
 /// A copy of a value, fitted to a want. A number, of which features have millions, is made anew: that takes less than to move a
 /// value through the forms of an answer.
 pub(crate) fn fitted_copy(alloc: Global, value: &Value, want: &Want) -> Result<Value, Halt>
-    ensures { Gives result (fit want.now (data_of value.now)) }
+    ensures { GivesValue result (fit want.now (data_of value.now)) }
 {
     match (want, value) {
         (Want::Any | Want::Number, Value::Num(number)) => Ok(Value::Num(*number)),
@@ -68,7 +68,7 @@ pub(crate) fn node_value<W: WorldView>(
     want: &Want,
     world: &W,
 ) -> Result<Value, Halt>
-    ensures { Gives result
+    ensures { GivesValue result
         (then_value (applied_by (rule_of op.now) (W.world world.now) (values_view values.now)) (fit want.now)) }
 {
     let value = applied(alloc, op, values, world)?;
@@ -82,7 +82,7 @@ pub(crate) fn applied<W: WorldView>(
     values: &[Value],
     world: &W,
 ) -> Result<Value, Halt>
-    ensures { Gives result (applied_by (rule_of op.now) (W.world world.now) (values_view values.now)) }
+    ensures { GivesValue result (applied_by (rule_of op.now) (W.world world.now) (values_view values.now)) }
 {
     match op {
         Operator::Array(item, length) => array(alloc, *item, *length, values),
@@ -137,7 +137,7 @@ fn array(
     length: Option<u32>,
     values: &[Value],
 ) -> Result<Value, Halt>
-    ensures { Gives result (array_of item length (values_view values.now)) }
+    ensures { GivesValue result (array_of item length (values_view values.now)) }
 {
     let [value] = values else {
         return Err(Halt::Fault(EvalFault::WrongType));

@@ -7,7 +7,7 @@ ghost use Rattle.expr_plain.specs.Evaluates.{Evaluates};
 
 use crate::applying::{fitted, fitted_copy};
 use crate::evaluation::Evaluation;
-use crate::frames::{Environment, Frames, Scope, binding_of};
+use crate::frames::{BindingScope, Environment, Frames, binding_of};
 use crate::world_view::WorldView;
 use decimal_json::Text;
 use expr_syntax::{Expr, Names};
@@ -35,7 +35,7 @@ impl Evaluation {
         }
         let bindings = &arguments[..count];
         let first = self.open_slots(bindings)?;
-        let frame = Scope::Frame(
+        let frame = BindingScope::Frame(
             names,
             bindings,
             first,

@@ -5,7 +5,7 @@ ghost use Rattle.prop_values.specs.View.{data_of};
 ghost use Rattle.prop_values.specs.declared.kinds.Want.{Want};
 ghost use Rattle.property_tables.specs.Fitting.{fit};
 ghost use Rattle.expr_syntax.specs.TermView.{term_of};
-ghost use Rattle.eval_face.specs.Names.{Names};
+ghost use Rattle.eval_face.specs.Names.{BoundOutcomes};
 ghost use Rattle.eval_face.specs.Meaning.{mean, node_meaning};
 ghost use Rattle.expr_plain.specs.RuleParts.{decision_of};
 ghost use Rattle.expr_plain.specs.Terms.{meanings};
@@ -17,7 +17,7 @@ use prop_values::Value;
 
 /// A literal, or the property of a literal key: the value of the expression before it is fitted.
 fn borrowed_value<'a, W: WorldView>(expression: &'a Expr, world: &'a W) -> Option<&'a Value>
-    ensures { IfSome result (λ value. (want : Want) (names : Names) →
+    ensures { IfSome result (λ value. (want : Want) (names : BoundOutcomes) →
         mean (term_of expression.now) want names (W.world world.now) ≡ fit want (data_of value.now)) }
 {
     match expression {
@@ -32,7 +32,7 @@ pub(crate) fn borrowed_property<'a, W: WorldView>(
     arguments: &[Expr],
     world: &'a W,
 ) -> Option<&'a Value>
-    ensures { IfSome result (λ value. (want : Want) (names : Names) →
+    ensures { IfSome result (λ value. (want : Want) (names : BoundOutcomes) →
         node_meaning op.now (meanings arguments.now) want names (W.world world.now) ≡ fit want (data_of value.now)) }
 {
     let Operator::Get = op else {
@@ -53,7 +53,7 @@ pub(crate) fn borrowed_decision<'a, W: WorldView>(
     arguments: &'a [Expr],
     world: &'a W,
 ) -> Option<&'a Value>
-    ensures { IfSome result (λ value. (want : Want) (names : Names) →
+    ensures { IfSome result (λ value. (want : Want) (names : BoundOutcomes) →
         decision_of op.now (meanings arguments.now) want names (W.world world.now) ≡ Ok (data_of value.now)) }
 {
     let [first, ..] = arguments else {

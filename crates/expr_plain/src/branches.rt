@@ -4,7 +4,7 @@ ghost use Rattle.std.specs.Prelude.{◌≡◌, ◌<◌, ◌+◌, length};
 ghost use Rattle.interpolate_fixed.specs.Places.{IsAscending, IsBetween, input_at, place_of};
 ghost use Rattle.interpolate_fixed.specs.Warp.{HasPositiveBase, warp_of};
 ghost use Rattle.prop_values.specs.View.{data_of};
-ghost use Rattle.operator_values.specs.Evaluated.{Gives, or_fault};
+ghost use Rattle.operator_values.specs.Evaluated.{GivesValue, or_fault};
 ghost use Rattle.operator_values.specs.Ramps.{between_of};
 ghost use Rattle.eval_face.specs.Branches.{case_of, match_of, step_of, ramp_of, ramp_at, output_at};
 ghost use Rattle.expr_plain.specs.Terms.{meanings, condition_in, number_in};
@@ -183,7 +183,7 @@ fn between(
     upper: &Value,
 ) -> Result<Value, Halt>
     requires { IsBetween inputs.now at i }
-    ensures { Gives result
+    ensures { GivesValue result
         (between_of at (input_at inputs.now i) (data_of lower.now)
         (input_at inputs.now (i + 1)) (data_of upper.now)) }
 {

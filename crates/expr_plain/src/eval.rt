@@ -1,13 +1,13 @@
 ghost use Rattle.std.specs.Prelude.{◌≡◌, [], IfOk};
 ghost use Rattle.prop_values.specs.View.{evaluated_of};
 ghost use Rattle.expr_syntax.specs.TermView.{term_of};
-ghost use Rattle.operator_values.specs.Evaluated.{Gives};
+ghost use Rattle.operator_values.specs.Evaluated.{GivesValue};
 ghost use Rattle.eval_face.specs.World.{world_of};
 ghost use Rattle.eval_face.specs.Meaning.{mean};
-ghost use Rattle.expr_plain.specs.declared.frames.Scope.{Empty};
+ghost use Rattle.expr_plain.specs.declared.frames.BindingScope.{Empty};
 
 use crate::evaluation::Evaluation;
-use crate::frames::{Environment, Frames, Scope};
+use crate::frames::{BindingScope, Environment, Frames};
 use crate::world_view::{TestedContext, WorldView};
 use eval_face::Context;
 use expr_syntax::Expr;
@@ -35,7 +35,7 @@ pub fn eval_plain(
         images: &images,
         scripts: &scripts,
     };
-    match evaluated(alloc, &*expression, want, &world, &Scope::Empty) {
+    match evaluated(alloc, &*expression, want, &world, &BindingScope::Empty) {
         Ok(value) => Ok(Ok(value)),
         Err(Halt::Fault(fault)) => Ok(Err(fault)),
         Err(Halt::NoMemory) => Err(AllocError),
@@ -49,10 +49,10 @@ fn evaluated<'x, W: WorldView>(
     expression: &'x Expr,
     want: &Want,
     world: &'x W,
-    empty: &'x Scope<'x>,
+    empty: &'x BindingScope<'x>,
 ) -> Result<Value, Halt>
     requires { empty.now ≡ Empty }
-    ensures { Gives result (mean (term_of expression.now) want.now [] (W.world world.now)) }
+    ensures { GivesValue result (mean (term_of expression.now) want.now [] (W.world world.now)) }
 {
     let frames = Frames {
         scope: &*empty,

@@ -5,11 +5,11 @@ ghost use Rattle.std.specs.Option.{option_map};
 ghost use Rattle.std.specs.List.{slice_get};
 ghost use Rattle.prop_values.specs.View.{data_of, values_view};
 ghost use Rattle.property_tables.specs.Fitting.{fit};
-ghost use Rattle.operator_values.specs.Evaluated.{Gives, then_value};
+ghost use Rattle.operator_values.specs.Evaluated.{GivesValue, then_value};
 ghost use Rattle.eval_face.specs.Rules.{rule_of};
 ghost use Rattle.expr_plain.specs.RuleParts.{applied_by};
 ghost use Rattle.expr_plain.specs.Slots.{waiting, done_in};
-ghost use Rattle.expr_plain.specs.declared.evaluation.Slot.TheVariants.{Done};
+ghost use Rattle.expr_plain.specs.declared.evaluation.BindingSlot.TheVariants.{Done};
 
 use crate::applying::node_value;
 use crate::world_view::WorldView;
@@ -20,7 +20,7 @@ use std::alloc::{AllocError, Global};
 
 /// What a binding gave when it was asked for, or nothing yet.
 #[derive(Drop)]
-pub(crate) enum Slot {
+pub(crate) enum BindingSlot {
     Waiting,
     Done(Value),
 }
@@ -30,7 +30,7 @@ pub(crate) enum Slot {
 pub(crate) struct Evaluation {
     pub(crate) alloc: Global,
     /// A slot for each binding of the frames that were entered and not left, those of the first frame first.
-    pub(crate) slots: Vec<Slot>,
+    pub(crate) slots: Vec<BindingSlot>,
     /// The stack of the values of arguments whose node is not evaluated yet.
     pub(crate) values: Vec<Value>,
 }
@@ -56,7 +56,7 @@ impl Evaluation {
         let first = self.slots.as_slice().len();
         self.slots.reserve(bindings.len())?;
         for _binding in bindings {
-            self.slots.push(Slot::Waiting)?;
+            self.slots.push(BindingSlot::Waiting)?;
         }
         Ok(first)
     }
@@ -76,8 +76,8 @@ impl Evaluation {
             ≡ done_in (slice_get self.now.slots.items slot) }
     {
         match &self.slots[slot] {
-            Slot::Done(value) => Some(value),
-            Slot::Waiting => None,
+            BindingSlot::Done(value) => Some(value),
+            BindingSlot::Waiting => None,
         }
     }
 
@@ -89,7 +89,7 @@ impl Evaluation {
             ≡ slice_set self.old.slots.items slot (Done value.now)) }
         ensures values { self.new.values ≡ self.old.values }
     {
-        self.slots[slot] = Slot::Done(copy(value)?);
+        self.slots[slot] = BindingSlot::Done(copy(value)?);
         Ok(())
     }
 
@@ -102,7 +102,7 @@ impl Evaluation {
         world: &W,
     ) -> Result<Value, Halt>
         requires { base ≤ length self.old.values.items }
-        ensures meant { Gives result
+        ensures meant { GivesValue result
             (then_value (applied_by (rule_of op.now) (W.world world.now)
             (values_view (drop base self.old.values.items))) (fit want.now)) }
         ensures values { self.new.values.items ≡ take base self.old.values.items }

@@ -10,16 +10,16 @@ use expr_syntax::{Expr, Names};
 /// The `let`s around an expression: the names of each, their bindings, the place of the first one's slot, the `let`s
 /// around it, and the one that was entered before.
 #[derive(Drop)]
-pub(crate) enum Scope<'a> {
+pub(crate) enum BindingScope<'a> {
     Empty,
-    Frame(&'a Names, &'a [Expr], usize, &'a Scope<'a>, &'a Scope<'a>),
+    Frame(&'a Names, &'a [Expr], usize, &'a BindingScope<'a>, &'a BindingScope<'a>),
 }
 
 /// The frames that an expression sees, and all that were entered and not left.
 #[derive(Drop)]
 pub(crate) struct Frames<'x> {
-    pub(crate) scope: &'x Scope<'x>,
-    pub(crate) entered: &'x Scope<'x>,
+    pub(crate) scope: &'x BindingScope<'x>,
+    pub(crate) entered: &'x BindingScope<'x>,
 }
 
 /// What an expression is evaluated in: the world, and the frames around it.
@@ -34,17 +34,23 @@ pub(crate) struct Environment<'x, W> {
 pub(crate) struct Binding<'x> {
     pub(crate) expression: &'x Expr,
     pub(crate) slot: usize,
-    pub(crate) outer: &'x Scope<'x>,
+    pub(crate) outer: &'x BindingScope<'x>,
 }
 
 /// The binding of a name: of a repeated name the last, in the innermost frame that has it. `slots` counts the slots.
-pub(crate) fn binding_of<'x>(name: &Text, scope: &'x Scope<'x>, slots: usize) -> Option<Binding<'x>>
+pub(crate) fn binding_of<'x>(
+    name: &Text,
+    scope: &'x BindingScope<'x>,
+    slots: usize,
+) -> Option<Binding<'x>>
     requires { IsWithin slots scope.now }
     ensures { Finds name.now scope.now result }
 {
     match scope {
-        Scope::Empty => None,
-        Scope::Frame(names, bindings, first, outer, _) => match names.last_place(name.as_str()) {
+        BindingScope::Empty => None,
+        BindingScope::Frame(names, bindings, first, outer, _) => match names.last_place(
+            name.as_str(),
+        ) {
             Some(k) => Some(bound_at(bindings, k, *first, outer, slots)),
             None => binding_of(name, outer, slots),
         },
@@ -56,7 +62,7 @@ fn bound_at<'x>(
     bindings: &'x [Expr],
     k: usize,
     first: usize,
-    outer: &'x Scope<'x>,
+    outer: &'x BindingScope<'x>,
     slots: usize,
 ) -> Binding<'x>
     requires number { k < length bindings.now }

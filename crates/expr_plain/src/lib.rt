@@ -20,7 +20,7 @@
 //!
 //! A new operator has its row in `expr_syntax` and its rule in `eval_face`. One that evaluates all its arguments has its line in
 //! `applied`, and one that stops at the argument that decides has its line in `decides` and in `undecided`, all three in `applying.rt`.
-//! One whose parts decide has a variant of `Rule`.
+//! One whose parts decide has a variant of `OperatorRule`.
 //!
 //! The text to believe is in `specs/`: `Resolved`.
 #![tactic(auto)]

@@ -4,7 +4,7 @@ ghost use Rattle.std.specs.Prelude.{◌≡◌, IfOk, is_some};
 ghost use Rattle.prop_values.specs.Data.{map, pairs_of};
 ghost use Rattle.prop_values.specs.Equality.{at_key};
 ghost use Rattle.prop_values.specs.View.{data_of, values_view, evaluated_of};
-ghost use Rattle.operator_values.specs.Evaluated.{Gives};
+ghost use Rattle.operator_values.specs.Evaluated.{GivesValue};
 ghost use Rattle.eval_face.specs.World.{state_of};
 ghost use Rattle.eval_face.specs.Lookups.{entry_at, get_of, has_of, state_at, id_value, image_of, script_of};
 
@@ -21,7 +21,7 @@ pub(crate) fn property(
     properties: Option<&Entries>,
     values: &[Value],
 ) -> Result<Value, Halt>
-    ensures { Gives result (get_of (state_of properties.entry) (values_view values.now)) }
+    ensures { GivesValue result (get_of (state_of properties.entry) (values_view values.now)) }
 {
     match values {
         [Value::Text(key)] => Ok(entry_or_null(alloc, properties, key)?),
@@ -57,7 +57,7 @@ pub(crate) fn state_member(
     state: Option<&Entries>,
     values: &[Value],
 ) -> Result<Value, Halt>
-    ensures { Gives result (state_at (state_of state.entry) (values_view values.now)) }
+    ensures { GivesValue result (state_at (state_of state.entry) (values_view values.now)) }
 {
     match values {
         [Value::Text(key)] => Ok(entry_or_null(alloc, state, key)?),
@@ -116,7 +116,7 @@ pub(crate) fn id_value(id: Option<u64>) -> Value
 
 /// `image`: the name itself, or null where there is no such image.
 pub(crate) fn image<W: WorldView>(world: &W, values: &[Value]) -> Result<Value, Halt>
-    ensures { Gives result (image_of (W.world world.now).has_image (values_view values.now)) }
+    ensures { GivesValue result (image_of (W.world world.now).has_image (values_view values.now)) }
 {
     match values {
         [Value::Text(name)] if world.has_image(name.as_str()) => Ok(Value::Text(name.share()?)),

@@ -10,7 +10,7 @@ use crate::applying::fitted_copy;
 use crate::borrowed::borrowed_property;
 use crate::evaluation::Evaluation;
 use crate::frames::Environment;
-use crate::rule::{Rule, rule_of};
+use crate::rule::{OperatorRule, rule_of};
 use crate::world_view::WorldView;
 use expr_syntax::{Expr, Operator};
 use operator_values::Halt;
@@ -53,14 +53,19 @@ impl Evaluation {
             return fitted_copy(self.alloc, value, want);
         }
         match rule_of(op) {
-            Rule::Each => self.evaluate_each(op, arguments, want, environment),
-            Rule::Deciding => self.evaluate_deciding(op, arguments, want, environment),
-            Rule::Cases => self.evaluate_case(arguments, want, environment),
-            Rule::Labels(labels) => self.evaluate_match(labels, arguments, want, environment),
-            Rule::Stops(inputs) => self.evaluate_step(inputs, arguments, want, environment),
-            Rule::Ramp(ramp) => self.evaluate_ramp(ramp, arguments, want, environment),
-            Rule::Bindings(names) => self.evaluate_let(names, arguments, want, environment),
-            Rule::Variable(name) => self.evaluate_var(name, want, environment),
+            OperatorRule::Each => self.evaluate_each(op, arguments, want, environment),
+            OperatorRule::Deciding => self.evaluate_deciding(op, arguments, want, environment),
+            OperatorRule::Cases => self.evaluate_case(arguments, want, environment),
+            OperatorRule::Labels(labels) => self.evaluate_match(
+                labels,
+                arguments,
+                want,
+                environment,
+            ),
+            OperatorRule::Stops(inputs) => self.evaluate_step(inputs, arguments, want, environment),
+            OperatorRule::Ramp(ramp) => self.evaluate_ramp(ramp, arguments, want, environment),
+            OperatorRule::Bindings(names) => self.evaluate_let(names, arguments, want, environment),
+            OperatorRule::Variable(name) => self.evaluate_var(name, want, environment),
         }
     }
 }

@@ -2,7 +2,7 @@
 
 ghost use Rattle.std.specs.Prelude.{◌≡◌};
 ghost use Rattle.eval_face.specs.Rules.{rule_of};
-ghost use Rattle.expr_plain.specs.ProgramRules.{rule_in, IsSound};
+ghost use Rattle.expr_plain.specs.ProgramRules.{rule_in, HasAscendingInputs};
 
 use decimal_json::Text;
 use expr_syntax::{Labels, Manner, Names, Operator, Ramp};
@@ -10,7 +10,7 @@ use fixed_num::Fixed;
 
 /// How an operator evaluates its arguments, and what decides between them.
 #[derive(Drop)]
-pub(crate) enum Rule<'a> {
+pub(crate) enum OperatorRule<'a> {
     /// All of them, and their values decide.
     Each,
     /// One after the other, to the first that decides.
@@ -30,20 +30,20 @@ pub(crate) enum Rule<'a> {
 }
 
 /// The rule of an operator. Where no part decides it is that of the manner in the operator's row.
-pub(crate) fn rule_of<'a>(op: &'a Operator) -> Rule<'a>
+pub(crate) fn rule_of<'a>(op: &'a Operator) -> OperatorRule<'a>
     ensures rule { rule_in op.now result ≡ rule_of op.now }
-    ensures sound { IsSound result }
+    ensures sound { HasAscendingInputs result }
 {
     match op {
-        Operator::Case => Rule::Cases,
-        Operator::Match(labels) => Rule::Labels(labels),
-        Operator::Step(inputs) => Rule::Stops(inputs.as_slice()),
-        Operator::Interpolate(ramp) => Rule::Ramp(ramp),
-        Operator::Let(names) => Rule::Bindings(names),
-        Operator::Var(name) => Rule::Variable(name),
+        Operator::Case => OperatorRule::Cases,
+        Operator::Match(labels) => OperatorRule::Labels(labels),
+        Operator::Step(inputs) => OperatorRule::Stops(inputs.as_slice()),
+        Operator::Interpolate(ramp) => OperatorRule::Ramp(ramp),
+        Operator::Let(names) => OperatorRule::Bindings(names),
+        Operator::Var(name) => OperatorRule::Variable(name),
         _ => match op.row().manner {
-            Manner::Deciding => Rule::Deciding,
-            _ => Rule::Each,
+            Manner::Deciding => OperatorRule::Deciding,
+            _ => OperatorRule::Each,
         },
     }
 }

@@ -5,21 +5,25 @@ ghost use Rattle.prop_values.specs.Data.{Data};
 ghost use Rattle.prop_values.specs.View.{data_of, values_view};
 ghost use Rattle.format_text.specs.Sections.{section_of, section_with};
 ghost use Rattle.expr_syntax.specs.declared.parts.Role.TheVariants.{Scale, Font, Color};
-ghost use Rattle.operator_values.specs.Evaluated.{Gives};
+ghost use Rattle.operator_values.specs.Evaluated.{GivesValue};
 ghost use Rattle.halts.specs.declared.halt.Halt.TheVariants.{NoMemory};
 ghost use Rattle.eval_face.specs.Sections.{add_piece, add_pieces, closed, format_of};
 ghost use Rattle.expr_plain.specs.OpenSection.{GivesOpen};
 
 use decimal_json::Text;
-use expr_syntax::{Piece, Role};
+use expr_syntax::{FormatPiece, Role};
 use format_text::{Section, section};
 use operator_values::Halt;
 use prop_values::{EvalFault, Value, Values, copy};
 use std::alloc::Global;
 
 /// The list of the sections of values, by what each of them is. The first is a content.
-pub(crate) fn sections(alloc: Global, pieces: &[Piece], values: &[Value]) -> Result<Value, Halt>
-    ensures { Gives result (format_of pieces.now (values_view values.now)) }
+pub(crate) fn sections(
+    alloc: Global,
+    pieces: &[FormatPiece],
+    values: &[Value],
+) -> Result<Value, Halt>
+    ensures { GivesValue result (format_of pieces.now (values_view values.now)) }
 {
     let [_, later_pieces @ ..] = pieces else {
         return Err(Halt::Fault(EvalFault::WrongType));
@@ -31,8 +35,13 @@ pub(crate) fn sections(alloc: Global, pieces: &[Piece], values: &[Value]) -> Res
 }
 
 // The list of the sections from a content on.
-fn listed(alloc: Global, content: Text, pieces: &[Piece], values: &[Value]) -> Result<Value, Halt>
-    ensures { Gives result (closed (add_pieces pieces.now (values_view values.now) ([], section_with content))) }
+fn listed(
+    alloc: Global,
+    content: Text,
+    pieces: &[FormatPiece],
+    values: &[Value],
+) -> Result<Value, Halt>
+    ensures { GivesValue result (closed (add_pieces pieces.now (values_view values.now) ([], section_with content))) }
 {
     let mut sections = Values::new(alloc);
     let mut current = opened(content);

@@ -3,16 +3,16 @@ use Rattle.std.proofs.Common.{◌≡◌, ℕ, zero, suc, ◌+◌, ◌-◌, ◌*�
 use Rattle.std.proofs.lemmas.Bool.{ne_eqb, eq-eqb, eqb-true, le-leb, lt-leb, cases_Bool, cases_order, false≢true}
 use Rattle.std.specs.Prelude.{Bool, not, ◌&&◌, nat_eq, nat_le, ◌%◌, if◌then◌else◌}
 use Rattle.decimal_json.specs.Tree.{Tree, Trees, no_trees, tree}
-use Rattle.expr_syntax.specs.declared.rows.Layout.{Layout}
-use Rattle.expr_syntax.specs.declared.rows.Layout.TheVariants.{Labels, Stops, Ramp, Bindings, Variable}
-use Rattle.expr_syntax.specs.declared.rows.Place.{Place}
-use Rattle.expr_syntax.specs.declared.rows.Place.TheVariants.{Part, Argument, Output}
+use Rattle.expr_syntax.specs.declared.rows.ElementLayout.{ElementLayout}
+use Rattle.expr_syntax.specs.declared.rows.ElementLayout.TheVariants.{Labels, Stops, Ramp, Bindings, Variable}
+use Rattle.expr_syntax.specs.declared.rows.ElementPlace.{ElementPlace}
+use Rattle.expr_syntax.specs.declared.rows.ElementPlace.TheVariants.{Part, Argument, Output}
 use Rattle.expr_syntax.specs.Elements.{taken}
 use Rattle.expr_syntax.specs.Reading.{is_part}
 use Rattle.expr_syntax.specs.Rows.{element_place, place, is_even, is_last, is_input, is_label, is_binder}
 
 -- how many of the k elements from place i on, of n elements, are arguments
-abbrev pub count_arguments : Layout → ℕ → ℕ → ℕ → ℕ
+abbrev pub count_arguments : ElementLayout → ℕ → ℕ → ℕ → ℕ
 count_arguments layout n i zero = 0
 count_arguments layout n i (suc k) =
     if is_part (element_place layout n i) then count_arguments layout n (i + 1) k else suc (count_arguments layout n (i + 1) k)
@@ -51,7 +51,7 @@ not_last n i h = ne_eqb (i + 1) n (λ e. omega arith)
 -- ---- places after the name
 
 -- an element after the name is what its layout says
-pub behind : (layout : Layout) (n i : ℕ) → 0 < i → element_place layout n i ≡ place layout n i
+pub behind : (layout : ElementLayout) (n i : ℕ) → 0 < i → element_place layout n i ≡ place layout n i
 behind layout n i h = ap (λ b. if b then Part else place layout n i) (not_zero i h)
 
 part_if : (b : Bool) → is_part (if b then Part else Output) ≡ b
@@ -72,7 +72,7 @@ skipped : (b : Bool) (c d : ℕ) → b ≡ true → c ≡ d → (if b then c els
 skipped true c d h e = e
 skipped false c d h e = absurd (cc)
 
-all_behind : (layout : Layout) → ((n i : ℕ) → is_part (place layout n i) ≡ false) → (n i k : ℕ) → 0 < i → count_arguments layout n i k ≡ k
+all_behind : (layout : ElementLayout) → ((n i : ℕ) → is_part (place layout n i) ≡ false) → (n i k : ℕ) → 0 < i → count_arguments layout n i k ≡ k
 all_behind layout never n i zero h = refl
 all_behind layout never n i (suc k) h =
     counted (is_part (element_place layout n i)) (count_arguments layout n (i + 1) k) k
@@ -80,7 +80,7 @@ all_behind layout never n i (suc k) h =
     (all_behind layout never n (i + 1) k (omega arith))
 
 -- where no element is a part, all but the name are arguments
-pub all_arguments : (layout : Layout) → ((n i : ℕ) → is_part (place layout n i) ≡ false) → (n : ℕ) → count_arguments layout n 0 n ≡ n - 1
+pub all_arguments : (layout : ElementLayout) → ((n i : ℕ) → is_part (place layout n i) ≡ false) → (n : ℕ) → count_arguments layout n 0 n ≡ n - 1
 all_arguments layout never zero = refl
 all_arguments layout never (suc k) =
     let e : count_arguments layout (suc k) 1 k ≡ k = all_behind layout never (suc k) 1 k (omega arith) in
@@ -100,7 +100,7 @@ no_argument (suc k) = none_behind (suc k) 1 k (omega arith)
 -- ---- arguments and parts are all elements
 
 -- from a place on the elements that a test takes are the parts
-abbrev pub TakesParts : (ℕ → ℕ → Bool) → Layout → ℕ → ℕ → Type 0
+abbrev pub TakesParts : (ℕ → ℕ → Bool) → ElementLayout → ℕ → ℕ → Type 0
 TakesParts test layout n from = (i : ℕ) → from ≤ i → is_part (element_place layout n i) ≡ test n i
 
 one_more : (b c : Bool) (t : Tree) (taken_later : List Tree) (later k : ℕ) → b ≡ c → later + length taken_later ≡ k → (if b then later else suc later) + length (if c then t ∷ taken_later else taken_later) ≡ suc k
@@ -109,13 +109,13 @@ one_more false false t taken_later later k e h = omega arith
 one_more true false t taken_later later k e h = absurd (cc)
 one_more false true t taken_later later k e h = absurd (cc)
 
-pub arguments_and_parts : (test : ℕ → ℕ → Bool) (layout : Layout) (n from : ℕ) → TakesParts test layout n from → (ts : Trees) (i : ℕ) → from ≤ i → count_arguments layout n i (count_trees ts) + length (taken test n i ts) ≡ count_trees ts
+pub arguments_and_parts : (test : ℕ → ℕ → Bool) (layout : ElementLayout) (n from : ℕ) → TakesParts test layout n from → (ts : Trees) (i : ℕ) → from ≤ i → count_arguments layout n i (count_trees ts) + length (taken test n i ts) ≡ count_trees ts
 arguments_and_parts test layout n from same no_trees i h = refl
 arguments_and_parts test layout n from same (tree t ts) i h =
     one_more (is_part (element_place layout n i)) (test n i) t (taken test n (i + 1) ts) (count_arguments layout n (i + 1) (count_trees ts)) (count_trees ts)
     (same i h) (arguments_and_parts test layout n from same ts (i + 1) (omega arith))
 
-one_differs : (i : ℕ) (a b : Place) (c : Bool) → (nat_eq i 1 ≡ true → c ≡ false) → is_part b ≡ c → is_part a ≡ false → is_part (if nat_eq i 1 then a else b) ≡ c
+one_differs : (i : ℕ) (a b : ElementPlace) (c : Bool) → (nat_eq i 1 ≡ true → c ≡ false) → is_part b ≡ c → is_part a ≡ false → is_part (if nat_eq i 1 then a else b) ≡ c
 one_differs i a b c first later none = elim (cases_Bool (nat_eq i 1)) [
   | inl e ↦ ap (λ x. is_part (if x then a else b)) e ∙ (none ∙ sym (first e))
   | inr e ↦ ap (λ x. is_part (if x then a else b)) e ∙ later

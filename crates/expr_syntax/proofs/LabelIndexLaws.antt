@@ -15,7 +15,7 @@ use Rattle.expr_syntax.specs.declared.parts.Label.{Label}
 use Rattle.expr_syntax.specs.declared.parts.Label.TheVariants.{Text, Number}
 use Rattle.expr_syntax.specs.declared.parts.Labelled.{Labelled}
 use Rattle.expr_syntax.specs.Chosen.{is_equal_to, output_of}
-use Rattle.expr_syntax.specs.LabelIndex.{output_at, value_output, listed_output, IsIndexOfLabels, Notes}
+use Rattle.expr_syntax.specs.LabelIndex.{output_at, value_output, listed_output, IsIndexOfLabels, NotesLabel}
 use Rattle.expr_syntax.specs.LabelLists.{same_label, repeats}
 use Rattle.expr_syntax.specs.TextNumbers.{number_of_text}
 
@@ -43,7 +43,7 @@ repeats_first index all none = repeats_same (λ m. is_some (output_at index m)) 
 pub index_first : (index : LabelIndex) (all : List Labelled) → ((m : Label) → output_at index m ≡ None) → IsIndexWith index all all
 index_first index all none m = ap (λ x. option_or x (listed_output all m)) (none m)
 
-pub repeats_more : (new old : LabelIndex) (l : Labelled) (later all : List Labelled) → Notes l.label l.output old new → output_at old l.label ≡ None → RepeatsWith old (l ∷ later) all → RepeatsWith new later all
+pub repeats_more : (new old : LabelIndex) (l : Labelled) (later all : List Labelled) → NotesLabel l.label l.output old new → output_at old l.label ≡ None → RepeatsWith old (l ∷ later) all → RepeatsWith new later all
 repeats_more new old l later all noted none h =
     repeats_same (λ m. is_some (output_at new m)) (λ m. same_label l.label m || is_some (output_at old m)) later
     (λ m. ap is_some (noted m) ∙ some_if (same_label l.label m) l.output (output_at old m))
@@ -64,7 +64,7 @@ turned : (b : Bool) (output : ℕ) (old later : Option ℕ) → (b ≡ true → 
 turned true output old later none = sym (ap (λ x. option_or x (Some output)) (none refl))
 turned false output old later none = refl
 
-pub index_more : (new old : LabelIndex) (l : Labelled) (later all : List Labelled) → Notes l.label l.output old new → output_at old l.label ≡ None → IsIndexWith old (l ∷ later) all → IsIndexWith new later all
+pub index_more : (new old : LabelIndex) (l : Labelled) (later all : List Labelled) → NotesLabel l.label l.output old new → output_at old l.label ≡ None → IsIndexWith old (l ∷ later) all → IsIndexWith new later all
 index_more new old l later all noted none h m =
     ap (λ x. option_or x (listed_output later m)) (noted m)
     ∙ (turned (same_label l.label m) l.output (output_at old m) (listed_output later m) (λ e. same_none old l.label m e none) ∙ h m)

@@ -15,19 +15,19 @@ use Rattle.prop_values.specs.declared.outcome.Curve.{Curve}
 use Rattle.expr_syntax.specs.declared.fault.SynFault.{SynFault}
 use Rattle.expr_syntax.specs.declared.fault.SynCode.{SynCode}
 use Rattle.expr_syntax.specs.declared.fault.SynCode.TheVariants as code
-use Rattle.expr_syntax.specs.declared.parts.Piece.{Piece}
+use Rattle.expr_syntax.specs.declared.parts.FormatPiece.{FormatPiece}
 use Rattle.expr_syntax.specs.declared.parts.Role.{Role}
 use Rattle.expr_syntax.specs.declared.parts.Role.TheVariants.{Content}
 use Rattle.expr_syntax.specs.declared.labels.Collected.{Collected}
-use Rattle.expr_syntax.specs.declared.sections.Sections.{Sections}
+use Rattle.expr_syntax.specs.declared.sections.FormatArguments.{FormatArguments}
 use Rattle.expr_syntax.specs.declared.names.Name.{Name}
 use Rattle.expr_syntax.specs.declared.names.Name.TheVariants as named
 use Rattle.expr_syntax.specs.declared.rows.Arity.{Arity}
 use Rattle.expr_syntax.specs.declared.rows.Arity.TheVariants.{Exactly, OddFrom, EvenFrom}
-use Rattle.expr_syntax.specs.declared.rows.Place.{Place}
-use Rattle.expr_syntax.specs.declared.rows.Place.TheVariants.{Argument, Output, Part as PartPlace}
-use Rattle.expr_syntax.specs.declared.rows.Layout.{Layout}
-use Rattle.expr_syntax.specs.declared.rows.Layout.TheVariants as layouts
+use Rattle.expr_syntax.specs.declared.rows.ElementPlace.{ElementPlace}
+use Rattle.expr_syntax.specs.declared.rows.ElementPlace.TheVariants.{Argument, Output, Part as PartPlace}
+use Rattle.expr_syntax.specs.declared.rows.ElementLayout.{ElementLayout}
+use Rattle.expr_syntax.specs.declared.rows.ElementLayout.TheVariants as layouts
 use Rattle.expr_syntax.specs.declared.expression.Operator.{Operator}
 use Rattle.expr_syntax.specs.declared.expression.Operator.TheVariants.{Match, Step, Let, Var}
 use Rattle.expr_syntax.specs.Elements.{Element, head_text, second, second_text, after_head, taken, option_named}
@@ -105,7 +105,7 @@ either_scope : (b : Bool) (r : Reader) (scope : Scope) (path : List PathPart) �
 either_scope true r scope path h = h scope path
 either_scope false r scope path h = h scope path
 
-same_names : (layout : Layout) (n i : ℕ) (es : List (Element Reader)) (scope : Scope) (path : List PathPart) → AreSound es → SameNames (names_of scope) (count_arguments layout n i (length es)) (arguments layout n i es scope scope path)
+same_names : (layout : ElementLayout) (n i : ℕ) (es : List (Element Reader)) (scope : Scope) (path : List PathPart) → AreSound es → SameNames (names_of scope) (count_arguments layout n i (length es)) (arguments layout n i es scope scope path)
 same_names layout n i [] scope path h = (tt, refl)
 same_names layout n i (e ∷ es) scope path h =
     if_same (is_part (element_place layout n i)) (names_of scope) (e.0 (if is_last n i then scope else scope) (at path i)) (count_arguments layout n (i + 1) (length es)) (arguments layout n (i + 1) es scope scope path)
@@ -154,7 +154,7 @@ in_other false r inner scope path e h = h scope path
 last_output : (n i : ℕ) → 0 < i → is_last n i ≡ true → is_part (element_place layouts.Bindings n i) ≡ false
 last_output n i h e = ap is_part (behind layouts.Bindings n i h) ∙ ap (λ b. is_part (by b (is_even i))) e
   where
-    by : Bool → Bool → Place
+    by : Bool → Bool → ElementPlace
     by b c = if b then Output else if c then Argument else PartPlace
 
 pub last_names : (n i : ℕ) (e : Element Reader) (es : List (Element Reader)) (inner scope : Scope) (path : List PathPart) → 0 < i → i + suc (length es) ≡ n → AreSound (e ∷ es) → LastNames (names_of scope) (names_of inner) true (count_arguments layouts.Bindings n i (suc (length es))) (arguments layouts.Bindings n i (e ∷ es) inner scope path)
@@ -172,7 +172,7 @@ last_names n i e (f ∷ es) inner scope path some whole h =
 -- ---- a node of an operator that was read
 
 -- where an operator binds names, its layout is that of bindings
-abbrev BindsBy : Layout → Operator → Type 0
+abbrev BindsBy : ElementLayout → Operator → Type 0
 BindsBy layout (Let bound) = layout ≡ layouts.Bindings
 BindsBy layout op = Unit {0}
 
@@ -180,7 +180,7 @@ BindsBy layout op = Unit {0}
 abbrev IsSoundWith : List (List ℕ) → Operator → ℕ → Type 0
 IsSoundWith names op m = (allows (row (operator_name op)).arity (elements_behind op m) ≡ true) × HasSoundParts names op m
 
-abbrev OperatorIn : List (List ℕ) → Layout → ℕ → Result Operator SynCode → Type 0
+abbrev OperatorIn : List (List ℕ) → ElementLayout → ℕ → Result Operator SynCode → Type 0
 OperatorIn names layout n (Ok op) = IsSoundWith names op (count_arguments layout n 0 n) × BindsBy layout op
 OperatorIn names layout n (Err c) = Unit {0}
 
@@ -204,11 +204,11 @@ bound_arguments (e ∷ f ∷ es) inner scope path h =
     from_last (names_of scope) (names_of inner) (count_arguments layouts.Bindings n 1 (suc (length es))) (arguments layouts.Bindings n 1 (f ∷ es) inner scope path)
     (last_names n 1 f es inner scope path (omega arith) (omega arith) h.2)
 
-bound_by : (layout : Layout) (es : List (Element Reader)) (inner scope : Scope) (path : List PathPart) → layout ≡ layouts.Bindings → AreSound es → ArgumentsIn (names_of scope) (names_of inner) (count_arguments layout (length es) 0 (length es)) (arguments layout (length es) 0 es inner scope path)
+bound_by : (layout : ElementLayout) (es : List (Element Reader)) (inner scope : Scope) (path : List PathPart) → layout ≡ layouts.Bindings → AreSound es → ArgumentsIn (names_of scope) (names_of inner) (count_arguments layout (length es) 0 (length es)) (arguments layout (length es) 0 es inner scope path)
 bound_by layout es inner scope path e h =
     subst (λ l. ArgumentsIn (names_of scope) (names_of inner) (count_arguments l (length es) 0 (length es)) (arguments l (length es) 0 es inner scope path)) (sym e) (bound_arguments es inner scope path h)
 
-arguments_in : (layout : Layout) (es : List (Element Reader)) (op : Operator) (scope : Scope) (path : List PathPart) → BindsBy layout op → AreSound es → ArgumentsIn (names_of scope) (names_within op (names_of scope)) (count_arguments layout (length es) 0 (length es)) (arguments layout (length es) 0 es (names_in op scope) scope path)
+arguments_in : (layout : ElementLayout) (es : List (Element Reader)) (op : Operator) (scope : Scope) (path : List PathPart) → BindsBy layout op → AreSound es → ArgumentsIn (names_of scope) (names_within op (names_of scope)) (count_arguments layout (length es) 0 (length es)) (arguments layout (length es) 0 es (names_in op scope) scope path)
 arguments_in layout es (Let bound) scope path e h = bound_by layout es (frame bound scope) scope path e h
 arguments_in layout es op scope path e h = from_same (names_of scope) (count_arguments layout (length es) 0 (length es)) (arguments layout (length es) 0 es scope scope path) (same_names layout (length es) 0 es scope path h)
 
@@ -219,7 +219,7 @@ node_in names op m (Ok ts) sound h =
     let here : IsSoundWith names op (count (terms_of ts)) = subst (IsSoundWith names op) counted sound in
     (here.0, here.1, h.0)
 
-operator_node : (layout : Layout) (es : List (Element Reader)) (o : Result Operator SynCode) (scope : Scope) (path : List PathPart) → AreSound es → OperatorIn (names_of scope) layout (length es) o → ReadIn (names_of scope) (with_operator layout es o scope path)
+operator_node : (layout : ElementLayout) (es : List (Element Reader)) (o : Result Operator SynCode) (scope : Scope) (path : List PathPart) → AreSound es → OperatorIn (names_of scope) layout (length es) o → ReadIn (names_of scope) (with_operator layout es o scope path)
 operator_node layout es (Err c) scope path h sound = tt
 operator_node layout es (Ok op) scope path h sound =
     node_in (names_of scope) op (count_arguments layout (length es) 0 (length es)) (arguments layout (length es) 0 es (names_in op scope) scope path)
@@ -247,11 +247,11 @@ array_in names (tree h (tree i (tree l (tree x (tree y ts))))) fits =
     let most : k ≤ 3 = leb-true k 3 (and_parts (nat_le 1 k) (nat_le k 3) fits).1 in
     absurd (omega arith)
 
-if_operator : (names : List (List ℕ)) (layout : Layout) (n : ℕ) (b : Bool) (x y : Result Operator SynCode) → (b ≡ true → OperatorIn names layout n x) → (b ≡ false → OperatorIn names layout n y) → OperatorIn names layout n (if b then x else y)
+if_operator : (names : List (List ℕ)) (layout : ElementLayout) (n : ℕ) (b : Bool) (x y : Result Operator SynCode) → (b ≡ true → OperatorIn names layout n x) → (b ≡ false → OperatorIn names layout n y) → OperatorIn names layout n (if b then x else y)
 if_operator names layout n true x y p q = p refl
 if_operator names layout n false x y p q = q refl
 
-step_with : (names : List (List ℕ)) (layout : Layout) (n p : ℕ) (r : Result (List ℤ) SynCode) → AreInputs None p r → count_arguments layout n 0 n + p ≡ n - 1 → count_arguments layout n 0 n ≡ p + 2 → allows (EvenFrom 4) (n - 1) ≡ true → OperatorIn names layout n (with_inputs Step r)
+step_with : (names : List (List ℕ)) (layout : ElementLayout) (n p : ℕ) (r : Result (List ℤ) SynCode) → AreInputs None p r → count_arguments layout n 0 n + p ≡ n - 1 → count_arguments layout n 0 n ≡ p + 2 → allows (EvenFrom 4) (n - 1) ≡ true → OperatorIn names layout n (with_inputs Step r)
 step_with names layout n p (Err c) h all two fits = tt
 step_with names layout n p (Ok zs) h all two fits =
     let behind : n - 1 ≡ count_arguments layout n 0 n + length zs = omega (arith, h.1) in
@@ -280,7 +280,7 @@ step_in names (tree h (tree a (tree b us))) fits =
     step_with names layouts.Stops n (length (taken (λ n i. is_input i) n 3 us)) (inputs_of None (taken (λ n i. is_input i) n 3 us))
     (are_inputs None (taken (λ n i. is_input i) n 3 us)) (omega (arith, all)) (omega (arith, all, half)) fits
 
-ramp_with : (names : List (List ℕ)) (layout : Layout) (n p : ℕ) (curve : Option Curve) (r : Result (List ℤ) SynCode) → IsCurve curve → AreInputs None p r → count_arguments layout n 0 n + p + 1 ≡ n - 1 → count_arguments layout n 0 n ≡ p + 1 → allows (EvenFrom 4) (n - 1) ≡ true → OperatorIn names layout n (ramp_operator curve r)
+ramp_with : (names : List (List ℕ)) (layout : ElementLayout) (n p : ℕ) (curve : Option Curve) (r : Result (List ℤ) SynCode) → IsCurve curve → AreInputs None p r → count_arguments layout n 0 n + p + 1 ≡ n - 1 → count_arguments layout n 0 n ≡ p + 1 → allows (EvenFrom 4) (n - 1) ≡ true → OperatorIn names layout n (ramp_operator curve r)
 ramp_with names layout n p None r base h all one fits = tt
 ramp_with names layout n p (Some curve) (Err c) base h all one fits = tt
 ramp_with names layout n p (Some curve) (Ok zs) base h all one fits =
@@ -307,7 +307,7 @@ one_type true past b h = refl
 one_type false true b h = absurd (false≢true h)
 one_type false false b h = h
 
-labels_sound : (names : List (List ℕ)) (layout : Layout) (n p : ℕ) (found : Collected) → are_of_one_type found ≡ true → repeats (λ l. false) found.labels ≡ false → NameOutputs p found.labels → NameEachOutput p found.labels → count_arguments layout n 0 n + p ≡ n - 1 → count_arguments layout n 0 n ≡ p + 2 → allows (EvenFrom 4) (n - 1) ≡ true → OperatorIn names layout n (Ok (Match found.labels))
+labels_sound : (names : List (List ℕ)) (layout : ElementLayout) (n p : ℕ) (found : Collected) → are_of_one_type found ≡ true → repeats (λ l. false) found.labels ≡ false → NameOutputs p found.labels → NameEachOutput p found.labels → count_arguments layout n 0 n + p ≡ n - 1 → count_arguments layout n 0 n ≡ p + 2 → allows (EvenFrom 4) (n - 1) ≡ true → OperatorIn names layout n (Ok (Match found.labels))
 labels_sound names layout n p found typed distinct within each all two fits =
     let m = count_arguments layout n 0 n in
     let outputs : p ≡ m - 2 = omega arith in
@@ -317,7 +317,7 @@ labels_sound names layout n p found typed distinct within each all two fits =
     let same_each = subst (λ k. NameEachOutput k found.labels) outputs each in
     ((subst (λ k. allows (EvenFrom 4) k ≡ true) behind fits, (one, distinct, same_within, same_each)), tt)
 
-labels_with : (names : List (List ℕ)) (layout : Layout) (n p : ℕ) (found : Option Collected) → NameOutputsIn p found → NamedIn p found → count_arguments layout n 0 n + p ≡ n - 1 → count_arguments layout n 0 n ≡ p + 2 → allows (EvenFrom 4) (n - 1) ≡ true → OperatorIn names layout n (match_operator found)
+labels_with : (names : List (List ℕ)) (layout : ElementLayout) (n p : ℕ) (found : Option Collected) → NameOutputsIn p found → NamedIn p found → count_arguments layout n 0 n + p ≡ n - 1 → count_arguments layout n 0 n ≡ p + 2 → allows (EvenFrom 4) (n - 1) ≡ true → OperatorIn names layout n (match_operator found)
 labels_with names layout n p None within each all two fits = tt
 labels_with names layout n p (Some found) within each all two fits =
     let wrong = not (are_of_one_type found) || repeats (λ l. false) found.labels in
@@ -379,7 +379,7 @@ var_in scope n (Some s) =
     (λ e. ((subst (λ m. allows (Exactly 1) (m + 1) ≡ true) (sym none) refl, (sym (known_among scope s) ∙ e, none)), tt))
     (λ e. tt)
 
-plain_fits : (arity : Arity) (layout : Layout) (n : ℕ) → ((n i : ℕ) → is_part (place layout n i) ≡ false) → allows arity (n - 1) ≡ true → allows arity (count_arguments layout n 0 n) ≡ true
+plain_fits : (arity : Arity) (layout : ElementLayout) (n : ℕ) → ((n i : ℕ) → is_part (place layout n i) ≡ false) → allows arity (n - 1) ≡ true → allows arity (count_arguments layout n 0 n) ≡ true
 plain_fits arity layout n never fits = subst (λ m. allows arity m ≡ true) (sym (all_arguments layout never n)) fits
 
 never_in_case : (n i : ℕ) → is_part (place layouts.Cases n i) ≡ false
@@ -431,11 +431,11 @@ operator_in name scope ts fits = ((plain_fits (row name).arity (row name).layout
 -- ---- `format`
 
 -- arguments and what each is, which begin with a content
-abbrev AreSections : List (List ℕ) → Sections → Type 0
+abbrev AreSections : List (List ℕ) → FormatArguments → Type 0
 AreSections names found =
     AllRead names found.arguments × (length found.arguments ≡ length found.pieces) × BeginsWithContent found.pieces
 
-abbrev SectionsIn : List (List ℕ) → Result Sections SynFault → Type 0
+abbrev SectionsIn : List (List ℕ) → Result FormatArguments SynFault → Type 0
 SectionsIn names (Ok found) = AreSections names found
 SectionsIn names (Err f) = Unit {0}
 
@@ -447,23 +447,23 @@ length_push : {A : Type 0} (xs : List A) (x : A) → length (xs ++ x ∷ []) ≡
 length_push [] x = refl
 length_push (y ∷ xs) x = ap suc (length_push xs x)
 
-begun_push : (ps : List Piece) (p : Piece) → BeginsWithContent ps → BeginsWithContent (ps ++ p ∷ [])
+begun_push : (ps : List FormatPiece) (p : FormatPiece) → BeginsWithContent ps → BeginsWithContent (ps ++ p ∷ [])
 begun_push [] p h = absurd h
 begun_push (q ∷ ps) p h = h
 
-some_pieces : (ps : List Piece) → BeginsWithContent ps → 1 ≤ length ps
+some_pieces : (ps : List FormatPiece) → BeginsWithContent ps → 1 ≤ length ps
 some_pieces [] h = absurd h
 some_pieces (p ∷ ps) h = omega arith
 
-piece_in : (names : List (List ℕ)) (i : ℕ) (role : Role) (found : Sections) (t : Term) → AreSections names found → IsRead names t → AreSections names (with_piece i role found t)
+piece_in : (names : List (List ℕ)) (i : ℕ) (role : Role) (found : FormatArguments) (t : Term) → AreSections names found → IsRead names t → AreSections names (with_piece i role found t)
 piece_in names i role found t h k =
-    let piece : Piece = record { at = i; role = role } in (
+    let piece : FormatPiece = record { at = i; role = role } in (
       read_push names found.arguments t h.0 k,
       length_push found.arguments t ∙ (ap suc h.1 ∙ sym (length_push found.pieces piece)),
       begun_push found.pieces piece h.2,
     )
 
-then_piece : (names : List (List ℕ)) (i : ℕ) (role : Role) (found : Sections) (r : Read) → AreSections names found → ReadIn names r → SectionsIn names (then_term r (λ t. Ok (with_piece i role found t)))
+then_piece : (names : List (List ℕ)) (i : ℕ) (role : Role) (found : FormatArguments) (r : Read) → AreSections names found → ReadIn names r → SectionsIn names (then_term r (λ t. Ok (with_piece i role found t)))
 then_piece names i role found (Ok t) h k = piece_in names i role found t h k
 then_piece names i role found (Err f) h k = tt
 
@@ -471,33 +471,33 @@ then_first : (names : List (List ℕ)) (r : Read) → ReadIn names r → Section
 then_first names (Ok t) k = ((k, tt), refl, refl)
 then_first names (Err f) k = tt
 
-then_more : (names : List (List ℕ)) (r : Result Sections SynFault) (go : Sections → Result Sections SynFault) → SectionsIn names r → ((found : Sections) → AreSections names found → SectionsIn names (go found)) → SectionsIn names (then_sections r go)
+then_more : (names : List (List ℕ)) (r : Result FormatArguments SynFault) (go : FormatArguments → Result FormatArguments SynFault) → SectionsIn names r → ((found : FormatArguments) → AreSections names found → SectionsIn names (go found)) → SectionsIn names (then_sections r go)
 then_more names (Ok found) go h later = later found h
 then_more names (Err f) go h later = tt
 
-option_in : (i : ℕ) (role : Option Role) (key : List ℕ) (r : Reader) (scope : Scope) (path : List PathPart) (found : Sections) → IsSound r → AreSections (names_of scope) found → SectionsIn (names_of scope) (option_read i role key r scope path found)
+option_in : (i : ℕ) (role : Option Role) (key : List ℕ) (r : Reader) (scope : Scope) (path : List PathPart) (found : FormatArguments) → IsSound r → AreSections (names_of scope) found → SectionsIn (names_of scope) (option_read i role key r scope path found)
 option_in i None key r scope path found sound h = tt
 option_in i (Some role) key r scope path found sound h =
     let there = path ++ Key key ∷ [] in
     then_piece (names_of scope) i role found (r scope there) h (sound scope there)
 
-options_in : (i : ℕ) (ms : List (List ℕ × Reader)) (scope : Scope) (path : List PathPart) (found : Sections) → AreSoundMembers ms → AreSections (names_of scope) found → SectionsIn (names_of scope) (options_read i ms scope path found)
+options_in : (i : ℕ) (ms : List (List ℕ × Reader)) (scope : Scope) (path : List PathPart) (found : FormatArguments) → AreSoundMembers ms → AreSections (names_of scope) found → SectionsIn (names_of scope) (options_read i ms scope path found)
 options_in i [] scope path found sound h = h
 options_in i (m ∷ ms) scope path found sound h =
     then_more (names_of scope) (option_read i (option_named m.0) m.0 m.1 scope path found) (options_read i ms scope path)
     (option_in i (option_named m.0) m.0 m.1 scope path found sound.0 h)
     (λ more k. options_in i ms scope path more sound.1 k)
 
-if_section : (names : List (List ℕ)) (b : Bool) (x y : Result Sections SynFault) → SectionsIn names x → SectionsIn names y → SectionsIn names (if b then x else y)
+if_section : (names : List (List ℕ)) (b : Bool) (x y : Result FormatArguments SynFault) → SectionsIn names x → SectionsIn names y → SectionsIn names (if b then x else y)
 if_section names true x y h k = h
 if_section names false x y h k = k
 
-section_in : (i : ℕ) (follows : Bool) (o : Option (List (List ℕ × Reader))) (r : Reader) (scope : Scope) (path : List PathPart) (found : Sections) → IsSound r → AreSoundOptions o → AreSections (names_of scope) found → SectionsIn (names_of scope) (section_read i follows o r scope path found)
+section_in : (i : ℕ) (follows : Bool) (o : Option (List (List ℕ × Reader))) (r : Reader) (scope : Scope) (path : List PathPart) (found : FormatArguments) → IsSound r → AreSoundOptions o → AreSections (names_of scope) found → SectionsIn (names_of scope) (section_read i follows o r scope path found)
 section_in i follows (Some ms) r scope path found sound others h =
     if_section (names_of scope) follows (options_read i ms scope path found) (fault path code.BareObject) (options_in i ms scope path found others h) tt
 section_in i follows None r scope path found sound others h = then_piece (names_of scope) i Content found (r scope path) h (sound scope path)
 
-sections_in : (i : ℕ) (follows : Bool) (es : List (Element Reader)) (scope : Scope) (path : List PathPart) (found : Sections) → AreSound es → AreSections (names_of scope) found → SectionsIn (names_of scope) (sections_read i follows es scope path found)
+sections_in : (i : ℕ) (follows : Bool) (es : List (Element Reader)) (scope : Scope) (path : List PathPart) (found : FormatArguments) → AreSound es → AreSections (names_of scope) found → SectionsIn (names_of scope) (sections_read i follows es scope path found)
 sections_in i follows [] scope path found sound h = h
 sections_in i follows (e ∷ es) scope path found sound h =
     let section = section_read i follows e.1 e.0 scope (at path i) found in
@@ -513,7 +513,7 @@ first_in : (o : Option (List (List ℕ × Reader))) (r : Reader) (scope : Scope)
 first_in (Some ms) r scope path sound = tt
 first_in None r scope path sound = then_first (names_of scope) (r scope path) (sound scope path)
 
-format_node : (names : List (List ℕ)) (r : Result Sections SynFault) → SectionsIn names r → ReadIn names (then_format r)
+format_node : (names : List (List ℕ)) (r : Result FormatArguments SynFault) → SectionsIn names r → ReadIn names (then_format r)
 format_node names (Err f) h = tt
 format_node names (Ok found) h =
     let counted : count (terms_of found.arguments) ≡ length found.pieces = count_of found.arguments ∙ h.1 in

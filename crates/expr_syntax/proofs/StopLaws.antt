@@ -14,7 +14,7 @@ use Rattle.expr_syntax.proofs.InputLaws.{after_input, past_input, skipped_input}
 use Rattle.expr_syntax.specs.declared.fault.SynCode.{SynCode}
 use Rattle.expr_syntax.specs.declared.names.Name.{Name}
 use Rattle.expr_syntax.specs.declared.names.Name.TheVariants.{Interpolate}
-use Rattle.expr_syntax.specs.declared.rows.Layout.TheVariants.{Ramp}
+use Rattle.expr_syntax.specs.declared.rows.ElementLayout.TheVariants.{Ramp}
 use Rattle.expr_syntax.specs.Elements.{taken}
 use Rattle.expr_syntax.specs.Names.{row}
 use Rattle.expr_syntax.specs.Rows.{allows, is_input}

@@ -9,15 +9,15 @@ use Rattle.expr_syntax.specs.declared.names.Name.TheVariants.{Literal, Array, Bo
 use Rattle.expr_syntax.specs.declared.rows.Arity.TheVariants.{Exactly, Between, AtLeast, OddFrom, EvenFrom}
 use Rattle.expr_syntax.specs.declared.rows.Wants.TheVariants as wanting
 use Rattle.expr_syntax.specs.declared.rows.Wants.TheVariants.{Each, Then, Third, Conditions, Input}
-use Rattle.expr_syntax.specs.declared.rows.Layout.TheVariants as layouts
+use Rattle.expr_syntax.specs.declared.rows.ElementLayout.TheVariants as layouts
 use Rattle.expr_syntax.specs.declared.rows.Manner.TheVariants as manners
 use Rattle.expr_syntax.specs.declared.rows.Reads.TheVariants as reads
-use Rattle.expr_syntax.specs.Rows.{Row, plain, outside}
+use Rattle.expr_syntax.specs.Rows.{OperatorRow, plain, outside}
 
 -- What the table says of an operator: its name as it is written, how many elements may follow it, and what
 -- its arguments are wanted as; where it differs from a plain operator, how its elements are laid out, which
 -- argument has to be a text or a list, how the arguments are evaluated, and what it reads of the world.
-abbrev pub row : Name → Row
+abbrev pub row : Name → OperatorRow
 row Literal = record (plain (codes "literal") (Exactly 1) (Each wants.Any)) { layout = layouts.Value }
 row Array = record (plain (codes "array") (Between 1 3) (Each wants.Any)) { layout = layouts.Items }
 row Boolean = record (plain (codes "boolean") (AtLeast 1) (Each wants.Any)) { manner = manners.Deciding }

@@ -7,7 +7,7 @@ use Rattle.prop_values.specs.declared.kinds.Want.{Want}
 use Rattle.prop_values.specs.declared.kinds.Want.TheVariants as wants
 use Rattle.expr_syntax.specs.declared.parts.Role.{Role}
 use Rattle.expr_syntax.specs.declared.parts.Role.TheVariants as roles
-use Rattle.expr_syntax.specs.declared.parts.Piece.{Piece}
+use Rattle.expr_syntax.specs.declared.parts.FormatPiece.{FormatPiece}
 use Rattle.expr_syntax.specs.declared.rows.Wanted.{Wanted}
 use Rattle.expr_syntax.specs.declared.rows.Wanted.TheVariants.{Own, OfNode}
 use Rattle.expr_syntax.specs.Names.{row}
@@ -135,7 +135,7 @@ role_want roles.Scale = wants.Number
 role_want roles.Font = wants.List items.Text None
 role_want roles.Color = wants.Color
 
-abbrev pub piece_wanted : Option Piece → Wanted
+abbrev pub piece_wanted : Option FormatPiece → Wanted
 piece_wanted (Some piece) = Own (role_want piece.role)
 piece_wanted None = Own wants.Any
 

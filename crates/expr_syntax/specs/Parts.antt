@@ -20,8 +20,8 @@ use Rattle.expr_syntax.specs.LabelLists.{is_number, is_text, repeats}
 use Rattle.expr_syntax.specs.declared.expression.Operator.{Operator}
 use Rattle.expr_syntax.specs.declared.expression.Operator.TheVariants as operators
 use Rattle.expr_syntax.specs.declared.names.Name.{Name}
-use Rattle.expr_syntax.specs.declared.rows.Layout.{Layout}
-use Rattle.expr_syntax.specs.declared.rows.Layout.TheVariants as layouts
+use Rattle.expr_syntax.specs.declared.rows.ElementLayout.{ElementLayout}
+use Rattle.expr_syntax.specs.declared.rows.ElementLayout.TheVariants as layouts
 use Rattle.expr_syntax.specs.Rows.{is_input, is_label, is_binder}
 use Rattle.expr_syntax.specs.Operators.{plain_operator}
 use Rattle.expr_syntax.specs.Elements.{after_head, second, second_text, taken}
@@ -239,7 +239,7 @@ step_operator n ts = with_inputs operators.Step (inputs_among n ts)
 abbrev pub interpolate_operator : ℕ → Trees → Result Operator SynCode
 interpolate_operator n ts = ramp_operator (curve_in (second ts)) (inputs_among n ts)
 
-abbrev pub operator_of : Layout → Name → Scope → ℕ → Trees → Result Operator SynCode
+abbrev pub operator_of : ElementLayout → Name → Scope → ℕ → Trees → Result Operator SynCode
 operator_of layouts.Items name scope n ts = array_operator (after_head ts)
 operator_of layouts.Labels name scope n ts = match_operator (labels_among n ts)
 operator_of layouts.Stops name scope n ts = step_operator n ts

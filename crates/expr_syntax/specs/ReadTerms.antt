@@ -8,7 +8,7 @@ use Rattle.prop_values.specs.Data.{Data}
 use Rattle.interpolate_fixed.specs.Places.{IsAscending}
 use Rattle.interpolate_fixed.specs.Warp.{HasPositiveBase}
 use Rattle.expr_syntax.specs.declared.parts.Labelled.{Labelled}
-use Rattle.expr_syntax.specs.declared.parts.Piece.{Piece}
+use Rattle.expr_syntax.specs.declared.parts.FormatPiece.{FormatPiece}
 use Rattle.expr_syntax.specs.declared.parts.Role.TheVariants.{Content}
 use Rattle.expr_syntax.specs.declared.expression.Operator.{Operator}
 use Rattle.expr_syntax.specs.declared.expression.Operator.TheVariants.{Array, Match, Step, Interpolate, Let, Var, Format}
@@ -51,7 +51,7 @@ abbrev pub NameEachOutput : ℕ → List Labelled → Type 0
 NameEachOutput outputs labels = (k : ℕ) → k < outputs → is_named labels k ≡ true
 
 -- The first argument of a `format` is a content.
-abbrev pub BeginsWithContent : List Piece → Type 0
+abbrev pub BeginsWithContent : List FormatPiece → Type 0
 BeginsWithContent [] = ⊥
 BeginsWithContent (p ∷ ps) = p.role ≡ Content
 

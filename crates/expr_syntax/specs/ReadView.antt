@@ -15,7 +15,7 @@ use Rattle.expr_syntax.specs.declared.expression.Operator.{Operator}
 use Rattle.expr_syntax.specs.declared.fault.SynFault.{SynFault}
 use Rattle.expr_syntax.specs.declared.reading.Reading.{Reading as CodeReading}
 use Rattle.expr_syntax.specs.declared.reading.Reading.TheVariants.{Inside, Outside}
-use Rattle.expr_syntax.specs.declared.rows.Layout.{Layout}
+use Rattle.expr_syntax.specs.declared.rows.ElementLayout.{ElementLayout}
 use Rattle.expr_syntax.specs.declared.scope.Scope.{Scope as CodeScope}
 use Rattle.expr_syntax.specs.Elements.{Element}
 use Rattle.expr_syntax.specs.Reading.{Read, Reader, Reading, elements, members, arguments, names_in}
@@ -37,11 +37,11 @@ abbrev pub elements_of : List Json → List (Element Reader)
 elements_of items = elements (trees items)
 
 -- the arguments of a node, the last inside of other names
-abbrev pub arguments_of : Layout → List Json → Scope → Scope → List PathPart → Result (List Term) SynFault
+abbrev pub arguments_of : ElementLayout → List Json → Scope → Scope → List PathPart → Result (List Term) SynFault
 arguments_of layout items inner scope path = arguments layout (length items) 0 (elements_of items) inner scope path
 
 -- the arguments of a node of an operator, the last inside of the names that it binds
-abbrev pub arguments_within : Layout → Operator → List Json → Scope → List PathPart → Result (List Term) SynFault
+abbrev pub arguments_within : ElementLayout → Operator → List Json → Scope → List PathPart → Result (List Term) SynFault
 arguments_within layout op items scope path = arguments_of layout items (names_in op scope) scope path
 
 abbrev pub members_of : List Member → List (List ℕ × Reader)

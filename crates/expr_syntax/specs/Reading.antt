@@ -13,15 +13,15 @@ use Rattle.expr_syntax.specs.declared.fault.SynFault.{SynFault}
 use Rattle.expr_syntax.specs.declared.fault.SynCode.{SynCode}
 use Rattle.expr_syntax.specs.declared.fault.SynCode.TheVariants as code
 use Rattle.expr_syntax.specs.declared.names.Name.{Name}
-use Rattle.expr_syntax.specs.declared.rows.Layout.{Layout}
-use Rattle.expr_syntax.specs.declared.rows.Layout.TheVariants.{Value, Global}
-use Rattle.expr_syntax.specs.declared.rows.Place.{Place}
-use Rattle.expr_syntax.specs.declared.rows.Place.TheVariants.{Part}
+use Rattle.expr_syntax.specs.declared.rows.ElementLayout.{ElementLayout}
+use Rattle.expr_syntax.specs.declared.rows.ElementLayout.TheVariants.{Value, Global}
+use Rattle.expr_syntax.specs.declared.rows.ElementPlace.{ElementPlace}
+use Rattle.expr_syntax.specs.declared.rows.ElementPlace.TheVariants.{Part}
 use Rattle.expr_syntax.specs.declared.expression.Operator.{Operator}
 use Rattle.expr_syntax.specs.declared.expression.Operator.TheVariants as operators
 use Rattle.expr_syntax.specs.declared.parts.Role.{Role}
 use Rattle.expr_syntax.specs.declared.parts.Role.TheVariants.{Content}
-use Rattle.expr_syntax.specs.declared.sections.Sections.{Sections}
+use Rattle.expr_syntax.specs.declared.sections.FormatArguments.{FormatArguments}
 use Rattle.expr_syntax.specs.Rows.{allows, element_place, is_last}
 use Rattle.expr_syntax.specs.Names.{row, name_of}
 use Rattle.expr_syntax.specs.Elements.{Element, head_text, second, second_text, option_named}
@@ -74,7 +74,7 @@ global_read None scope path = fault path code.Part
 -- ---- the arguments of a node that is laid out by places; the last element is read inside the names that the
 -- node binds
 
-abbrev pub is_part : Place → Bool
+abbrev pub is_part : ElementPlace → Bool
 is_part Part = true
 is_part _ = false
 
@@ -83,7 +83,7 @@ and_term (Ok t) (Ok ts) = Ok (t ∷ ts)
 and_term (Ok t) (Err f) = Err f
 and_term (Err f) later = Err f
 
-abbrev pub arguments : Layout → ℕ → ℕ → List (Element Reader) → Scope → Scope → List PathPart → Result (List Term) SynFault
+abbrev pub arguments : ElementLayout → ℕ → ℕ → List (Element Reader) → Scope → Scope → List PathPart → Result (List Term) SynFault
 arguments layout n i [] inner scope path = Ok []
 arguments layout n i (e ∷ es) inner scope path =
     if is_part (element_place layout n i) then arguments layout n (i + 1) es inner scope path
@@ -97,7 +97,7 @@ abbrev pub then_node : Operator → Result (List Term) SynFault → Read
 then_node op (Ok ts) = Ok (node op (terms_of ts))
 then_node op (Err f) = Err f
 
-abbrev pub with_operator : Layout → List (Element Reader) → Result Operator SynCode → Reader
+abbrev pub with_operator : ElementLayout → List (Element Reader) → Result Operator SynCode → Reader
 with_operator layout es (Ok op) scope path = then_node op (arguments layout (length es) 0 es (names_in op scope) scope path)
 with_operator layout es (Err c) scope path = fault path c
 
@@ -108,51 +108,51 @@ abbrev pub then_term : {A : Type 0} → Read → (Term → Result A SynFault) �
 then_term (Ok t) go = go t
 then_term (Err f) go = Err f
 
-abbrev pub then_sections : Result Sections SynFault → (Sections → Result Sections SynFault) → Result Sections SynFault
+abbrev pub then_sections : Result FormatArguments SynFault → (FormatArguments → Result FormatArguments SynFault) → Result FormatArguments SynFault
 then_sections (Ok found) go = go found
 then_sections (Err f) go = Err f
 
-abbrev pub with_piece : ℕ → Role → Sections → Term → Sections
+abbrev pub with_piece : ℕ → Role → FormatArguments → Term → FormatArguments
 with_piece i role found t = record { pieces = found.pieces ++ record { at = i; role = role } ∷ []; arguments = found.arguments ++ t ∷ [] }
 
-abbrev pub option_read : ℕ → Option Role → List ℕ → Reader → Scope → List PathPart → Sections → Result Sections SynFault
+abbrev pub option_read : ℕ → Option Role → List ℕ → Reader → Scope → List PathPart → FormatArguments → Result FormatArguments SynFault
 option_read i (Some role) key r scope path found = then_term (r scope (path ++ parts.Key key ∷ [])) (λ t. Ok (with_piece i role found t))
 option_read i None key r scope path found = fault path code.BareObject
 
 -- the options in the object at element i, whose path this is
-abbrev pub options_read : ℕ → List (List ℕ × Reader) → Scope → List PathPart → Sections → Result Sections SynFault
+abbrev pub options_read : ℕ → List (List ℕ × Reader) → Scope → List PathPart → FormatArguments → Result FormatArguments SynFault
 options_read i [] scope path found = Ok found
 options_read i (m ∷ ms) scope path found = then_sections (option_read i (option_named m.0) m.0 m.1 scope path found) (options_read i ms scope path)
 
-abbrev pub section_read : ℕ → Bool → Option (List (List ℕ × Reader)) → Reader → Scope → List PathPart → Sections → Result Sections SynFault
+abbrev pub section_read : ℕ → Bool → Option (List (List ℕ × Reader)) → Reader → Scope → List PathPart → FormatArguments → Result FormatArguments SynFault
 section_read i follows (Some ms) r scope path found = if follows then options_read i ms scope path found else fault path code.BareObject
 section_read i follows None r scope path found = then_term (r scope path) (λ t. Ok (with_piece i Content found t))
 
 -- from element i on; `follows` says whether the one before is a content, and the name is at 0
-abbrev pub sections_read : ℕ → Bool → List (Element Reader) → Scope → List PathPart → Sections → Result Sections SynFault
+abbrev pub sections_read : ℕ → Bool → List (Element Reader) → Scope → List PathPart → FormatArguments → Result FormatArguments SynFault
 sections_read i follows [] scope path found = Ok found
 sections_read i follows (e ∷ es) scope path found =
     if nat_eq i 0 then sections_read (i + 1) false es scope path found
     else then_sections (section_read i follows e.1 e.0 scope (at path i) found) (sections_read (i + 1) (is_none e.1) es scope path)
 
-abbrev pub no_sections : Sections
+abbrev pub no_sections : FormatArguments
 no_sections = record { pieces = []; arguments = [] }
 
 -- from the name on
-abbrev pub all_sections : List (Element Reader) → Scope → List PathPart → Result Sections SynFault
+abbrev pub all_sections : List (Element Reader) → Scope → List PathPart → Result FormatArguments SynFault
 all_sections es scope path = sections_read 0 false es scope path no_sections
 
-abbrev pub then_format : Result Sections SynFault → Read
+abbrev pub then_format : Result FormatArguments SynFault → Read
 then_format (Ok found) = Ok (node (operators.Format found.pieces) (terms_of found.arguments))
 then_format (Err f) = Err f
 
 -- ---- nodes: the tests at a node come before its elements, the least fault first
 
-abbrev pub is_value_layout : Layout → Bool
+abbrev pub is_value_layout : ElementLayout → Bool
 is_value_layout Value = true
 is_value_layout _ = false
 
-abbrev pub is_global_layout : Layout → Bool
+abbrev pub is_global_layout : ElementLayout → Bool
 is_global_layout Global = true
 is_global_layout _ = false
 
@@ -202,7 +202,7 @@ abbrev pub node_of : Name → Trees → Reader
 node_of name ts = node_read name ts (elements ts)
 
 -- an element of a `format`
-abbrev pub section_of : ℕ → Bool → Tree → Scope → List PathPart → Sections → Result Sections SynFault
+abbrev pub section_of : ℕ → Bool → Tree → Scope → List PathPart → FormatArguments → Result FormatArguments SynFault
 section_of i follows t scope path found = section_read i follows (options t) (read t) scope path found
 
 -- an expression, or none where it is outside

@@ -3,10 +3,10 @@ use Rattle.std.specs.Prelude.{ℕ, ◌+◌, ◌%◌, List, Bool, true, false, no
 use Rattle.prop_values.specs.declared.kinds.Want.TheVariants as wants
 use Rattle.expr_syntax.specs.declared.rows.Arity.{Arity}
 use Rattle.expr_syntax.specs.declared.rows.Arity.TheVariants.{Exactly, Between, AtLeast, OddFrom, EvenFrom}
-use Rattle.expr_syntax.specs.declared.rows.Layout.{Layout}
-use Rattle.expr_syntax.specs.declared.rows.Layout.TheVariants.{Arguments, Choices, Value, Items, Cases, Labels, Stops, Ramp, Bindings, Variable, Global, Sections}
-use Rattle.expr_syntax.specs.declared.rows.Place.{Place}
-use Rattle.expr_syntax.specs.declared.rows.Place.TheVariants.{Part, Argument, Output}
+use Rattle.expr_syntax.specs.declared.rows.ElementLayout.{ElementLayout}
+use Rattle.expr_syntax.specs.declared.rows.ElementLayout.TheVariants.{Arguments, Choices, Value, Items, Cases, Labels, Stops, Ramp, Bindings, Variable, Global, Sections}
+use Rattle.expr_syntax.specs.declared.rows.ElementPlace.{ElementPlace}
+use Rattle.expr_syntax.specs.declared.rows.ElementPlace.TheVariants.{Part, Argument, Output}
 use Rattle.expr_syntax.specs.declared.rows.Wants.{Wants}
 use Rattle.expr_syntax.specs.declared.rows.Wants.TheVariants as wanting
 use Rattle.expr_syntax.specs.declared.rows.Wanted.{Wanted}
@@ -15,27 +15,27 @@ use Rattle.expr_syntax.specs.declared.rows.Manner.{Manner}
 use Rattle.expr_syntax.specs.declared.rows.Manner.TheVariants as manners
 use Rattle.expr_syntax.specs.declared.rows.Reads.{Reads}
 use Rattle.expr_syntax.specs.declared.rows.Reads.TheVariants as reading
-use Rattle.expr_syntax.specs.declared.rows.Row.{Row as CodeRow}
+use Rattle.expr_syntax.specs.declared.rows.OperatorRow.{OperatorRow as CodeRow}
 
 -- A row of the table: the fields of the program's own.
-pub record Row : Type 0 where
+pub record OperatorRow : Type 0 where
   pub text : List ℕ
   pub is_outside : Bool
   pub arity : Arity
-  pub layout : Layout
+  pub layout : ElementLayout
   pub wants : Wants
   pub sequence : Option ℕ
   pub manner : Manner
   pub reads : Reads
 
-abbrev pub row_view : CodeRow → Row
+abbrev pub row_view : CodeRow → OperatorRow
 row_view r = record { text = r.text.now; is_outside = r.is_outside; arity = r.arity; layout = r.layout; wants = r.wants; sequence = r.sequence; manner = r.manner; reads = r.reads }
 
 -- an operator all of whose elements are arguments, which are all evaluated and are all that it reads
-abbrev pub plain : List ℕ → Arity → Wants → Row
+abbrev pub plain : List ℕ → Arity → Wants → OperatorRow
 plain text arity wants = record { text = text; is_outside = false; arity = arity; layout = Arguments; wants = wants; sequence = None; manner = manners.Each; reads = reading.Nothing }
 
-abbrev pub outside : List ℕ → Row
+abbrev pub outside : List ℕ → OperatorRow
 outside text = record (plain text (AtLeast 0) (wanting.Each wants.Any)) { is_outside = true }
 
 -- whether so many elements may follow the name
@@ -66,7 +66,7 @@ abbrev pub is_binder : ℕ → ℕ → Bool
 is_binder n i = not (is_even i) && not (is_last n i)
 
 -- what an element after the name is
-abbrev pub place : Layout → ℕ → ℕ → Place
+abbrev pub place : ElementLayout → ℕ → ℕ → ElementPlace
 place Arguments n i = Argument
 place Choices n i = Output
 place Value n i = Part
@@ -81,7 +81,7 @@ place Global n i = Part
 place Sections n i = Argument
 
 -- what an element is, the name counted as a part
-abbrev pub element_place : Layout → ℕ → ℕ → Place
+abbrev pub element_place : ElementLayout → ℕ → ℕ → ElementPlace
 element_place layout n i = if nat_eq i 0 then Part else place layout n i
 
 -- what the argument k of m arguments is wanted as

@@ -6,10 +6,10 @@ use Rattle.decimal_json.specs.Accessors.{is_object}
 use Rattle.decimal_json.specs.Tree.{Tree, null, boolean, number, text, list, object, Trees, no_trees, tree, Fields, no_fields, field}
 use Rattle.prop_values.specs.declared.outcome.Curve.{Curve}
 use Rattle.expr_syntax.specs.declared.names.Name.{Name}
-use Rattle.expr_syntax.specs.declared.rows.Layout.{Layout}
-use Rattle.expr_syntax.specs.declared.rows.Layout.TheVariants.{Ramp, Sections, Global as GlobalName}
-use Rattle.expr_syntax.specs.declared.rows.Place.{Place}
-use Rattle.expr_syntax.specs.declared.rows.Place.TheVariants.{Part, Argument, Output}
+use Rattle.expr_syntax.specs.declared.rows.ElementLayout.{ElementLayout}
+use Rattle.expr_syntax.specs.declared.rows.ElementLayout.TheVariants.{Ramp, Sections, Global as GlobalName}
+use Rattle.expr_syntax.specs.declared.rows.ElementPlace.{ElementPlace}
+use Rattle.expr_syntax.specs.declared.rows.ElementPlace.TheVariants.{Part, Argument, Output}
 use Rattle.expr_syntax.specs.declared.standing.Sought.{Sought}
 use Rattle.expr_syntax.specs.declared.standing.Sought.TheVariants.{Outside, Global}
 use Rattle.expr_syntax.specs.Rows.{allows, element_place}
@@ -54,7 +54,7 @@ abbrev pub outside_sections : ℕ → Bool → Trees → Bool
 outside_sections i follows no_trees = false
 outside_sections i follows (tree t ts) = outside_part i follows t || outside_sections (i + 1) (nat_lt 0 i && not (is_object t)) ts
 
-abbrev pub layout_outside : Layout → Trees → Bool → Bool
+abbrev pub layout_outside : ElementLayout → Trees → Bool → Bool
 layout_outside Ramp ts format = outside_ramp (second ts)
 layout_outside Sections ts format = not format || outside_sections 0 false ts
 layout_outside _ ts format = false
@@ -69,11 +69,11 @@ is_outside_node name ts format = (row name).is_outside || layout_outside (row na
 abbrev pub Walker : Type 0
 Walker = Sought → Bool → Bool
 
-abbrev pub is_global_layout : Layout → Bool
+abbrev pub is_global_layout : ElementLayout → Bool
 is_global_layout GlobalName = true
 is_global_layout _ = false
 
-abbrev pub is_format_layout : Layout → Bool
+abbrev pub is_format_layout : ElementLayout → Bool
 is_format_layout Sections = true
 is_format_layout _ = false
 
@@ -81,16 +81,16 @@ abbrev pub is_for_global : Sought → Bool
 is_for_global Global = true
 is_for_global Outside = false
 
-abbrev pub is_sought : Sought → Layout → Bool
+abbrev pub is_sought : Sought → ElementLayout → Bool
 is_sought sought layout = is_for_global sought && is_global_layout layout
 
 -- a `format` node may be where the value of the node may come from
-abbrev pub in_element : Place → Walker → Walker
+abbrev pub in_element : ElementPlace → Walker → Walker
 in_element Part w sought format = false
 in_element Argument w sought format = w sought false
 in_element Output w sought format = w sought format
 
-abbrev pub some_element : Layout → ℕ → ℕ → List (Element Walker) → Walker
+abbrev pub some_element : ElementLayout → ℕ → ℕ → List (Element Walker) → Walker
 some_element layout n i [] sought format = false
 some_element layout n i (e ∷ es) sought format = in_element (element_place layout n i) e.0 sought format || some_element layout n (i + 1) es sought format
 

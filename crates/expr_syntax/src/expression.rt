@@ -7,7 +7,7 @@ ghost use Rattle.expr_syntax.specs.TermView.{term_of, terms_view};
 use crate::bound_names::Names;
 use crate::names::Name;
 use crate::parts::{Inputs, Labels, Pieces, Ramp};
-use crate::rows::{Row, Wanted};
+use crate::rows::{OperatorRow, Wanted};
 use decimal_json::Text;
 use prop_values::{Item, Value, Want};
 use std::alloc::{AllocError, Global};
@@ -142,7 +142,7 @@ impl Operator {
     }
 
     /// What the table says of the operator.
-    pub fn row(&self) -> &'static Row
+    pub fn row(&self) -> &'static OperatorRow
         ensures { row_view result.now ≡ row (operator_name self.now) }
     {
         self.name().row()

@@ -5,7 +5,7 @@ ghost use Rattle.std.specs.BTreeMap.{get};
 ghost use Rattle.std.specs.Ordering.{int_cmp};
 ghost use Rattle.prop_values.specs.View.{data_of};
 ghost use Rattle.expr_syntax.specs.declared.parts.Label.{Label};
-ghost use Rattle.expr_syntax.specs.LabelIndex.{output_at, value_output, IsIndexOrNone, Notes, NotesNumber};
+ghost use Rattle.expr_syntax.specs.LabelIndex.{output_at, value_output, IsIndexOrNone, NotesLabel, NotesNumber};
 
 use crate::parts::{Label, Labelled};
 use crate::text_numbers::{TextNumbers, note_text, number_of_text};
@@ -115,7 +115,7 @@ fn note_label(
     label: &Label,
     output: usize,
 ) -> Result<(), AllocError>
-    ensures { OnOk result (Notes label.now output index.old index.new) }
+    ensures { OnOk result (NotesLabel label.now output index.old index.new) }
 {
     match label {
         Label::Text(text) => note_text(alloc, &mut index.texts, text.as_str(), output),

@@ -51,7 +51,9 @@ pub use expression::{Arguments, Expr, Operator};
 pub use fault::{SynCode, SynFault};
 pub use laws::read_terms_are_sound;
 pub use names::{Name, operator_named};
-pub use parts::{Inputs, Label, Labelled, Labels, Piece, Pieces, Ramp, Role};
+pub use parts::{FormatPiece, Inputs, Label, Labelled, Labels, Pieces, Ramp, Role};
 pub use reading::{Reading, read_expr, read_with, uses_globals};
-pub use rows::{Arity, Layout, Manner, Place, Reads, Row, Wanted, Wants, ramp_want};
+pub use rows::{
+    Arity, ElementLayout, ElementPlace, Manner, OperatorRow, Reads, Wanted, Wants, ramp_want,
+};
 pub use world_parts::Mentions;

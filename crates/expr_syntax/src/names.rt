@@ -7,7 +7,7 @@ ghost use Rattle.expr_syntax.specs.Slots.{slot_of, name_in};
 
 use crate::rows::Arity::{AtLeast, Between, EvenFrom, Exactly, OddFrom};
 use crate::rows::Wants::{Bindings, Conditions, Each, Input, Then, Third};
-use crate::rows::{Arity, Layout, Manner, Reads, Row, Wants};
+use crate::rows::{Arity, ElementLayout, Manner, OperatorRow, Reads, Wants};
 use prop_values::{Item, Want};
 
 /// The name of an operator, in the order of the table: lower case with hyphens, where nothing else is said.
@@ -117,24 +117,24 @@ pub enum Name {
 
 /// The order of the elements of a node: a part of its row.
 #[derive(Clone, Copy, Debug, PartialEq, Eq)]
-pub(crate) struct Shape {
+pub(crate) struct NodeShape {
     /// Whether the operator is outside of what is evaluated.
     pub(crate) is_outside: bool,
     /// How many elements may follow the name.
     pub(crate) arity: Arity,
     /// Which elements are arguments.
-    pub(crate) layout: Layout,
+    pub(crate) layout: ElementLayout,
 }
 
 impl Name {
     /// The order of the elements of its nodes.
-    pub(crate) fn shape(self) -> Shape
+    pub(crate) fn shape(self) -> NodeShape
         ensures is_outside { result.is_outside ≡ (row self).is_outside }
         ensures arity { result.arity ≡ (row self).arity }
         ensures layout { result.layout ≡ (row self).layout }
     {
         let row = self.row();
-        Shape {
+        NodeShape {
             is_outside: row.is_outside,
             arity: row.arity,
             layout: row.layout,
@@ -142,7 +142,7 @@ impl Name {
     }
 
     /// What the table says of the operator.
-    pub fn row(self) -> &'static Row
+    pub fn row(self) -> &'static OperatorRow
         ensures { row_view result.now ≡ row self }
     {
         &ROWS[self as usize]
@@ -188,11 +188,11 @@ fn slot(text: &[u8]) -> usize
 // The row of an operator that evaluates all its arguments, and reads nothing else.
 macro_rules! plain {
     ($text:expr, $arity:expr, $wants:expr $(,)?) => {
-        Row {
+        OperatorRow {
             text: $text,
             is_outside: false,
             arity: $arity,
-            layout: Layout::Arguments,
+            layout: ElementLayout::Arguments,
             wants: $wants,
             sequence: None,
             manner: Manner::Each,
@@ -204,7 +204,7 @@ macro_rules! plain {
 // The row of an operator that is outside of what is evaluated.
 macro_rules! outside {
     ($text:expr) => {
-        Row {
+        OperatorRow {
             is_outside: true,
             ..plain!($text, AtLeast(0), Each(Want::Any))
         }
@@ -212,63 +212,63 @@ macro_rules! outside {
 }
 
 // What the table says of each operator, in the order of the names.
-static ROWS: [Row; 84] = [
-    Row {
-        layout: Layout::Value,
+static ROWS: [OperatorRow; 84] = [
+    OperatorRow {
+        layout: ElementLayout::Value,
         ..plain!("literal", Exactly(1), Each(Want::Any))
     },
-    Row {
-        layout: Layout::Items,
+    OperatorRow {
+        layout: ElementLayout::Items,
         ..plain!("array", Between(1, 3), Each(Want::Any))
     },
-    Row {
+    OperatorRow {
         manner: Manner::Deciding,
         ..plain!("boolean", AtLeast(1), Each(Want::Any))
     },
-    Row {
+    OperatorRow {
         manner: Manner::Deciding,
         ..plain!("number", AtLeast(1), Each(Want::Any))
     },
-    Row {
+    OperatorRow {
         manner: Manner::Deciding,
         ..plain!("string", AtLeast(1), Each(Want::Any))
     },
-    Row {
+    OperatorRow {
         manner: Manner::Deciding,
         ..plain!("object", AtLeast(1), Each(Want::Any))
     },
     plain!("to-boolean", Exactly(1), Each(Want::Any)),
-    Row {
+    OperatorRow {
         manner: Manner::Deciding,
         ..plain!("to-color", AtLeast(1), Each(Want::Any))
     },
-    Row {
+    OperatorRow {
         manner: Manner::Deciding,
         ..plain!("to-number", AtLeast(1), Each(Want::Any))
     },
     plain!("to-string", Exactly(1), Each(Want::Any)),
     plain!("typeof", Exactly(1), Each(Want::Any)),
-    Row {
+    OperatorRow {
         reads: Reads::FeatureAlone,
         ..plain!("get", Between(1, 2), Then(Want::Text, Want::Object))
     },
-    Row {
+    OperatorRow {
         reads: Reads::FeatureAlone,
         ..plain!("has", Between(1, 2), Then(Want::Text, Want::Object))
     },
-    Row {
+    OperatorRow {
         reads: Reads::Feature,
         ..plain!("properties", Exactly(0), Each(Want::Any))
     },
-    Row {
+    OperatorRow {
         reads: Reads::Feature,
         ..plain!("id", Exactly(0), Each(Want::Any))
     },
-    Row {
+    OperatorRow {
         reads: Reads::Feature,
         ..plain!("geometry-type", Exactly(0), Each(Want::Any))
     },
-    Row {
+    OperatorRow {
         reads: Reads::State,
         ..plain!("feature-state", Exactly(1), Each(Want::Text))
     },
@@ -277,11 +277,11 @@ static ROWS: [Row; 84] = [
         Exactly(2),
         Then(Want::Number, Want::List(Item::Any, None)),
     ),
-    Row {
+    OperatorRow {
         sequence: Some(1),
         ..plain!("in", Exactly(2), Each(Want::Any))
     },
-    Row {
+    OperatorRow {
         sequence: Some(1),
         ..plain!(
             "index-of",
@@ -289,11 +289,11 @@ static ROWS: [Row; 84] = [
             Third(Want::Any, Want::Any, Want::Number),
         )
     },
-    Row {
+    OperatorRow {
         sequence: Some(0),
         ..plain!("length", Exactly(1), Each(Want::Any))
     },
-    Row {
+    OperatorRow {
         sequence: Some(0),
         ..plain!("slice", Between(2, 3), Then(Want::Any, Want::Number))
     },
@@ -304,50 +304,50 @@ static ROWS: [Row; 84] = [
     plain!("<=", Exactly(2), Each(Want::Any)),
     plain!(">", Exactly(2), Each(Want::Any)),
     plain!(">=", Exactly(2), Each(Want::Any)),
-    Row {
+    OperatorRow {
         manner: Manner::Deciding,
         ..plain!("all", AtLeast(0), Each(Want::Boolean))
     },
-    Row {
+    OperatorRow {
         manner: Manner::Deciding,
         ..plain!("any", AtLeast(0), Each(Want::Boolean))
     },
-    Row {
-        layout: Layout::Cases,
+    OperatorRow {
+        layout: ElementLayout::Cases,
         manner: Manner::Branches,
         ..plain!("case", OddFrom(3), Conditions)
     },
-    Row {
-        layout: Layout::Labels,
+    OperatorRow {
+        layout: ElementLayout::Labels,
         manner: Manner::Branches,
         ..plain!("match", EvenFrom(4), Input(Want::Any))
     },
-    Row {
-        layout: Layout::Choices,
+    OperatorRow {
+        layout: ElementLayout::Choices,
         manner: Manner::Deciding,
         ..plain!("coalesce", AtLeast(1), Each(Want::Any))
     },
-    Row {
-        layout: Layout::Stops,
+    OperatorRow {
+        layout: ElementLayout::Stops,
         manner: Manner::Branches,
         ..plain!("step", EvenFrom(4), Input(Want::Number))
     },
-    Row {
-        layout: Layout::Ramp,
+    OperatorRow {
+        layout: ElementLayout::Ramp,
         manner: Manner::Branches,
         ..plain!("interpolate", EvenFrom(4), Input(Want::Number))
     },
-    Row {
-        layout: Layout::Bindings,
+    OperatorRow {
+        layout: ElementLayout::Bindings,
         manner: Manner::Names,
         ..plain!("let", OddFrom(3), Bindings)
     },
-    Row {
-        layout: Layout::Variable,
+    OperatorRow {
+        layout: ElementLayout::Variable,
         manner: Manner::Names,
         ..plain!("var", Exactly(1), Each(Want::Any))
     },
-    Row {
+    OperatorRow {
         reads: Reads::Zoom,
         ..plain!("zoom", Exactly(0), Each(Want::Any))
     },
@@ -366,17 +366,17 @@ static ROWS: [Row; 84] = [
     plain!("round", Exactly(1), Each(Want::Number)),
     plain!("min", AtLeast(1), Each(Want::Number)),
     plain!("max", AtLeast(1), Each(Want::Number)),
-    Row {
+    OperatorRow {
         reads: Reads::Images,
         ..plain!("image", Exactly(1), Each(Want::Text))
     },
     plain!("is-supported-script", Exactly(1), Each(Want::Text)),
-    Row {
-        layout: Layout::Global,
+    OperatorRow {
+        layout: ElementLayout::Global,
         ..plain!("global-state", Exactly(1), Each(Want::Any))
     },
-    Row {
-        layout: Layout::Sections,
+    OperatorRow {
+        layout: ElementLayout::Sections,
         ..plain!("format", AtLeast(1), Each(Want::Shown))
     },
     outside!("upcase"),

@@ -196,7 +196,7 @@ impl Role {
 
 /// An argument of `format`: the place of the element that it is, or is in, and what it is there.
 #[derive(Clone, Copy, Debug, PartialEq, Eq)]
-pub struct Piece {
+pub struct FormatPiece {
     pub at: usize,
     pub role: Role,
 }
@@ -204,14 +204,14 @@ pub struct Piece {
 /// What the arguments of a `format` are, in order. Options follow their content.
 #[derive(Drop)]
 pub struct Pieces {
-    pieces: Vec<Piece>,
+    pieces: Vec<FormatPiece>,
 }
 
 impl Model for Pieces {
     ghost use Rattle.std.specs.Prelude.{List};
-    ghost use Rattle.expr_syntax.specs.declared.parts.Piece.{Piece};
+    ghost use Rattle.expr_syntax.specs.declared.parts.FormatPiece.{FormatPiece};
 
-    ghost Value = { List Piece };
+    ghost Value = { List FormatPiece };
 
     ghost view = { λ a. a.pieces.items };
 }
@@ -226,7 +226,7 @@ impl Pieces {
     }
 
     /// Adds a piece at the end.
-    pub fn push(&mut self, piece: Piece) -> Result<(), AllocError>
+    pub fn push(&mut self, piece: FormatPiece) -> Result<(), AllocError>
         ensures ok { OnOk result (self.new ≡ self.old ++ piece ∷ []) }
         ensures err { OnErr result (self.new ≡ self.old) }
     {
@@ -234,7 +234,7 @@ impl Pieces {
         Ok(())
     }
 
-    pub fn as_slice(&self) -> &[Piece]
+    pub fn as_slice(&self) -> &[FormatPiece]
         ensures { result.now ≡ self.now }
     {
         self.pieces.as_slice()

@@ -19,9 +19,9 @@ use crate::expression::{Arguments, Expr, Operator};
 use crate::fault::{SynCode, SynFault};
 use crate::names::{Name, operator_named};
 use crate::parts::Role;
-use crate::rows::{Layout, Place};
+use crate::rows::{ElementLayout, ElementPlace};
 use crate::scope::{Scope, global_at};
-use crate::sections::{SectionElement, Sections, finish_format};
+use crate::sections::{FormatArguments, SectionElement, finish_format};
 use crate::standing::{Sought, has_arity, is_format, stands};
 use crate::values::{option_named, read_operator};
 use decimal_json::{Here, Json, Member, Text, path_to};
@@ -148,7 +148,7 @@ fn read_node(
 #[cycle(reading)]
 fn read_within<'x>(
     alloc: Global,
-    layout: Layout,
+    layout: ElementLayout,
     op: &'x Operator,
     items: &[Json],
     scope: &'x Scope<'x>,
@@ -169,7 +169,7 @@ fn read_within<'x>(
 #[cycle(reading)]
 fn read_arguments<'x>(
     alloc: Global,
-    layout: Layout,
+    layout: ElementLayout,
     items: &[Json],
     inner: &'x Scope<'x>,
     scope: &'x Scope<'x>,
@@ -203,10 +203,10 @@ fn read_sections(
     items: &[Json],
     scope: &Scope<'_>,
     here: &Here<'_>,
-) -> Result<Result<Sections, SynFault>, AllocError>
+) -> Result<Result<FormatArguments, SynFault>, AllocError>
     ensures { IfOk result (λ r. r ≡ read_at (all_sections (elements_of items.now)) scope.now here.now) }
 {
-    let mut found = Sections::new(alloc);
+    let mut found = FormatArguments::new(alloc);
     let mut follows = false;
     for (i, item) in items.iter().enumerate() {
         if i > 0 {
@@ -228,10 +228,10 @@ fn read_section(
     alloc: Global,
     item: &Json,
     element: SectionElement,
-    found: Sections,
+    found: FormatArguments,
     scope: &Scope<'_>,
     here: &Here<'_>,
-) -> Result<Result<Sections, SynFault>, AllocError>
+) -> Result<Result<FormatArguments, SynFault>, AllocError>
     ensures { IfOk result (λ r. r ≡ read_at (section_of element.at element.follows (tree_of item.now)) scope.now here.now found) }
 {
     match item {
@@ -252,10 +252,10 @@ fn read_options(
     alloc: Global,
     options: &[Member],
     at: usize,
-    found: Sections,
+    found: FormatArguments,
     scope: &Scope<'_>,
     here: &Here<'_>,
-) -> Result<Result<Sections, SynFault>, AllocError>
+) -> Result<Result<FormatArguments, SynFault>, AllocError>
     ensures { IfOk result (λ r. r ≡ read_at (options_read at (members_of options.now)) scope.now here.now found) }
 {
     let mut found = found;
@@ -289,7 +289,7 @@ fn no_section(
     alloc: Global,
     here: &Here<'_>,
     code: SynCode,
-) -> Result<Result<Sections, SynFault>, AllocError>
+) -> Result<Result<FormatArguments, SynFault>, AllocError>
     ensures { IfOk result (λ r. r ≡ fault (path_of here.now) code) }
 {
     Ok(Err(SynFault {
@@ -364,21 +364,21 @@ fn finish(op: Operator, arguments: Result<Arguments, SynFault>) -> Result<Expr, 
     }
 }
 
-fn is_part(layout: Layout, elements: usize, at: usize) -> bool
+fn is_part(layout: ElementLayout, elements: usize, at: usize) -> bool
     requires { at < 2 ^ 63 }
     ensures { result ≡ is_part (element_place layout elements at) }
 {
-    matches!(layout.place(elements, at), Place::Part)
+    matches!(layout.place(elements, at), ElementPlace::Part)
 }
 
-fn is_value(layout: Layout) -> bool
+fn is_value(layout: ElementLayout) -> bool
     ensures { result ≡ is_value_layout layout }
 {
-    matches!(layout, Layout::Value)
+    matches!(layout, ElementLayout::Value)
 }
 
-fn is_global(layout: Layout) -> bool
+fn is_global(layout: ElementLayout) -> bool
     ensures { result ≡ is_global_layout layout }
 {
-    matches!(layout, Layout::Global)
+    matches!(layout, ElementLayout::Global)
 }

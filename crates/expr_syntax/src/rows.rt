@@ -8,7 +8,7 @@ use prop_values::Want;
 
 /// A row of the table of operators. Source: MapLibre style specification, version 8, expressions.
 #[derive(Clone, Copy, Debug, PartialEq, Eq)]
-pub struct Row {
+pub struct OperatorRow {
     /// The name as it is written.
     pub text: &'static str,
     /// Whether the operator is outside of what is evaluated. Then nothing but its text counts.
@@ -16,7 +16,7 @@ pub struct Row {
     /// How many elements may follow the name.
     pub arity: Arity,
     /// Which elements are arguments.
-    pub layout: Layout,
+    pub layout: ElementLayout,
     pub wants: Wants,
     /// The argument, counted from 0, that has to be a text or a list.
     pub sequence: Option<usize>,
@@ -40,7 +40,7 @@ pub enum Arity {
 
 /// What the elements after a name are.
 #[derive(Clone, Copy, Debug, PartialEq, Eq)]
-pub enum Layout {
+pub enum ElementLayout {
     Arguments,
     /// Arguments, one of which is the value of the node.
     Choices,
@@ -69,7 +69,7 @@ pub enum Layout {
 /// What an element of a node is: a part of the operator, an argument, or an argument whose value may be that
 /// of the node.
 #[derive(Clone, Copy, Debug, PartialEq, Eq)]
-pub enum Place {
+pub enum ElementPlace {
     Part,
     Argument,
     Output,
@@ -138,36 +138,37 @@ impl Arity {
     }
 }
 
-impl Layout {
+impl ElementLayout {
     /// What the element at a place is. Places are counted from the name, which has place 0 and counts as one
     /// of the elements.
-    pub fn place(self, elements: usize, at: usize) -> Place
+    pub fn place(self, elements: usize, at: usize) -> ElementPlace
         requires { at < 2 ^ 63 }
         ensures { result ≡ element_place self elements at }
     {
         if at == 0 {
-            return Place::Part;
+            return ElementPlace::Part;
         }
         let is_last = at + 1 == elements;
         let is_even = at % 2 == 0;
         match self {
-            Layout::Arguments | Layout::Sections => Place::Argument,
-            Layout::Choices => Place::Output,
-            Layout::Value | Layout::Variable | Layout::Global => Place::Part,
-            Layout::Items if is_last => Place::Argument,
-            Layout::Items => Place::Part,
-            Layout::Cases if is_last || is_even => Place::Output,
-            Layout::Cases => Place::Argument,
-            Layout::Labels | Layout::Stops if at == 1 => Place::Argument,
-            Layout::Labels if is_label(elements, at) => Place::Part,
-            Layout::Labels => Place::Output,
-            Layout::Stops if is_input(at) => Place::Part,
-            Layout::Stops => Place::Output,
-            Layout::Ramp if is_even => Place::Argument,
-            Layout::Ramp => Place::Part,
-            Layout::Bindings if is_last => Place::Output,
-            Layout::Bindings if is_even => Place::Argument,
-            Layout::Bindings => Place::Part,
+            ElementLayout::Arguments | ElementLayout::Sections => ElementPlace::Argument,
+            ElementLayout::Choices => ElementPlace::Output,
+            ElementLayout::Value | ElementLayout::Variable | ElementLayout::Global =>
+                ElementPlace::Part,
+            ElementLayout::Items if is_last => ElementPlace::Argument,
+            ElementLayout::Items => ElementPlace::Part,
+            ElementLayout::Cases if is_last || is_even => ElementPlace::Output,
+            ElementLayout::Cases => ElementPlace::Argument,
+            ElementLayout::Labels | ElementLayout::Stops if at == 1 => ElementPlace::Argument,
+            ElementLayout::Labels if is_label(elements, at) => ElementPlace::Part,
+            ElementLayout::Labels => ElementPlace::Output,
+            ElementLayout::Stops if is_input(at) => ElementPlace::Part,
+            ElementLayout::Stops => ElementPlace::Output,
+            ElementLayout::Ramp if is_even => ElementPlace::Argument,
+            ElementLayout::Ramp => ElementPlace::Part,
+            ElementLayout::Bindings if is_last => ElementPlace::Output,
+            ElementLayout::Bindings if is_even => ElementPlace::Argument,
+            ElementLayout::Bindings => ElementPlace::Part,
         }
     }
 }

@@ -7,12 +7,12 @@ ghost use Rattle.expr_syntax.specs.TermView.{term_of};
 
 use crate::expression::{Arguments, Expr, Operator};
 use crate::fault::SynFault;
-use crate::parts::{Piece, Pieces, Role};
+use crate::parts::{FormatPiece, Pieces, Role};
 use std::alloc::{AllocError, Global};
 
 /// The arguments of a `format`, and what each is.
 #[derive(Drop)]
-pub(crate) struct Sections {
+pub(crate) struct FormatArguments {
     pieces: Pieces,
     arguments: Arguments,
 }
@@ -24,37 +24,42 @@ pub(crate) struct SectionElement {
     pub(crate) follows: bool,
 }
 
-impl Sections {
-    pub(crate) fn new(alloc: Global) -> Sections
+impl FormatArguments {
+    pub(crate) fn new(alloc: Global) -> FormatArguments
         ensures { result ≡ no_sections }
     {
-        Sections {
+        FormatArguments {
             pieces: Pieces::new(alloc),
             arguments: Arguments::new(alloc),
         }
     }
 
     /// One argument more, which the element of a place is or has in it.
-    pub(crate) fn with(self, at: usize, role: Role, argument: Expr) -> Result<Sections, AllocError>
+    pub(crate) fn with(
+        self,
+        at: usize,
+        role: Role,
+        argument: Expr,
+    ) -> Result<FormatArguments, AllocError>
         ensures { IfOk result (λ more. more ≡ with_piece at role self (term_of argument)) }
     {
-        let Sections {
+        let FormatArguments {
             mut pieces,
             mut arguments,
         } = self;
-        pieces.push(Piece { at, role })?;
+        pieces.push(FormatPiece { at, role })?;
         arguments.push(argument)?;
-        Ok(Sections { pieces, arguments })
+        Ok(FormatArguments { pieces, arguments })
     }
 }
 
 /// The `format` of arguments that were read.
-pub(crate) fn finish_format(read: Result<Sections, SynFault>) -> Result<Expr, SynFault>
+pub(crate) fn finish_format(read: Result<FormatArguments, SynFault>) -> Result<Expr, SynFault>
     ensures { read_of result ≡ then_format read }
 {
     match read {
         Ok(found) => {
-            let Sections { pieces, arguments } = found;
+            let FormatArguments { pieces, arguments } = found;
             Ok(Expr::Node(Operator::Format(pieces), arguments))
         }
         Err(fault) => Err(fault),

@@ -8,7 +8,7 @@ ghost use Rattle.expr_syntax.specs.Elements.{second, head_text};
 ghost use Rattle.expr_syntax.specs.Standing.{stands, elements, members, some_element, some_section, some_option, is_sought, layout_outside, outside_curve, is_outside_curve, outside_sections, outside_part, other_options, is_image_node, is_format_layout, outside_ramp};
 
 use crate::elements::{head_name, head_text, second};
-use crate::rows::{Arity, Layout, Place};
+use crate::rows::{Arity, ElementLayout, ElementPlace};
 use crate::values::{curve_of, option_named};
 use decimal_json::{Json, Member};
 use prop_values::Curve;
@@ -61,14 +61,14 @@ fn stands_in_array(sought: Sought, items: &[Json], format: bool) -> bool
 
 #[tactic(auto, using(crate::proofs::ElementLaws::standing_rules))]
 #[cycle(standing)]
-fn stands_in_elements(sought: Sought, layout: Layout, items: &[Json], format: bool) -> bool
+fn stands_in_elements(sought: Sought, layout: ElementLayout, items: &[Json], format: bool) -> bool
     ensures { result ≡ some_element layout (length items.now) 0 (elements (trees items.now)) sought format }
 {
     for (i, item) in items.iter().enumerate() {
         let found = match layout.place(items.len(), i) {
-            Place::Part => false,
-            Place::Argument => stands(sought, item, false),
-            Place::Output => stands(sought, item, format),
+            ElementPlace::Part => false,
+            ElementPlace::Argument => stands(sought, item, false),
+            ElementPlace::Output => stands(sought, item, format),
         };
         if found {
             return true;
@@ -110,10 +110,10 @@ fn stands_in_options(sought: Sought, options: &[Member]) -> bool
     false
 }
 
-fn is_sought(sought: Sought, layout: Layout) -> bool
+fn is_sought(sought: Sought, layout: ElementLayout) -> bool
     ensures { result ≡ is_sought sought layout }
 {
-    matches!(sought, Sought::Global) && matches!(layout, Layout::Global)
+    matches!(sought, Sought::Global) && matches!(layout, ElementLayout::Global)
 }
 
 /// Whether a node may have so many elements, the name counted.
@@ -127,19 +127,19 @@ pub(crate) fn has_arity(arity: Arity, items: &[Json]) -> bool
 }
 
 /// Whether the elements of a node are contents and options.
-pub(crate) fn is_format(layout: Layout) -> bool
+pub(crate) fn is_format(layout: ElementLayout) -> bool
     ensures { result ≡ is_format_layout layout }
 {
-    matches!(layout, Layout::Sections)
+    matches!(layout, ElementLayout::Sections)
 }
 
 // Whether a node of a layout is outside of what is evaluated by its elements.
-fn layout_outside(layout: Layout, items: &[Json], format: bool) -> bool
+fn layout_outside(layout: ElementLayout, items: &[Json], format: bool) -> bool
     ensures { result ≡ layout_outside layout (trees items.now) format }
 {
     match layout {
-        Layout::Ramp => outside_ramp(items),
-        Layout::Sections => !format || outside_sections(items),
+        ElementLayout::Ramp => outside_ramp(items),
+        ElementLayout::Sections => !format || outside_sections(items),
         _ => false,
     }
 }

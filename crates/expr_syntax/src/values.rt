@@ -6,7 +6,7 @@ ghost use Rattle.std.specs.List.{list_all};
 ghost use Rattle.decimal_json.specs.Tree.{Tree};
 ghost use Rattle.decimal_json.specs.View.{tree_of, trees};
 ghost use Rattle.interpolate_fixed.specs.Warp.{HasPositiveBase};
-ghost use Rattle.expr_syntax.specs.declared.rows.Layout.TheVariants as layouts;
+ghost use Rattle.expr_syntax.specs.declared.rows.ElementLayout.TheVariants as layouts;
 ghost use Rattle.expr_syntax.specs.Elements.{after_head, second, second_text, option_named};
 ghost use Rattle.expr_syntax.specs.Scopes.{scope_of};
 ghost use Rattle.expr_syntax.specs.Parts.{operator_of, or_unknown, array_operator, with_item, with_length, item_named, item_of};
@@ -21,7 +21,7 @@ use crate::fault::SynCode;
 use crate::labels::read_match;
 use crate::names::Name;
 use crate::parts::{Inputs, Ramp, Role};
-use crate::rows::{Layout, is_binder, is_input};
+use crate::rows::{ElementLayout, is_binder, is_input};
 use crate::scope::{Scope, knows};
 use decimal_json::Json;
 use fixed_num::{Fixed, NumFault, read_decimal};
@@ -32,7 +32,7 @@ use std::alloc::{AllocError, Global};
 /// allows.
 pub(crate) fn read_operator(
     alloc: Global,
-    layout: Layout,
+    layout: ElementLayout,
     name: Name,
     items: &[Json],
     scope: &Scope<'_>,
@@ -41,12 +41,12 @@ pub(crate) fn read_operator(
     ensures { IfOk result (λ r. r ≡ operator_of layout name (scope_of scope.now) (length items.now) (trees items.now)) }
 {
     match layout {
-        Layout::Items => Ok(read_array(after_head(items))),
-        Layout::Labels => read_match(alloc, items),
-        Layout::Stops => read_step(alloc, items),
-        Layout::Ramp => read_interpolate(alloc, items),
-        Layout::Bindings => read_let(alloc, items),
-        Layout::Variable => read_var(items, scope),
+        ElementLayout::Items => Ok(read_array(after_head(items))),
+        ElementLayout::Labels => read_match(alloc, items),
+        ElementLayout::Stops => read_step(alloc, items),
+        ElementLayout::Ramp => read_interpolate(alloc, items),
+        ElementLayout::Bindings => read_let(alloc, items),
+        ElementLayout::Variable => read_var(items, scope),
         _ => Ok(plain_operator(name).ok_or(SynCode::UnknownOperator)),
     }
 }

@@ -12,7 +12,7 @@ use Rattle.expr_syntax.specs.declared.expression.Expr.{Expr}
 use Rattle.expr_syntax.specs.declared.expression.Operator.{Operator}
 use Rattle.expr_types.specs.ArgumentPaths.{element_at, key_at, with_key, argument_path}
 use Rattle.expr_types.specs.LiteralView.{typings_of}
-use Rattle.expr_types.specs.Typing.{Found, Typing, Scope, typed_as, and_found, founds_of, argument_typed}
+use Rattle.expr_types.specs.Typing.{TypedNodes, Typing, KindScope, typed_as, and_found, founds_of, argument_typed}
 use Rattle.expr_types.specs.declared.fault.TypeFault.{TypeFault}
 
 -- an option of `format` is a member of its element
@@ -20,7 +20,7 @@ pub key_path : (op : Operator) (m k : ℕ) (path : List PathPart) (element : ℕ
 key_path op m k path element key at is = ap (λ e. (path ++ parts.Index e ∷ []) ++ parts.Key key ∷ []) at ∙ ap (λ o. with_key o (path ++ parts.Index (element_at op m k) ∷ [])) is
 
 -- the argument of a place, and those after it
-pub next_found : (op : Operator) (m k : ℕ) (es : List Expr) (e : Expr) (want : Want) (scope : Scope) (path : List PathPart) → e ≡ get_or es k e → k < length es → founds_of op m k (typings_of (drop k es)) want scope path ≡ and_found (argument_typed op m k (typed_as (term_of e)) want scope path) (founds_of op m (k + 1) (typings_of (drop (k + 1) es)) want scope path)
+pub next_found : (op : Operator) (m k : ℕ) (es : List Expr) (e : Expr) (want : Want) (scope : KindScope) (path : List PathPart) → e ≡ get_or es k e → k < length es → founds_of op m k (typings_of (drop k es)) want scope path ≡ and_found (argument_typed op m k (typed_as (term_of e)) want scope path) (founds_of op m (k + 1) (typings_of (drop (k + 1) es)) want scope path)
 next_found op m k es e want scope path is there =
     let one : suc k ≡ k + 1 = omega arith in
     let here : drop k es ≡ e ∷ drop (k + 1) es = subst (λ j. drop k es ≡ e ∷ drop j es) one (drop-cons es k e there ∙ ap (λ x. x ∷ drop (suc k) es) (sym is)) in

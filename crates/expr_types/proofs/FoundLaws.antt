@@ -14,7 +14,7 @@ use Rattle.expr_types.specs.OwnTable.{own}
 use Rattle.expr_types.specs.Sequences.{sequence_fit}
 use Rattle.expr_types.specs.declared.fits.Fit.{Fit}
 use Rattle.expr_types.specs.declared.fits.Fit.TheVariants.{Always, Maybe, Never}
-use Rattle.expr_types.specs.Typing.{Found, Typed, Node, places_of, with_below, and_found, then_found, kinds_in, may_after, places_after, all_places, finished, finished_node, own_where, with_misfit, sequence_if, looked_at}
+use Rattle.expr_types.specs.Typing.{TypedNodes, Typed, Node, places_of, with_below, and_found, then_found, kinds_in, may_after, places_after, all_places, finished, finished_node, own_where, with_misfit, sequence_if, looked_at}
 use Rattle.expr_types.specs.TypedView.{Kinds, root_of, added, added_below, kinds_after, all_added}
 use Rattle.expr_types.specs.declared.fault.TypeFault.{TypeFault}
 use Rattle.expr_types.specs.declared.placed.Kinded.{Kinded}
@@ -30,19 +30,19 @@ none_below places (Ok k) = ap Ok (sym (append-nil places))
 none_below places (Err f) = tt
 
 -- arguments one after the other
-pub found_kinds : (ks : List Kind) (may : FaultSet) (t : Typed) (k : Kinded) (r : Result (List Found) TypeFault) → Ok k ≡ root_of t → kinds_after (ks ++ k.kind ∷ []) (union may k.may) r ≡ kinds_after ks may (and_found t r)
+pub found_kinds : (ks : List Kind) (may : FaultSet) (t : Typed) (k : Kinded) (r : Result (List TypedNodes) TypeFault) → Ok k ≡ root_of t → kinds_after (ks ++ k.kind ∷ []) (union may k.may) r ≡ kinds_after ks may (and_found t r)
 found_kinds ks may (Ok f) k (Ok fs) is =
     let same : k ≡ f.node = cc in
     rw same (ap (λ js. Ok (js, may_after (union may f.node.may) fs)) (append_assoc ks (f.node.kind ∷ []) (kinds_in fs)))
 found_kinds ks may (Ok f) k (Err g) is = refl
 found_kinds ks may (Err g) k r is = absurd (cc)
 
-pub found_places : (old new : List Placed) (t : Typed) (k : Kinded) (r : Result (List Found) TypeFault) → Ok k ≡ root_of t → Ok new ≡ added old t → all_added new r ≡ all_added old (and_found t r)
+pub found_places : (old new : List Placed) (t : Typed) (k : Kinded) (r : Result (List TypedNodes) TypeFault) → Ok k ≡ root_of t → Ok new ≡ added old t → all_added new r ≡ all_added old (and_found t r)
 found_places old new (Ok f) k (Ok fs) is here = let same : new ≡ old ++ places_of f = cc in ap (λ ps. Ok (places_after ps fs)) same
 found_places old new (Ok f) k (Err g) is here = refl
 found_places old new (Err g) k r is here = absurd (cc)
 
-pub found_fault : (ks : List Kind) (may : FaultSet) (t : Typed) (e : TypeFault) (r : Result (List Found) TypeFault) → Err e ≡ root_of t → Err e ≡ kinds_after ks may (and_found t r)
+pub found_fault : (ks : List Kind) (may : FaultSet) (t : Typed) (e : TypeFault) (r : Result (List TypedNodes) TypeFault) → Err e ≡ root_of t → Err e ≡ kinds_after ks may (and_found t r)
 found_fault ks may (Ok f) e r is = absurd (cc)
 found_fault ks may (Err g) e r is = cc
 
@@ -61,7 +61,7 @@ settle_within old new p (Ok f) k is here =
 settle_within old new p (Err g) k is here = absurd (cc)
 
 -- places with others before
-pub places_from : (places : List Placed) (fs : List Found) → places_after places fs ≡ places ++ places_after [] fs
+pub places_from : (places : List Placed) (fs : List TypedNodes) → places_after places fs ≡ places ++ places_after [] fs
 places_from places [] = sym (append-nil places)
 places_from places (f ∷ fs) =
     places_from (places ++ places_of f) fs ∙
@@ -71,29 +71,29 @@ abbrev pub from_ok : Result Kinds TypeFault → Kinds → Kinds
 from_ok (Ok x) other = x
 from_ok (Err f) other = other
 
-pub kinds_are : (fs : List Found) (ks : List Kind) (may : FaultSet) → Ok (ks, may) ≡ kinds_after [] no_faults (Ok fs) → ks ≡ kinds_in fs
+pub kinds_are : (fs : List TypedNodes) (ks : List Kind) (may : FaultSet) → Ok (ks, may) ≡ kinds_after [] no_faults (Ok fs) → ks ≡ kinds_in fs
 kinds_are fs ks may is = ap (λ r. (from_ok r (ks, may)).0) is
 
-pub may_is : (fs : List Found) (ks : List Kind) (may : FaultSet) → Ok (ks, may) ≡ kinds_after [] no_faults (Ok fs) → may ≡ may_after no_faults fs
+pub may_is : (fs : List TypedNodes) (ks : List Kind) (may : FaultSet) → Ok (ks, may) ≡ kinds_after [] no_faults (Ok fs) → may ≡ may_after no_faults fs
 may_is fs ks may is = ap (λ r. (from_ok r (ks, may)).1) is
 
 -- a node of an operator without names
-pub plain_root : (is_sequence : Bool) (op : Operator) (want : Want) (ls : List (Option Data)) (path : List PathPart) (founds : Result (List Found) TypeFault) (ks : List Kind) (may : FaultSet) → Ok (ks, may) ≡ kinds_after [] no_faults founds → finished_node op want (own_where is_sequence (own op want ls ks)) may path ≡ root_of (then_found founds (λ fs. finished op want (own_where is_sequence (own op want ls (kinds_in fs))) fs path))
+pub plain_root : (is_sequence : Bool) (op : Operator) (want : Want) (ls : List (Option Data)) (path : List PathPart) (founds : Result (List TypedNodes) TypeFault) (ks : List Kind) (may : FaultSet) → Ok (ks, may) ≡ kinds_after [] no_faults founds → finished_node op want (own_where is_sequence (own op want ls ks)) may path ≡ root_of (then_found founds (λ fs. finished op want (own_where is_sequence (own op want ls (kinds_in fs))) fs path))
 plain_root is_sequence op want ls path (Ok fs) ks may is =
     let these : ks ≡ kinds_in fs = kinds_are fs ks may is in
     let all : may ≡ may_after no_faults fs = may_is fs ks may is in
     rw these (rw all (sym (root_below (all_places fs) (finished_node op want (own_where is_sequence (own op want ls (kinds_in fs))) (may_after no_faults fs) path))))
 plain_root is_sequence op want ls path (Err f) ks may is = absurd (cc)
 
-pub plain_fault : (is_sequence : Bool) (op : Operator) (want : Want) (ls : List (Option Data)) (path : List PathPart) (founds : Result (List Found) TypeFault) (e : TypeFault) → Err e ≡ kinds_after [] no_faults founds → Err e ≡ root_of (then_found founds (λ fs. finished op want (own_where is_sequence (own op want ls (kinds_in fs))) fs path))
+pub plain_fault : (is_sequence : Bool) (op : Operator) (want : Want) (ls : List (Option Data)) (path : List PathPart) (founds : Result (List TypedNodes) TypeFault) (e : TypeFault) → Err e ≡ kinds_after [] no_faults founds → Err e ≡ root_of (then_found founds (λ fs. finished op want (own_where is_sequence (own op want ls (kinds_in fs))) fs path))
 plain_fault is_sequence op want ls path (Ok fs) e is = absurd (cc)
 plain_fault is_sequence op want ls path (Err f) e is = cc
 
-below_by : (places : List Placed) (new : List Placed) (fs : List Found) (n : Node) (r : Node) → r ≡ n → new ≡ places_after places fs → IfOk r (λ k. Ok new ≡ added_below places (with_below (all_places fs) n))
+below_by : (places : List Placed) (new : List Placed) (fs : List TypedNodes) (n : Node) (r : Node) → r ≡ n → new ≡ places_after places fs → IfOk r (λ k. Ok new ≡ added_below places (with_below (all_places fs) n))
 below_by places new fs (Ok k) r is here = rw is (ap Ok (here ∙ places_from places fs))
 below_by places new fs (Err f) r is here = rw is tt
 
-pub plain_places : (is_sequence : Bool) (op : Operator) (want : Want) (ls : List (Option Data)) (path : List PathPart) (founds : Result (List Found) TypeFault) (ks : List Kind) (may : FaultSet) (old new : List Placed) (r : Node) → Ok (ks, may) ≡ kinds_after [] no_faults founds → Ok new ≡ all_added old founds → r ≡ finished_node op want (own_where is_sequence (own op want ls ks)) may path → IfOk r (λ k. Ok new ≡ added_below old (then_found founds (λ fs. finished op want (own_where is_sequence (own op want ls (kinds_in fs))) fs path)))
+pub plain_places : (is_sequence : Bool) (op : Operator) (want : Want) (ls : List (Option Data)) (path : List PathPart) (founds : Result (List TypedNodes) TypeFault) (ks : List Kind) (may : FaultSet) (old new : List Placed) (r : Node) → Ok (ks, may) ≡ kinds_after [] no_faults founds → Ok new ≡ all_added old founds → r ≡ finished_node op want (own_where is_sequence (own op want ls ks)) may path → IfOk r (λ k. Ok new ≡ added_below old (then_found founds (λ fs. finished op want (own_where is_sequence (own op want ls (kinds_in fs))) fs path)))
 plain_places is_sequence op want ls path (Ok fs) ks may old new r is here same =
     let these : ks ≡ kinds_in fs = kinds_are fs ks may is in
     let all : may ≡ may_after no_faults fs = may_is fs ks may is in

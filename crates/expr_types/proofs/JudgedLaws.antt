@@ -8,7 +8,7 @@ use Rattle.expr_syntax.specs.Term.{Term}
 use Rattle.expr_types.specs.Allowed.{allowed_by, first_unread, first_stray_zoom}
 use Rattle.expr_types.specs.Checked.{allowed, checked}
 use Rattle.expr_types.specs.Judged.{Judged, found_kind, found_may, found_places, places_in, judged, zoom_or, stray_or}
-use Rattle.expr_types.specs.Typing.{Typed, Found, fault, typed}
+use Rattle.expr_types.specs.Typing.{Typed, TypedNodes, fault, typed}
 use Rattle.expr_types.specs.TypedView.{root_of, added}
 use Rattle.expr_types.specs.Visits.{Visit, visits}
 use Rattle.expr_types.specs.declared.fault.TypeCode.TheVariants as codes
@@ -38,7 +38,7 @@ judged_fault (Ok f) e pair is = absurd (cc)
 judged_fault (Err g) e pair is = cc
 
 -- what is where it may not be
-stray_by : (unread zoom : Option (List PathPart)) (row : Option RowData) (f : Found) (pair : Judged) → (vs : List Visit) → unread ≡ first_unread (allowed_by row) vs → zoom ≡ first_stray_zoom vs → stray_or unread zoom (is_some row) pair ≡ judged pair (allowed row vs (Ok f))
+stray_by : (unread zoom : Option (List PathPart)) (row : Option RowData) (f : TypedNodes) (pair : Judged) → (vs : List Visit) → unread ≡ first_unread (allowed_by row) vs → zoom ≡ first_stray_zoom vs → stray_or unread zoom (is_some row) pair ≡ judged pair (allowed row vs (Ok f))
 stray_by (Some path) zoom row f pair vs u z = rw (← u) refl
 stray_by None (Some path) (Some row) f pair vs u z = rw (← u) (rw (← z) refl)
 stray_by None None (Some row) f pair vs u z = rw (← u) (rw (← z) refl)

@@ -6,17 +6,17 @@ use Rattle.decimal_json.specs.declared.paths.PathPart.TheVariants as parts
 use Rattle.prop_values.specs.declared.kinds.Item.{Item}
 use Rattle.expr_syntax.specs.declared.expression.Operator.{Operator}
 use Rattle.expr_syntax.specs.declared.expression.Operator.TheVariants.{Array, Format}
-use Rattle.expr_syntax.specs.declared.parts.Piece.{Piece}
+use Rattle.expr_syntax.specs.declared.parts.FormatPiece.{FormatPiece}
 use Rattle.expr_syntax.specs.declared.parts.Role.{Role}
 use Rattle.expr_syntax.specs.declared.parts.Role.TheVariants.{Content, Scale, Font, Color}
-use Rattle.expr_syntax.specs.declared.rows.Layout.{Layout}
-use Rattle.expr_syntax.specs.declared.rows.Layout.TheVariants.{Labels, Stops, Ramp, Bindings}
+use Rattle.expr_syntax.specs.declared.rows.ElementLayout.{ElementLayout}
+use Rattle.expr_syntax.specs.declared.rows.ElementLayout.TheVariants.{Labels, Stops, Ramp, Bindings}
 use Rattle.expr_syntax.specs.Names.{row}
 use Rattle.expr_syntax.specs.Operators.{operator_name}
 use Rattle.expr_syntax.specs.Rows.{is_last}
 
 -- The element that is the argument k of m arguments. The name is element 0, and parts are between arguments.
-abbrev pub element_of : Layout → ℕ → ℕ → ℕ
+abbrev pub element_of : ElementLayout → ℕ → ℕ → ℕ
 element_of Labels m k = if nat_eq k 0 then 1 else if is_last m k then 2 * k else 2 * k + 1
 element_of Stops m k = if nat_eq k 0 then 1 else 2 * k
 element_of Ramp m k = 2 * k + 2
@@ -31,7 +31,7 @@ abbrev pub one_if_count : Option ℕ → ℕ
 one_if_count (Some n) = 1
 one_if_count None = 0
 
-abbrev pub at_piece : Option Piece → ℕ
+abbrev pub at_piece : Option FormatPiece → ℕ
 at_piece (Some piece) = piece.at
 at_piece None = 0
 
@@ -47,7 +47,7 @@ role_key Scale = Some (codes "font-scale")
 role_key Font = Some (codes "text-font")
 role_key Color = Some (codes "text-color")
 
-abbrev pub piece_key : Option Piece → Option (List ℕ)
+abbrev pub piece_key : Option FormatPiece → Option (List ℕ)
 piece_key (Some piece) = role_key piece.role
 piece_key None = None
 

@@ -7,14 +7,14 @@ use Rattle.prop_values.specs.declared.kinds.Want.TheVariants as wants
 use Rattle.property_tables.specs.Rows.{RowData}
 use Rattle.expr_syntax.specs.Term.{Term}
 use Rattle.expr_types.specs.Allowed.{allowed_by, first_unread, stray_zoom_by}
-use Rattle.expr_types.specs.Typing.{Found, Typed, fault, typed}
+use Rattle.expr_types.specs.Typing.{TypedNodes, Typed, fault, typed}
 use Rattle.expr_types.specs.Visits.{Visit, visits}
 use Rattle.expr_types.specs.declared.fault.TypeCode.{TypeCode}
 use Rattle.expr_types.specs.declared.fault.TypeCode.TheVariants as codes
 use Rattle.expr_types.specs.declared.standing.Standing.TheVariants.{Reached}
 
 abbrev pub unless_at : Option (List PathPart) → TypeCode → Typed → Typed
-unless_at (Some path) code typed = fault Found path code
+unless_at (Some path) code typed = fault TypedNodes path code
 unless_at None code typed = typed
 
 abbrev pub allowed : Option RowData → List Visit → Typed → Typed

@@ -13,7 +13,7 @@ use Rattle.expr_syntax.specs.declared.expression.Operator.TheVariants.{Array, Bo
 use Rattle.expr_syntax.specs.Operators.{item_or_any}
 use Rattle.expr_syntax.specs.Rows.{is_last, is_even}
 use Rattle.expr_syntax.specs.declared.parts.Labelled.{Labelled}
-use Rattle.expr_syntax.specs.declared.parts.Piece.{Piece}
+use Rattle.expr_syntax.specs.declared.parts.FormatPiece.{FormatPiece}
 use Rattle.expr_syntax.specs.declared.parts.Role.{Role}
 use Rattle.expr_syntax.specs.declared.parts.Role.TheVariants.{Content, Scale, Font, Color}
 use Rattle.expr_types.specs.Arithmetics.{own_subtract, own_divide, own_remainder}
@@ -43,7 +43,7 @@ abbrev pub is_content : Role → ℕ
 is_content Content = 1
 is_content role = 0
 
-abbrev pub section_count : List Piece → ℕ
+abbrev pub section_count : List FormatPiece → ℕ
 section_count [] = 0
 section_count (p ∷ ps) = is_content p.role + section_count ps
 

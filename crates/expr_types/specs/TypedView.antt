@@ -11,20 +11,20 @@ use Rattle.expr_syntax.specs.TermView.{term_of}
 use Rattle.expr_syntax.specs.declared.expression.Expr.{Expr}
 use Rattle.expr_types.specs.LiteralView.{literals_of, typings_of}
 use Rattle.expr_types.specs.ScopeView.{scope_of}
-use Rattle.expr_types.specs.Typing.{Found, Typed, Node, places_of, typed_as, kinds_in, may_after, places_after, node_typed, founds_of, plain_typed, let_typed, looked_at, is_sequence_of, argument_want, argument_typed, frame}
+use Rattle.expr_types.specs.Typing.{TypedNodes, Typed, Node, places_of, typed_as, kinds_in, may_after, places_after, node_typed, founds_of, plain_typed, let_typed, looked_at, is_sequence_of, argument_want, argument_typed, frame}
 use Rattle.expr_types.specs.declared.checking.ArgumentKinds.{ArgumentKinds}
 use Rattle.expr_types.specs.declared.checking.NodeContext.{NodeContext}
 use Rattle.expr_types.specs.declared.fault.TypeFault.{TypeFault}
 use Rattle.expr_types.specs.declared.placed.Placed.{Placed}
-use Rattle.expr_types.specs.declared.scope.Scope.{Scope}
+use Rattle.expr_types.specs.declared.scope.KindScope.{KindScope}
 
-abbrev pub typed_of : Expr → Bool → Want → Scope → Here → Typed
+abbrev pub typed_of : Expr → Bool → Want → KindScope → Here → Typed
 typed_of e is_sequence want scope here = typed_as (term_of e) is_sequence want (scope_of scope) (path_of here)
 
 abbrev pub node_of : NodeContext → List Expr → Typed
 node_of node es = node_typed node.op.now (literals_of es) (typings_of es) node.is_sequence node.want (scope_of node.scope.now) (path_of node.here.now)
 
-abbrev pub founds_in : NodeContext → ℕ → ℕ → List Expr → Result (List Found) TypeFault
+abbrev pub founds_in : NodeContext → ℕ → ℕ → List Expr → Result (List TypedNodes) TypeFault
 founds_in node m k es = founds_of node.op.now m k (typings_of es) node.want (scope_of node.scope.now) (path_of node.here.now)
 
 abbrev pub plain_of : NodeContext → List Expr → Typed
@@ -63,7 +63,7 @@ added_below places (Err f) = Err f
 abbrev pub Kinds : Type 0
 Kinds = List Kind × FaultSet
 
-abbrev pub kinds_after : List Kind → FaultSet → Result (List Found) TypeFault → Result Kinds TypeFault
+abbrev pub kinds_after : List Kind → FaultSet → Result (List TypedNodes) TypeFault → Result Kinds TypeFault
 kinds_after ks may (Ok founds) = Ok (ks ++ kinds_in founds, may_after may founds)
 kinds_after ks may (Err f) = Err f
 
@@ -71,6 +71,6 @@ abbrev pub kinds_of : Result ArgumentKinds TypeFault → Result Kinds TypeFault
 kinds_of (Ok a) = Ok (a.kinds.items, a.may)
 kinds_of (Err f) = Err f
 
-abbrev pub all_added : List Placed → Result (List Found) TypeFault → Result (List Placed) TypeFault
+abbrev pub all_added : List Placed → Result (List TypedNodes) TypeFault → Result (List Placed) TypeFault
 all_added places (Ok founds) = Ok (places_after places founds)
 all_added places (Err f) = Err f

@@ -31,26 +31,26 @@ use Rattle.expr_types.specs.declared.placed.Placed.{Placed}
 use Rattle.expr_types.specs.declared.placed.Kinded.{Kinded}
 
 -- What is known of an expression, and of the nodes below its root in preorder.
-pub record Found : Type 0 where
+pub record TypedNodes : Type 0 where
   pub node : Kinded
   pub below : List Placed
 
 abbrev pub Typed : Type 0
-Typed = Result Found TypeFault
+Typed = Result TypedNodes TypeFault
 
 -- The kinds of the names around, a list for each `let`, the innermost first.
-abbrev pub Scope : Type 0
-Scope = List (List (List ℕ × Kind))
+abbrev pub KindScope : Type 0
+KindScope = List (List (List ℕ × Kind))
 
 -- an expression: whether it has to be a text or a list, its want, the names around it, and its path
 abbrev pub Typing : Type 0
-Typing = Bool → Want → Scope → List PathPart → Typed
+Typing = Bool → Want → KindScope → List PathPart → Typed
 
 abbrev pub fault : (A : Type 0) → List PathPart → TypeCode → Result A TypeFault
 fault A path code = Err (record { path = path; code = code })
 
 -- what is known of each node in preorder
-abbrev pub places_of : Found → List Placed
+abbrev pub places_of : TypedNodes → List Placed
 places_of found = found.node.root ∷ found.below
 
 -- ---- a node or literal under its want; at one node the least code counts
@@ -128,41 +128,41 @@ is_place None k = false
 abbrev pub is_sequence_of : Operator → ℕ → Bool
 is_sequence_of op k = is_place (row (operator_name op)).sequence k
 
-abbrev pub argument_typed : Operator → ℕ → ℕ → Typing → Want → Scope → List PathPart → Typed
+abbrev pub argument_typed : Operator → ℕ → ℕ → Typing → Want → KindScope → List PathPart → Typed
 argument_typed op m k typing want scope path =
     looked_at (is_sequence_of op k) (typing (is_sequence_of op k) (argument_want op m k want) scope (argument_path op m k path)) (argument_path op m k path)
 
-abbrev pub and_found : Typed → Result (List Found) TypeFault → Result (List Found) TypeFault
+abbrev pub and_found : Typed → Result (List TypedNodes) TypeFault → Result (List TypedNodes) TypeFault
 and_found (Ok found) (Ok founds) = Ok (found ∷ founds)
 and_found (Ok found) (Err f) = Err f
 and_found (Err f) later = Err f
 
 -- the arguments from that of place k on, from left to right: the first fault is the fault of all
-abbrev pub founds_of : Operator → ℕ → ℕ → List Typing → Want → Scope → List PathPart → Result (List Found) TypeFault
+abbrev pub founds_of : Operator → ℕ → ℕ → List Typing → Want → KindScope → List PathPart → Result (List TypedNodes) TypeFault
 founds_of op m k [] want scope path = Ok []
 founds_of op m k (typing ∷ typings) want scope path =
     and_found (argument_typed op m k typing want scope path) (founds_of op m (k + 1) typings want scope path)
 
-abbrev pub kinds_in : List Found → List Kind
+abbrev pub kinds_in : List TypedNodes → List Kind
 kinds_in = map (λ found. found.node.kind)
 
 -- the faults of each, with some before
-abbrev pub may_after : FaultSet → List Found → FaultSet
+abbrev pub may_after : FaultSet → List TypedNodes → FaultSet
 may_after may [] = may
 may_after may (found ∷ founds) = may_after (union may found.node.may) founds
 
-abbrev pub all_may : List Found → FaultSet
+abbrev pub all_may : List TypedNodes → FaultSet
 all_may founds = may_after no_faults founds
 
 -- the places of each, with some before
-abbrev pub places_after : List Placed → List Found → List Placed
+abbrev pub places_after : List Placed → List TypedNodes → List Placed
 places_after places [] = places
 places_after places (found ∷ founds) = places_after (places ++ places_of found) founds
 
-abbrev pub all_places : List Found → List Placed
+abbrev pub all_places : List TypedNodes → List Placed
 all_places founds = places_after [] founds
 
-abbrev pub then_found : Result (List Found) TypeFault → (List Found → Typed) → Typed
+abbrev pub then_found : Result (List TypedNodes) TypeFault → (List TypedNodes → Typed) → Typed
 then_found (Ok founds) go = go founds
 then_found (Err f) go = Err f
 
@@ -188,7 +188,7 @@ or_outer (Some k) outer = owns k no_faults
 or_outer None outer = outer
 
 -- An expression that was read asks for no other name.
-abbrev pub own_named : Scope → List ℕ → Own
+abbrev pub own_named : KindScope → List ℕ → Own
 own_named [] asked = ill_typed
 own_named (bs ∷ outer) asked = or_outer (last_kind bs asked) (own_named outer asked)
 
@@ -204,7 +204,7 @@ is_branching op = false
 abbrev pub finished_node : Operator → Want → Own → FaultSet → List PathPart → Node
 finished_node op want own may path = if is_branching op then branched want own may path else fitted want own may path
 
-abbrev pub finished : Operator → Want → Own → List Found → List PathPart → Typed
+abbrev pub finished : Operator → Want → Own → List TypedNodes → List PathPart → Typed
 finished op want own founds path = with_below (all_places founds) (finished_node op want own (all_may founds) path)
 
 abbrev pub plain_typed : Operator → List (Option Data) → List Typing → Typing
@@ -213,19 +213,19 @@ plain_typed op ls typings is_sequence want scope path =
     finished op want (own_where is_sequence (own op want ls (kinds_in founds))) founds path)
 
 -- `let`: the body, in the names of the bindings; a code of the body is at another node
-abbrev pub with_bindings : Want → List Found → Typed → Typed
+abbrev pub with_bindings : Want → List TypedNodes → Typed → Typed
 with_bindings want founds (Ok body) = Ok (record {
   node = kinded want (branch_kind want body.node.kind) (union (all_may founds) body.node.may) true;
   below = all_places founds ++ places_of body;
 })
 with_bindings want founds (Err f) = Err f
 
-abbrev pub body_typed : List (List ℕ) → List Typing → List Found → Want → Scope → List PathPart → Typed
+abbrev pub body_typed : List (List ℕ) → List Typing → List TypedNodes → Want → KindScope → List PathPart → Typed
 body_typed names (body ∷ []) founds want scope path =
     with_bindings want founds (argument_typed (Let names) (length names + 1) (length names) body want (frame names (kinds_in founds) ∷ scope) path)
-body_typed names typings founds want scope path = fault Found path codes.Kind
+body_typed names typings founds want scope path = fault TypedNodes path codes.Kind
 
-abbrev pub let_typed : List (List ℕ) → List Typing → Want → Scope → List PathPart → Typed
+abbrev pub let_typed : List (List ℕ) → List Typing → Want → KindScope → List PathPart → Typed
 let_typed names typings want scope path =
     then_found (founds_of (Let names) (length typings) 0 (take (length names) typings) want scope path) (λ founds.
     body_typed names (drop (length names) typings) founds want scope path)
@@ -253,5 +253,5 @@ abbrev mutual
   typings (term t ts) = typed_as t ∷ typings ts
 
 -- where no text or list is asked
-abbrev pub typed : Term → Want → Scope → List PathPart → Typed
+abbrev pub typed : Term → Want → KindScope → List PathPart → Typed
 typed t = typed_as t false

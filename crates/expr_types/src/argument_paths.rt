@@ -3,22 +3,22 @@
 ghost use Rattle.std.specs.Prelude.{◌≡◌, ◌<◌, ◌^◌, option_map};
 ghost use Rattle.expr_types.specs.ArgumentPaths.{element_of, element_at, key_at, role_key};
 
-use expr_syntax::{Layout, Operator, Role};
+use expr_syntax::{ElementLayout, Operator, Role};
 
 // The element that is an argument, counted from 0, of so many, by the layout of the elements.
-fn element_of(layout: Layout, count: usize, argument: usize) -> usize
+fn element_of(layout: ElementLayout, count: usize, argument: usize) -> usize
     requires { argument < 2 ^ 60 }
     ensures { result ≡ element_of layout count argument }
 {
     let is_last = argument + 1 == count;
     match layout {
-        Layout::Labels | Layout::Stops if argument == 0 => 1,
-        Layout::Labels if is_last => 2 * argument,
-        Layout::Labels => 2 * argument + 1,
-        Layout::Stops => 2 * argument,
-        Layout::Ramp => 2 * argument + 2,
-        Layout::Bindings if is_last => 2 * argument + 1,
-        Layout::Bindings => 2 * argument + 2,
+        ElementLayout::Labels | ElementLayout::Stops if argument == 0 => 1,
+        ElementLayout::Labels if is_last => 2 * argument,
+        ElementLayout::Labels => 2 * argument + 1,
+        ElementLayout::Stops => 2 * argument,
+        ElementLayout::Ramp => 2 * argument + 2,
+        ElementLayout::Bindings if is_last => 2 * argument + 1,
+        ElementLayout::Bindings => 2 * argument + 2,
         _ => argument + 1,
     }
 }

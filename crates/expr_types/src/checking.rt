@@ -16,7 +16,7 @@ use crate::nodes::{
 };
 use crate::own::Own;
 use crate::placed::{Kinded, Placed};
-use crate::scope::{Scope, own_named};
+use crate::scope::{KindScope, own_named};
 use crate::table::own;
 use decimal_json::Here;
 use expr_syntax::{Expr, Names, Operator, ramp_want};
@@ -37,7 +37,7 @@ pub(crate) struct NodeContext<'x> {
     op: &'x Operator,
     is_sequence: bool,
     want: Want,
-    scope: &'x Scope<'x>,
+    scope: &'x KindScope<'x>,
     here: &'x Here<'x>,
 }
 
@@ -58,7 +58,7 @@ impl Checking {
         expression: &'x Expr,
         is_sequence: bool,
         want: &Want,
-        scope: &'x Scope<'x>,
+        scope: &'x KindScope<'x>,
         here: &'x Here<'x>,
     ) -> Result<Result<Kinded, TypeFault>, AllocError>
         ensures node { IfOk result (λ r. r ≡ root_of (typed_of expression.now is_sequence want.now scope.now here.now)) }
@@ -200,7 +200,7 @@ impl Checking {
         ensures places { IfOk result (λ r. IfOk r (λ _. Ok self.new.places.items ≡ added self.old.places.items (body_of context.now names.now kinds.now body.now))) }
     {
         let count = names.len();
-        let scope = Scope::Inside(Bound { names, kinds }, &*context.scope);
+        let scope = KindScope::Inside(Bound { names, kinds }, &*context.scope);
         let inside = NodeContext {
             op: &*context.op,
             is_sequence: context.is_sequence,

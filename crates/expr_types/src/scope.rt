@@ -10,18 +10,18 @@ use prop_values::FaultSet;
 
 /// The names around an expression with their kinds: those of each `let`, the innermost first.
 #[derive(Drop)]
-pub(crate) enum Scope<'a> {
+pub(crate) enum KindScope<'a> {
     Empty,
-    Inside(Bound<'a>, &'a Scope<'a>),
+    Inside(Bound<'a>, &'a KindScope<'a>),
 }
 
 /// What a `var` has of its own.
-pub(crate) fn own_named(scope: &Scope<'_>, asked: &str) -> Own
+pub(crate) fn own_named(scope: &KindScope<'_>, asked: &str) -> Own
     ensures { result ≡ own_named (scope_of scope.now) asked.now }
 {
     match scope {
-        Scope::Empty => ill_typed(),
-        Scope::Inside(bound, outer) => match last_kind(bound, asked) {
+        KindScope::Empty => ill_typed(),
+        KindScope::Inside(bound, outer) => match last_kind(bound, asked) {
             Some(kind) => owns(kind, FaultSet::empty()),
             None => own_named(outer, asked),
         },

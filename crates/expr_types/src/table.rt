@@ -18,7 +18,7 @@ use crate::literals::count_of;
 use crate::own::{Own, common_kind, ill_typed, owns};
 use crate::ramping::own_ramp;
 use crate::sequences::{own_at, own_in, own_index_of, own_slice};
-use expr_syntax::{Expr, Labelled, Operator, Piece, Role};
+use expr_syntax::{Expr, FormatPiece, Labelled, Operator, Role};
 use prop_values::{EvalFault, FaultSet, Item, Kind, Want};
 use std::alloc::{AllocError, Global};
 
@@ -218,7 +218,7 @@ fn own_match(labels: &[Labelled], kinds: &[Kind]) -> Own
 }
 
 // How many sections a `format` has: one for each content.
-fn section_count(pieces: &[Piece]) -> usize
+fn section_count(pieces: &[FormatPiece]) -> usize
     ensures { result ≡ section_count pieces.now }
 {
     let mut count = 0;

@@ -12,9 +12,9 @@ use crate::checking::Checking;
 use crate::fault::{TypeCode, TypeFault};
 use crate::misplaced_reads::MisplacedReads;
 use crate::placed::{Kinded, Placed};
-use crate::scope::Scope;
+use crate::scope::KindScope;
 use crate::standing::Standing;
-use crate::visiting::Walk;
+use crate::visiting::ExpressionWalk;
 use decimal_json::Here;
 use expr_syntax::Expr;
 use prop_values::{FaultSet, Kind, Want};
@@ -103,7 +103,7 @@ pub fn check<'a>(
         Ok(typed) => typed,
         Err(fault) => return Ok(Err(fault)),
     };
-    let walk = Walk { alloc, row };
+    let walk = ExpressionWalk { alloc, row };
     let found = walk.visit(
         expression,
         Standing::Reached,
@@ -156,7 +156,7 @@ fn check_under<'a>(
         alloc,
         places: Vec::new(alloc),
     };
-    match checking.check_expression(expression, false, want, &Scope::Empty, &Here::Root)? {
+    match checking.check_expression(expression, false, want, &KindScope::Empty, &Here::Root)? {
         Ok(node) => Ok(Ok(Typed {
             expression,
             want: *want,

@@ -20,7 +20,7 @@ use std::alloc::{AllocError, Global};
 
 /// A walk over an expression as the value of a row, or as a filter where there is none.
 #[derive(Drop)]
-pub(crate) struct Walk<'r> {
+pub(crate) struct ExpressionWalk<'r> {
     pub(crate) alloc: Global,
     pub(crate) row: Option<&'r Row>,
 }
@@ -33,7 +33,7 @@ pub(crate) struct VisitedNode<'x> {
     here: &'x Here<'x>,
 }
 
-impl<'r> Walk<'r> {
+impl<'r> ExpressionWalk<'r> {
     /// What was found before, and what the nodes of an expression add.
     #[tactic(auto, using(expr_syntax::proofs::Falls::argument_weight))]
     #[cycle(visiting)]

@@ -4,7 +4,7 @@ use Rattle.std.specs.Prelude.{Result, Ok, Err, OnOk, OnErr, replicate}
 use Rattle.std.specs.List.{slice_index_or}
 use Rattle.index_lists.specs.declared.nodes.Nodes.{Nodes}
 use Rattle.index_lists.specs.Nodes.{slot_count, list_count, after, before, IsNode, next_out, prev_out, next_into, prev_into, KeepsLinks, AddsRounds}
-use Rattle.index_lists.specs.Rounds.{head, Keeps, lists_of, seen, IsSound}
+use Rattle.index_lists.specs.Rounds.{head, Keeps, lists_of, seen, KeepsLists}
 use Rattle.index_lists.specs.SlotLists.{times, without, placed, AreDisjoint, after_grow}
 use Rattle.index_lists.proofs.Times.{pushed}
 use Rattle.index_lists.proofs.Chains.{last_holds}
@@ -19,7 +19,7 @@ AreKept nodes lists = Keeps (after nodes) (before nodes) (slot_count nodes) (lis
 pub seen_lists : (nodes : Nodes) (lists : List (List ℕ)) → AreKept nodes lists → lists_of nodes ≡ lists
 seen_lists nodes lists k = read (after nodes) (before nodes) (slot_count nodes) (list_count nodes) lists k
 
-pub sound : (nodes : Nodes) (lists : List (List ℕ)) → AreKept nodes lists → IsSound nodes
+pub sound : (nodes : Nodes) (lists : List (List ℕ)) → AreKept nodes lists → KeepsLists nodes
 sound nodes lists k = subst (AreKept nodes) (sym (seen_lists nodes lists k)) k
 
 pub seen_as : (nodes : Nodes) (lists : List (List ℕ)) (slots : ℕ) → AreKept nodes lists → slot_count nodes ≡ slots → seen nodes ≡ record { slots = slots; lists = lists }
@@ -40,7 +40,7 @@ head_node slots count list fits h = λ beyond. omega (arith, fits, h)
 slot_node : (slots count slot : ℕ) → slot < slots → IsNode slots count slot
 slot_node slots count slot h = λ beyond. absurd (omega (arith, h, beyond))
 
-module _ (nodes : Nodes) (k : IsSound nodes) where
+module _ (nodes : Nodes) (k : KeepsLists nodes) where
   pub before_slot : (slot : ℕ) → 0 < times slot (lists_of nodes) → IsNode (slot_count nodes) (list_count nodes) (before nodes slot)
   before_slot slot t =
       rounds_prev (IsNode (slot_count nodes) (list_count nodes)) (after nodes) (before nodes) slot 0 (lists_of nodes) k.rounds
@@ -63,7 +63,7 @@ module _ (nodes : Nodes) (k : IsSound nodes) where
   pub disjoint : AreDisjoint (seen nodes)
   disjoint = record { once = k.once; within = k.within }
 
-module _ (old new : Nodes) (k : IsSound old) (s : slot_count new ≡ slot_count old) (l : list_count new ≡ list_count old) where
+module _ (old new : Nodes) (k : KeepsLists old) (s : slot_count new ≡ slot_count old) (l : list_count new ≡ list_count old) where
   pub after_unlinking : (slot : ℕ) → 0 < times slot (lists_of old) → ((y : ℕ) → after new y ≡ next_out (after old) (before old) slot y) → ((y : ℕ) → before new y ≡ prev_out (after old) (before old) slot y)
       → AreKept new (map (without slot) (lists_of old))
   after_unlinking slot t a b =
@@ -98,7 +98,7 @@ module _ (old new : Nodes) (k : IsSound old) (s : slot_count new ≡ slot_count 
       all = ap (λ more. lists_of old ++ replicate more []) none ∙ append-nil (lists_of old)
 
 -- more slots and lists
-pub after_growing : (old new : Nodes) → IsSound old → slot_count old ≤ slot_count new → list_count old ≤ list_count new → KeepsLinks old new → AddsRounds old new
+pub after_growing : (old new : Nodes) → KeepsLists old → slot_count old ≤ slot_count new → list_count old ≤ list_count new → KeepsLinks old new → AddsRounds old new
     → AreKept new (lists_of old ++ replicate (list_count new - list_count old) [])
 after_growing old new k s l links added =
     grown (after old) (before old) (after new) (before new) (slot_count old) (list_count old) (slot_count new) (list_count new) new.fits s l
@@ -123,12 +123,12 @@ after_starting old new s l links added =
     (subst P (seen_lists old [] none) (after_growing old new (sound old [] none) (omega (arith, s)) (omega (arith, l)) links added))
 
 -- a call that grows, by its answer
-module _ (old new : Nodes) (slots lists : ℕ) (k : IsSound old) (s : slot_count old ≤ slots) (l : list_count old ≤ lists) (links : KeepsLinks old new) where
+module _ (old new : Nodes) (slots lists : ℕ) (k : KeepsLists old) (s : slot_count old ≤ slots) (l : list_count old ≤ lists) (links : KeepsLinks old new) where
   grows : (slot_count new ≡ slots) × (list_count new ≡ lists) → AddsRounds old new → AreKept new (lists_of old ++ replicate (list_count new - list_count old) [])
   grows is added = after_growing old new k (omega (arith, s, is.0)) (omega (arith, l, is.1)) links added
 
   pub growing_sound : {T E : Type 0} (r : Result T E) → OnOk r ((slot_count new ≡ slots) × (list_count new ≡ lists)) → OnOk r (AddsRounds old new)
-      → OnErr r ((slot_count new ≡ slot_count old) × (list_count new ≡ list_count old)) → IsSound new
+      → OnErr r ((slot_count new ≡ slot_count old) × (list_count new ≡ list_count old)) → KeepsLists new
   growing_sound (Ok done) is added same = sound new (lists_of old ++ replicate (list_count new - list_count old) []) (grows is added)
   growing_sound (Err lack) is added same = sound new (lists_of old) (after_nothing old new k same.0 same.1 links)
 

@@ -47,5 +47,5 @@ abbrev pub seen : Nodes → SlotLists
 seen nodes = record { slots = slot_count nodes; lists = lists_of nodes }
 
 -- the nodes keep the lists that are seen
-abbrev pub IsSound : Nodes → Type 0
-IsSound nodes = Keeps (after nodes) (before nodes) (slot_count nodes) (list_count nodes) (lists_of nodes)
+abbrev pub KeepsLists : Nodes → Type 0
+KeepsLists nodes = Keeps (after nodes) (before nodes) (slot_count nodes) (list_count nodes) (lists_of nodes)

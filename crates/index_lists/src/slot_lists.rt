@@ -16,13 +16,13 @@ pub struct Links {
 
 impl Model for Links {
     ghost use Rattle.index_lists.specs.SlotLists.{SlotLists};
-    ghost use Rattle.index_lists.specs.Rounds.{seen, IsSound};
+    ghost use Rattle.index_lists.specs.Rounds.{seen, KeepsLists};
 
     ghost Value = { SlotLists };
 
     ghost view = { λ s. seen s.nodes };
 
-    ghost invariant = { λ s. IsSound s.nodes };
+    ghost invariant = { λ s. KeepsLists s.nodes };
 }
 
 impl Links {

@@ -18,7 +18,7 @@ use Rattle.legacy_filters.specs.declared.filter.Test.{Test}
 use Rattle.legacy_filters.specs.declared.filter.Test.TheVariants.{Has, HasNot, Equal, NotEqual, Ordered, Among, NotAmong}
 use Rattle.legacy_filters.specs.Split.{is_array, is_named, is_legacy, some_legacy}
 use Rattle.legacy_filters.specs.Filter.{Filter, flag, test, group, Filters, no_filters, filter}
-use Rattle.legacy_filters.specs.Form.{Read, Reader, ill_formed, key_named, keyed_form, test_form, or_ill_formed, group_named, and_filter, parts_form, grouped, most_open, unless_group, form, array_form, forms}
+use Rattle.legacy_filters.specs.Form.{FilterRead, FilterReader, ill_formed, key_named, keyed_form, test_form, or_ill_formed, group_named, and_filter, parts_form, grouped, most_open, unless_group, form, array_form, forms}
 use Rattle.legacy_filters.specs.ToExpression.{call, value_expression, scalar_tree, order_name, kind_and_order, test_expression, expression, expressions}
 use Rattle.legacy_filters.specs.Laws.{NoExpressionIsLegacy}
 
@@ -87,7 +87,7 @@ mutual
 
 -- ---- filters that were read are such filters
 
-abbrev ReadsProper : Read → Type 0
+abbrev ReadsProper : FilterRead → Type 0
 ReadsProper (Ok f) = IsProper f
 ReadsProper (Err fault) = Unit {0}
 
@@ -95,10 +95,10 @@ abbrev ReadProper : Result Filters FilterFault → Type 0
 ReadProper (Ok fs) = AreProper fs
 ReadProper (Err fault) = Unit {0}
 
-abbrev GivesProper : Reader → Type 0
+abbrev GivesProper : FilterReader → Type 0
 GivesProper r = (count : ℕ) (path : List PathPart) → ReadsProper (r count path)
 
-abbrev GiveProper : List Reader → Type 0
+abbrev GiveProper : List FilterReader → Type 0
 GiveProper [] = Unit {0}
 GiveProper (r ∷ rs) = GivesProper r × GiveProper rs
 
@@ -123,12 +123,12 @@ keyed_is_proper name (tree (text key) ts) path = tested_is_proper (key_named key
 keyed_is_proper name (tree (list us) ts) path = tt
 keyed_is_proper name (tree (object fs) ts) path = tt
 
-and_is_proper : (r : Read) (later : Result Filters FilterFault) → ReadsProper r → ReadProper later → ReadProper (and_filter r later)
+and_is_proper : (r : FilterRead) (later : Result Filters FilterFault) → ReadsProper r → ReadProper later → ReadProper (and_filter r later)
 and_is_proper (Ok f) (Ok fs) h k = (h, k)
 and_is_proper (Ok f) (Err fault) h k = tt
 and_is_proper (Err fault) later h k = tt
 
-parts_are_proper : (i : ℕ) (rs : List Reader) (count : ℕ) (path : List PathPart) → GiveProper rs → ReadProper (parts_form i rs count path)
+parts_are_proper : (i : ℕ) (rs : List FilterReader) (count : ℕ) (path : List PathPart) → GiveProper rs → ReadProper (parts_form i rs count path)
 parts_are_proper i [] count path h = tt
 parts_are_proper i (r ∷ rs) count path h =
     and_is_proper (r count (path ++ Index i ∷ [])) (parts_form (i + 1) rs count path) (h.0 count (path ++ Index i ∷ [])) (parts_are_proper (i + 1) rs count path h.1)
@@ -137,11 +137,11 @@ grouped_is_proper : (g : Group) (r : Result Filters FilterFault) → ReadProper 
 grouped_is_proper g (Ok fs) h = h
 grouped_is_proper g (Err fault) h = tt
 
-if_is_proper : (b : Bool) (r : Read) (path : List PathPart) → ReadsProper r → ReadsProper (if b then r else ill_formed path)
+if_is_proper : (b : Bool) (r : FilterRead) (path : List PathPart) → ReadsProper r → ReadsProper (if b then r else ill_formed path)
 if_is_proper true r path h = h
 if_is_proper false r path h = tt
 
-named_is_proper : (o : Option Group) (name : List ℕ) (ts : Trees) (rs : List Reader) (count : ℕ) (path : List PathPart) → GiveProper rs → ReadsProper (unless_group o name ts rs count path)
+named_is_proper : (o : Option Group) (name : List ℕ) (ts : Trees) (rs : List FilterReader) (count : ℕ) (path : List PathPart) → GiveProper rs → ReadsProper (unless_group o name ts rs count path)
 named_is_proper (Some g) name ts rs count path h =
     if_is_proper (nat_lt count most_open) (grouped g (parts_form 1 rs (count + 1) path)) path (grouped_is_proper g (parts_form 1 rs (count + 1) path) (parts_are_proper 1 rs (count + 1) path h))
 named_is_proper None name ts rs count path h = keyed_is_proper name ts path

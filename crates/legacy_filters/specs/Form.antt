@@ -20,14 +20,14 @@ use Rattle.legacy_filters.specs.Split.{is_named}
 use Rattle.legacy_filters.specs.Filter.{Filter, flag, test, group, Filters, no_filters, filter}
 
 -- a filter, or the innermost ill-formed part that is the first in order
-abbrev pub Read : Type 0
-Read = Result Filter FilterFault
+abbrev pub FilterRead : Type 0
+FilterRead = Result Filter FilterFault
 
 -- what a tree is where so many groups are open around it, by its path from the root
-abbrev pub Reader : Type 0
-Reader = ℕ → List PathPart → Read
+abbrev pub FilterReader : Type 0
+FilterReader = ℕ → List PathPart → FilterRead
 
-abbrev pub ill_formed : List PathPart → Read
+abbrev pub ill_formed : List PathPart → FilterRead
 ill_formed path = Err (record { path = path })
 
 -- ---- keys are texts, and two of them are no property
@@ -108,7 +108,7 @@ abbrev pub keyed_form : List ℕ → Trees → Option Filter
 keyed_form name (tree (text key) ts) = option_map (test (key_named key)) (test_form name (key_named key) ts)
 keyed_form name _ = None
 
-abbrev pub or_ill_formed : Option Filter → List PathPart → Read
+abbrev pub or_ill_formed : Option Filter → List PathPart → FilterRead
 or_ill_formed (Some f) path = Ok f
 or_ill_formed None path = ill_formed path
 
@@ -121,17 +121,17 @@ group_named name =
     if bytes_eq name (codes "none") then Some groups.None else
     None
 
-abbrev pub and_filter : Read → Result Filters FilterFault → Result Filters FilterFault
+abbrev pub and_filter : FilterRead → Result Filters FilterFault → Result Filters FilterFault
 and_filter (Ok f) (Ok fs) = Ok (filter f fs)
 and_filter (Ok f) (Err fault) = Err fault
 and_filter (Err fault) later = Err fault
 
 -- the parts from place i on
-abbrev pub parts_form : ℕ → List Reader → ℕ → List PathPart → Result Filters FilterFault
+abbrev pub parts_form : ℕ → List FilterReader → ℕ → List PathPart → Result Filters FilterFault
 parts_form i [] count path = Ok no_filters
 parts_form i (r ∷ rs) count path = and_filter (r count (path ++ parts.Index i ∷ [])) (parts_form (i + 1) rs count path)
 
-abbrev pub grouped : Group → Result Filters FilterFault → Read
+abbrev pub grouped : Group → Result Filters FilterFault → FilterRead
 grouped g (Ok fs) = Ok (group g fs)
 grouped g (Err fault) = Err fault
 
@@ -140,19 +140,19 @@ abbrev pub most_open : ℕ
 most_open = 24
 
 -- a group with 24 open around it is ill-formed, whatever its parts are
-abbrev pub group_form : Group → List Reader → Reader
+abbrev pub group_form : Group → List FilterReader → FilterReader
 group_form g rs count path = if nat_lt count most_open then grouped g (parts_form 1 rs (count + 1) path) else ill_formed path
 
 -- an array that begins with a name, by the elements after it and what these read as
-abbrev pub unless_group : Option Group → List ℕ → Trees → List Reader → Reader
+abbrev pub unless_group : Option Group → List ℕ → Trees → List FilterReader → FilterReader
 unless_group (Some g) name ts rs count path = group_form g rs count path
 unless_group None name ts rs count path = or_ill_formed (keyed_form name ts) path
 
-abbrev pub named_form : List ℕ → Trees → List Reader → Reader
+abbrev pub named_form : List ℕ → Trees → List FilterReader → FilterReader
 named_form name ts rs count path = unless_group (group_named name) name ts rs count path
 
 abbrev mutual
-  pub form : Tree → Reader
+  pub form : Tree → FilterReader
   form null = λ count path. ill_formed path
   form (boolean b) = λ count path. Ok (flag b)
   form (number n) = λ count path. ill_formed path
@@ -160,15 +160,15 @@ abbrev mutual
   form (list ts) = λ count path. array_form ts count path
   form (object fs) = λ count path. ill_formed path
 
-  pub array_form : Trees → Reader
+  pub array_form : Trees → FilterReader
   array_form no_trees = λ count path. ill_formed path
   array_form (tree (text name) ts) = λ count path. named_form name ts (forms ts) count path
   array_form (tree _ ts) = λ count path. ill_formed path
 
-  pub forms : Trees → List Reader
+  pub forms : Trees → List FilterReader
   forms no_trees = []
   forms (tree t ts) = form t ∷ forms ts
 
 -- The legacy filter that a tree is, or its fault.
-abbrev pub reading : Tree → Read
+abbrev pub reading : Tree → FilterRead
 reading t = form t 0 []

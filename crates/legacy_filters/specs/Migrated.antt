@@ -1,11 +1,11 @@
 -- A filter after it was migrated. Source: own.
 use Rattle.std.specs.Prelude.{Ok, Err, if◌then◌else◌}
 use Rattle.decimal_json.specs.Tree.{Tree}
-use Rattle.legacy_filters.specs.Form.{Read, reading}
+use Rattle.legacy_filters.specs.Form.{FilterRead, reading}
 use Rattle.legacy_filters.specs.Split.{is_legacy}
 use Rattle.legacy_filters.specs.ToExpression.{expression}
 
-abbrev pub expression_or_itself : Read → Tree → Tree
+abbrev pub expression_or_itself : FilterRead → Tree → Tree
 expression_or_itself (Ok f) t = expression f
 expression_or_itself (Err fault) t = t
 

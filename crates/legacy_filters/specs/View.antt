@@ -5,7 +5,7 @@ use Rattle.legacy_filters.specs.declared.filter.LegacyFilter.{LegacyFilter}
 use Rattle.legacy_filters.specs.declared.filter.Part.{Part, fold-Part}
 use Rattle.legacy_filters.specs.declared.filter.Part.TheOpen.{Part-F}
 use Rattle.legacy_filters.specs.Filter.{Filter, flag, test, group, Filters, filters_of}
-use Rattle.legacy_filters.specs.Form.{Read}
+use Rattle.legacy_filters.specs.Form.{FilterRead}
 
 -- one level, with each part inside already seen as its filter
 abbrev pub part_step : Part-F Filter → Filter
@@ -24,10 +24,10 @@ abbrev pub filter_of : LegacyFilter → Filter
 filter_of f = part_filter f.whole
 
 -- what was read, as definitions see it
-abbrev pub read_of : Result LegacyFilter FilterFault → Read
+abbrev pub read_of : Result LegacyFilter FilterFault → FilterRead
 read_of (Ok f) = Ok (filter_of f)
 read_of (Err fault) = Err fault
 
-abbrev pub part_read : Result Part FilterFault → Read
+abbrev pub part_read : Result Part FilterFault → FilterRead
 part_read (Ok part) = Ok (part_filter part)
 part_read (Err fault) = Err fault

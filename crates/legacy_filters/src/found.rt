@@ -12,23 +12,23 @@ use tile_reader::Feature;
 
 // The name of a shape, an id as a number, or a property.
 #[derive(Drop)]
-pub(crate) enum Found<'a> {
+pub(crate) enum TestedValue<'a> {
     Shape(&'a str),
     Id(Fixed),
     Property(&'a Value),
 }
 
-pub(crate) fn found_at<'a>(key: &Key, feature: &'a Feature) -> Option<Found<'a>>
+pub(crate) fn found_at<'a>(key: &Key, feature: &'a Feature) -> Option<TestedValue<'a>>
     ensures { option_map found_data result ≡ value_at key.now feature.now }
 {
     match key {
-        Key::Shape => Some(Found::Shape(feature.shape.name())),
+        Key::Shape => Some(TestedValue::Shape(feature.shape.name())),
         Key::Id => match feature.id {
-            Some(id) => Some(Found::Id(id_number(id))),
+            Some(id) => Some(TestedValue::Id(id_number(id))),
             None => None,
         },
         Key::Property(name) => match feature.properties.get(name.as_str()) {
-            Some(value) => Some(Found::Property(value)),
+            Some(value) => Some(TestedValue::Property(value)),
             None => None,
         },
     }

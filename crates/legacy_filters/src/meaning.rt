@@ -15,7 +15,7 @@ ghost use Rattle.legacy_filters.specs.Scalars.{scalar_data, is_equal};
 ghost use Rattle.legacy_filters.specs.View.{filter_of, part_filter, part_filters};
 
 use crate::filter::{Group, Key, LegacyFilter, Order, Part, Test};
-use crate::found::{Found, found_at};
+use crate::found::{TestedValue, found_at};
 use crate::scalars::Scalar;
 use fixed_num::Fixed;
 use prop_values::Value;
@@ -83,7 +83,7 @@ fn holds_of_nothing(test: &Test) -> bool
     matches!(test, Test::HasNot | Test::NotEqual(_) | Test::NotAmong(_))
 }
 
-fn holds_of(test: &Test, found: &Found<'_>) -> bool
+fn holds_of(test: &Test, found: &TestedValue<'_>) -> bool
     ensures { result ≡ holds test.now (Some (found_data found.now)) }
 {
     match test {
@@ -97,13 +97,13 @@ fn holds_of(test: &Test, found: &Found<'_>) -> bool
     }
 }
 
-fn is_equal(scalar: &Scalar, found: &Found<'_>) -> bool
+fn is_equal(scalar: &Scalar, found: &TestedValue<'_>) -> bool
     ensures { result ≡ is_equal scalar.now (found_data found.now) }
 {
     match found {
-        Found::Shape(name) => is_text(scalar, name),
-        Found::Id(id) => is_number(scalar, *id),
-        Found::Property(value) => is_value(scalar, value),
+        TestedValue::Shape(name) => is_text(scalar, name),
+        TestedValue::Id(id) => is_number(scalar, *id),
+        TestedValue::Property(value) => is_value(scalar, value),
     }
 }
 
@@ -136,13 +136,13 @@ fn is_text(scalar: &Scalar, found: &str) -> bool
     }
 }
 
-fn order_of(found: &Found<'_>, scalar: &Scalar) -> Option<Ordering>
+fn order_of(found: &TestedValue<'_>, scalar: &Scalar) -> Option<Ordering>
     ensures { result ≡ order_of (found_data found.now) (scalar_data scalar.now) }
 {
     match found {
-        Found::Shape(name) => order_of_text(name, scalar),
-        Found::Id(id) => order_of_number(*id, scalar),
-        Found::Property(value) => order_of_value(value, scalar),
+        TestedValue::Shape(name) => order_of_text(name, scalar),
+        TestedValue::Id(id) => order_of_number(*id, scalar),
+        TestedValue::Property(value) => order_of_value(value, scalar),
     }
 }
 

@@ -10,7 +10,7 @@ ghost use Rattle.legacy_filters.specs.Found.{found_data};
 ghost use Rattle.legacy_filters.specs.Indexed.{indexed, flag_in};
 ghost use Rattle.legacy_filters.specs.Scalars.{is_equal, is_one_of};
 
-use crate::found::Found;
+use crate::found::TestedValue;
 use decimal_json::{NumText, Text};
 use fixed_num::Fixed;
 use prop_values::{Entries, Value};
@@ -72,7 +72,7 @@ impl Scalars {
     }
 
     /// Whether one of the values is equal to what is at a key.
-    pub(crate) fn has(&self, found: &Found<'_>) -> bool
+    pub(crate) fn has(&self, found: &TestedValue<'_>) -> bool
         ensures { result ≡ is_one_of self.now (found_data found.now) }
     {
         index_has(&self.index, found)
@@ -125,13 +125,13 @@ fn note_text(texts: &mut Entries, text: &Text) -> Result<(), AllocError>
     texts.set(text.share()?, Value::Null)
 }
 
-fn index_has(index: &ScalarIndex, found: &Found<'_>) -> bool
+fn index_has(index: &ScalarIndex, found: &TestedValue<'_>) -> bool
     ensures { result ≡ indexed index.now (found_data found.now) }
 {
     match found {
-        Found::Shape(name) => has_text(&index.texts, name),
-        Found::Id(id) => has_number(&index.numbers, *id),
-        Found::Property(value) => index_has_value(index, value),
+        TestedValue::Shape(name) => has_text(&index.texts, name),
+        TestedValue::Id(id) => has_number(&index.numbers, *id),
+        TestedValue::Property(value) => index_has_value(index, value),
     }
 }
 

@@ -21,7 +21,7 @@ use Rattle.legacy_functions.specs.Function.{Input, flag, number, word}
 use Rattle.legacy_functions.specs.Form.{same_input, all_differ, Stop}
 use Rattle.legacy_functions.specs.Meaning.{is_input, chosen_output}
 use Rattle.legacy_functions.specs.Parts.{input_seen, output_seen, category_seen}
-use Rattle.legacy_functions.specs.CategoryIndex.{Texts, text_place, flag_place, place_at, value_place, listed_place, IsIndexOf, Notes}
+use Rattle.legacy_functions.specs.CategoryIndex.{Texts, text_place, flag_place, place_at, value_place, listed_place, IsIndexOf, NotesInput}
 
 -- ---- a text in the map of texts: what a change at one key leaves at each other
 
@@ -64,7 +64,7 @@ differ_first index all none = differ_same (λ i. is_some (place_at index i)) (λ
 pub index_first : (index : CategoryIndex) (all : List Stop) → ((i : Input) → place_at index i ≡ None) → IsIndexWith index 0 all all
 index_first index all none i = ap (λ x. option_or x (listed_place 0 all i)) (none i)
 
-pub differ_more : (new old : CategoryIndex) (k : ℕ) (s : Stop) (later all : List Stop) → Notes s.0 k old new → place_at old s.0 ≡ None → DiffersWith old (s ∷ later) all → DiffersWith new later all
+pub differ_more : (new old : CategoryIndex) (k : ℕ) (s : Stop) (later all : List Stop) → NotesInput s.0 k old new → place_at old s.0 ≡ None → DiffersWith old (s ∷ later) all → DiffersWith new later all
 differ_more new old k s later all noted none h =
     differ_same (λ i. is_some (place_at new i)) (λ i. same_input s.0 i || is_some (place_at old i)) later
     (λ i. ap is_some (noted i) ∙ some_if (same_input s.0 i) k (place_at old i))
@@ -96,7 +96,7 @@ turned : (b : Bool) (place : ℕ) (old later : Option ℕ) → (b ≡ true → o
 turned true place old later none = sym (ap (λ x. option_or x (Some place)) (none refl))
 turned false place old later none = refl
 
-pub index_more : (new old : CategoryIndex) (k : ℕ) (s : Stop) (later all : List Stop) → Notes s.0 k old new → place_at old s.0 ≡ None → IsIndexWith old k (s ∷ later) all → IsIndexWith new (k + 1) later all
+pub index_more : (new old : CategoryIndex) (k : ℕ) (s : Stop) (later all : List Stop) → NotesInput s.0 k old new → place_at old s.0 ≡ None → IsIndexWith old k (s ∷ later) all → IsIndexWith new (k + 1) later all
 index_more new old k s later all noted none h i =
     ap (λ x. option_or x (listed_place (k + 1) later i)) (noted i)
     ∙ (turned (same_input s.0 i) k (place_at old i) (listed_place (k + 1) later i) (λ e. same_none old s.0 i e none) ∙ h i)

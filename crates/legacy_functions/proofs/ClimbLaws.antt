@@ -7,9 +7,9 @@ use Rattle.interpolate_fixed.specs.Places.{IsAscending}
 use Rattle.std.proofs.lemmas.Bool.Decides.{Decides-int_eq}
 use Rattle.legacy_functions.specs.declared.function.NumberStop.{NumberStop}
 use Rattle.legacy_functions.specs.declared.function.ZoomRule.{ZoomRule}
-use Rattle.legacy_functions.specs.Function.{Spelled, flag, number, word, Output, Way, Rule}
+use Rattle.legacy_functions.specs.Function.{Spelled, flag, number, word, Output, Way, PropertyRule}
 use Rattle.legacy_functions.specs.Form.{Stop, is_not_below, never_descend, number_stops, equals_before, without_repeated, zooms_never_descend, with_group, by_zoom, and_first, rules_form, rule_form}
-use Rattle.legacy_functions.specs.GroupView.{Zoomed, Group}
+use Rattle.legacy_functions.specs.GroupView.{Zoomed, StopGroup}
 use Rattle.legacy_functions.specs.Meaning.{stop_inputs, rule_zooms}
 use Rattle.legacy_functions.specs.Parts.{stop_seen}
 use Rattle.legacy_functions.specs.Stops.{inputs_in}
@@ -76,15 +76,15 @@ stops_climb before ((word s, o) ∷ ss) h = stops_climb before ss h
 
 -- ---- zooms that never descend
 
-abbrev pub group_zooms : List Group → List ℤ
-group_zooms gs = map (λ (g : Group). g.0.value) gs
+abbrev pub group_zooms : List StopGroup → List ℤ
+group_zooms gs = map (λ (g : StopGroup). g.0.value) gs
 
 -- the first is not below the number before, and each later one is above the one before it
 abbrev pub Rises : Option ℤ → List ℤ → Type 0
 Rises before [] = Unit {0}
 Rises before (z ∷ zs) = (is_not_below before z ≡ true) × Climbs (Some z) zs
 
-with_group_rises : (before : Option ℤ) (s : Zoomed) (gs : List Group) → is_not_below before s.0.value ≡ true → Rises (Some s.0.value) (group_zooms gs) → Rises before (group_zooms (with_group s gs))
+with_group_rises : (before : Option ℤ) (s : Zoomed) (gs : List StopGroup) → is_not_below before s.0.value ≡ true → Rises (Some s.0.value) (group_zooms gs) → Rises before (group_zooms (with_group s gs))
 with_group_rises before s [] h c = (h, tt)
 with_group_rises before s (g ∷ gs) h c = group_if (int_eq s.0.value g.0.value) refl
   where
@@ -103,17 +103,17 @@ rise_ascends [] c = ascends None [] tt
 rise_ascends (z ∷ zs) c = ascends None (z ∷ zs) (tt, c.1)
 
 -- rules keep the zooms of their groups
-abbrev pub ZoomsAre : Option (List (Spelled × Rule)) → List ℤ → Type 0
+abbrev pub ZoomsAre : Option (List (Spelled × PropertyRule)) → List ℤ → Type 0
 ZoomsAre (Some rs) zs = rule_zooms rs ≡ zs
 ZoomsAre None zs = Unit {0}
 
-first_zooms : (zoom : Spelled) (rule : Option Rule) (later : Option (List (Spelled × Rule))) (zs : List ℤ) → ZoomsAre later zs
+first_zooms : (zoom : Spelled) (rule : Option PropertyRule) (later : Option (List (Spelled × PropertyRule))) (zs : List ℤ) → ZoomsAre later zs
     → ZoomsAre (and_first (option_map (λ r. (zoom, r)) rule) later) (zoom.value ∷ zs)
 first_zooms zoom (Some rule) (Some rs) zs h = ap (λ ys. zoom.value ∷ ys) h
 first_zooms zoom (Some rule) None zs h = tt
 first_zooms zoom None later zs h = tt
 
-pub rules_zooms : (way : Option Way) (gs : List Group) → ZoomsAre (rules_form way gs) (group_zooms gs)
+pub rules_zooms : (way : Option Way) (gs : List StopGroup) → ZoomsAre (rules_form way gs) (group_zooms gs)
 rules_zooms way [] = refl
 rules_zooms way (g ∷ gs) = first_zooms g.0 (rule_form way g.1) (rules_form way gs) (group_zooms gs) (rules_zooms way gs)
 

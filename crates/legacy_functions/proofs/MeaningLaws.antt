@@ -11,7 +11,7 @@ use Rattle.prop_values.specs.declared.value.Value.{Value}
 use Rattle.property_tables.specs.Fitting.{fit}
 use Rattle.property_tables.specs.Rows.{RowData}
 use Rattle.operator_values.specs.Arithmetic.{then_number}
-use Rattle.operator_values.specs.Evaluated.{Evaluated, Gives, then_value, or_fault}
+use Rattle.operator_values.specs.Evaluated.{Evaluated, GivesValue, then_value, or_fault}
 use Rattle.operator_values.specs.Ramps.{between_of}
 use Rattle.halts.specs.declared.halt.Halt.{Halt}
 use Rattle.halts.specs.declared.halt.Halt.TheVariants.{Fault, NoMemory}
@@ -28,16 +28,16 @@ use Rattle.legacy_functions.specs.Zooms.{zooms_seen}
 -- ---- `?`
 
 -- what `?` hands on
-pub passed_on : (r : Result Value (Halt EvalFault)) (h : Halt EvalFault) (a : Evaluated) → IsErrAnd r (λ y. y ≡ h) → Gives (Err h) a → Gives r a
+pub passed_on : (r : Result Value (Halt EvalFault)) (h : Halt EvalFault) (a : Evaluated) → IsErrAnd r (λ y. y ≡ h) → GivesValue (Err h) a → GivesValue r a
 passed_on (Ok v) h a k g = absurd k
-passed_on (Err y) h a k g = subst (λ (z : Halt EvalFault). Gives (Err z) a) (sym k) g
+passed_on (Err y) h a k g = subst (λ (z : Halt EvalFault). GivesValue (Err z) a) (sym k) g
 
-pub then_halted : (h : Halt EvalFault) (a : Evaluated) (go : Data → Evaluated) → Gives (Err h) a → Gives (Err h) (then_value a go)
+pub then_halted : (h : Halt EvalFault) (a : Evaluated) (go : Data → Evaluated) → GivesValue (Err h) a → GivesValue (Err h) (then_value a go)
 then_halted (Fault f) a go g = ap (λ x. then_value x go) g
 then_halted NoMemory a go g = tt
 
-pub then_given : (r : Result Value (Halt EvalFault)) (a : Evaluated) (d : Data) (go : Data → Evaluated) → a ≡ Ok d → Gives r (go d) → Gives r (then_value a go)
-then_given r a d go e g = subst (Gives r) (sym (ap (λ x. then_value x go) e)) g
+pub then_given : (r : Result Value (Halt EvalFault)) (a : Evaluated) (d : Data) (go : Data → Evaluated) → a ≡ Ok d → GivesValue r (go d) → GivesValue r (then_value a go)
+then_given r a d go e g = subst (GivesValue r) (sym (ap (λ x. then_value x go) e)) g
 
 -- ---- a moved input
 
@@ -49,22 +49,22 @@ number_halted (Err a) fault go e = ap (λ x. faulted x) (sym e)
     faulted (Ok z) = go z
     faulted (Err f) = Err f
 
-pub number_given : (r : Result Value (Halt EvalFault)) (w : Result ℤ Arith) (z : ℤ) (go : ℤ → Evaluated) → Ok z ≡ or_fault w → Gives r (go z) → Gives r (then_number w go)
-number_given r (Ok y) z go e g = let same : z ≡ y = cc in subst (λ (x : ℤ). Gives r (go x)) same g
+pub number_given : (r : Result Value (Halt EvalFault)) (w : Result ℤ Arith) (z : ℤ) (go : ℤ → Evaluated) → Ok z ≡ or_fault w → GivesValue r (go z) → GivesValue r (then_number w go)
+number_given r (Ok y) z go e g = let same : z ≡ y = cc in subst (λ (x : ℤ). GivesValue r (go x)) same g
 number_given r (Err a) z go e g = absurd (cc)
 
 -- ---- the results at two neighbours
 
-pub lower_halted : (h : Halt EvalFault) (x x0 x1 : ℤ) (a b : Evaluated) → Gives (Err h) a → Gives (Err h) (between_results x x0 x1 a b)
+pub lower_halted : (h : Halt EvalFault) (x x0 x1 : ℤ) (a b : Evaluated) → GivesValue (Err h) a → GivesValue (Err h) (between_results x x0 x1 a b)
 lower_halted (Fault f) x x0 x1 a b g = ap (λ y. between_results x x0 x1 y b) g
 lower_halted NoMemory x x0 x1 a b g = tt
 
-pub upper_halted : (h : Halt EvalFault) (x x0 x1 : ℤ) (a b : Evaluated) (d : Data) → a ≡ Ok d → Gives (Err h) b → Gives (Err h) (between_results x x0 x1 a b)
+pub upper_halted : (h : Halt EvalFault) (x x0 x1 : ℤ) (a b : Evaluated) (d : Data) → a ≡ Ok d → GivesValue (Err h) b → GivesValue (Err h) (between_results x x0 x1 a b)
 upper_halted (Fault f) x x0 x1 a b d e g = ap (λ y. between_results x x0 x1 y b) e ∙ ap (λ y. between_results x x0 x1 (Ok d) y) g
 upper_halted NoMemory x x0 x1 a b d e g = tt
 
-pub between_given : (r : Result Value (Halt EvalFault)) (x x0 x1 : ℤ) (a b : Evaluated) (d e : Data) → a ≡ Ok d → b ≡ Ok e → Gives r (between_of x x0 d x1 e) → Gives r (between_results x x0 x1 a b)
-between_given r x x0 x1 a b d e p q g = subst (Gives r) (sym (ap (λ y. between_results x x0 x1 y b) p ∙ ap (λ y. between_results x x0 x1 (Ok d) y) q)) g
+pub between_given : (r : Result Value (Halt EvalFault)) (x x0 x1 : ℤ) (a b : Evaluated) (d e : Data) → a ≡ Ok d → b ≡ Ok e → GivesValue r (between_of x x0 d x1 e) → GivesValue r (between_results x x0 x1 a b)
+between_given r x x0 x1 a b d e p q g = subst (GivesValue r) (sym (ap (λ y. between_results x x0 x1 y b) p ∙ ap (λ y. between_results x x0 x1 (Ok d) y) q)) g
 
 -- ---- the result at a place
 

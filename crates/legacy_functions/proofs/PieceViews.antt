@@ -3,14 +3,14 @@ use Rattle.std.proofs.Common.{◌≡◌, ℕ, List, [], ◌∷◌, ◌++◌, ref
 use Rattle.std.specs.Prelude.{Bool, map, flat_map, codes}
 use Rattle.decimal_json.specs.Tree.{Tree, text}
 use Rattle.tile_reader.specs.declared.tile.Feature.{Feature}
-use Rattle.legacy_functions.specs.declared.tokens.Piece.{Piece}
-use Rattle.legacy_functions.specs.declared.tokens.Piece.TheVariants.{Plain, Token}
+use Rattle.legacy_functions.specs.declared.tokens.TokenPiece.{TokenPiece}
+use Rattle.legacy_functions.specs.declared.tokens.TokenPiece.TheVariants.{Plain, Token}
 use Rattle.legacy_functions.specs.Tokens.{pieces, property_text, piece_text, token_text, call, property_expression, piece_expression, token_expression}
 
 abbrev pub Part : Type 0
 Part = Bool × List ℕ
 
-abbrev pub part_of : Piece → Part
+abbrev pub part_of : TokenPiece → Part
 part_of (Plain s) = (false, s)
 part_of (Token name) = (true, name)
 
@@ -25,7 +25,7 @@ abbrev pub part_expression : Part → Tree
 part_expression (false, s) = text s
 part_expression (true, name) = property_expression name
 
-texts_by_parts : (feature : Feature) (ps : List Piece)
+texts_by_parts : (feature : Feature) (ps : List TokenPiece)
     → flat_map (piece_text feature) ps ≡ flat_map (part_text feature) (map part_of ps)
 texts_by_parts feature [] = refl
 texts_by_parts feature (Plain s ∷ ps) = ap (λ later. s ++ later) (texts_by_parts feature ps)
@@ -34,7 +34,7 @@ texts_by_parts feature (Token name ∷ ps) = ap (λ later. property_text name fe
 pub text_by_parts : (s : List ℕ) (feature : Feature) → token_text s feature ≡ flat_map (part_text feature) (parts s)
 text_by_parts s feature = texts_by_parts feature (pieces s)
 
-expressions_by_parts : (ps : List Piece) → map piece_expression ps ≡ map part_expression (map part_of ps)
+expressions_by_parts : (ps : List TokenPiece) → map piece_expression ps ≡ map part_expression (map part_of ps)
 expressions_by_parts [] = refl
 expressions_by_parts (Plain s ∷ ps) = ap (λ later. text s ∷ later) (expressions_by_parts ps)
 expressions_by_parts (Token name ∷ ps) = ap (λ later. property_expression name ∷ later) (expressions_by_parts ps)

@@ -6,10 +6,10 @@ use Rattle.decimal_json.specs.Accessors.{text_in}
 use Rattle.decimal_json.specs.Tree as json
 use Rattle.decimal_json.specs.Tree.{Tree, Fields, field_at}
 use Rattle.property_tables.specs.Rows.{RowData}
-use Rattle.legacy_functions.specs.declared.function.Kind.{Kind}
-use Rattle.legacy_functions.specs.declared.function.Kind.TheVariants.{Exponential, Interval, Categorical, Identity}
+use Rattle.legacy_functions.specs.declared.function.FunctionType.{FunctionType}
+use Rattle.legacy_functions.specs.declared.function.FunctionType.TheVariants.{Exponential, Interval, Categorical, Identity}
 use Rattle.legacy_functions.specs.Function.{Spelled, even, curved, Body, identity, Function}
-use Rattle.legacy_functions.specs.Form.{member_form, kind_named, kind_allowed, if_allowed, kind_form, number_form, output_form, stops_form, Members, has_known_members, members_form, base_way, way_by, is_categories, stops_body, kind_body, is_zoomed, is_outside_base, is_outside_way, inside, function_form, form}
+use Rattle.legacy_functions.specs.Form.{member_form, kind_named, kind_allowed, if_allowed, kind_form, number_form, output_form, stops_form, FunctionMembers, has_known_members, members_form, base_way, way_by, is_categories, stops_body, kind_body, is_zoomed, is_outside_base, is_outside_way, inside, function_form, form}
 use Rattle.legacy_functions.proofs.SoundRules.{OfSome, IsSpelled, IsOutputOf, IsWayOf, IsBodyOf, of_then, of_map, of_where, of_any, number_is, output_is, AreSomePlaced, stops_are, body_is}
 
 pub record IsFunctionOf (row : RowData) (f : Function) : Type 0 where
@@ -19,7 +19,7 @@ pub record IsFunctionOf (row : RowData) (f : Function) : Type 0 where
 module _ (row : RowData) where
   -- ---- members
 
-  record AreMembers (ms : Members) : Type 0 where
+  record AreMembers (ms : FunctionMembers) : Type 0 where
     kind : kind_allowed row ms.kind ≡ true
     base : OfSome IsSpelled ms.base
     fallback : OfSome (IsOutputOf row) ms.fallback
@@ -29,7 +29,7 @@ module _ (row : RowData) where
   member_is P form (Some t) h = of_map P (OfSome P) Some (form t) (h t) (λ a k. k)
   member_is P form None h = tt
 
-  if_allowed_is : (o : Option Kind) → OfSome (λ k. kind_allowed row k ≡ true) (if_allowed row o)
+  if_allowed_is : (o : Option FunctionType) → OfSome (λ k. kind_allowed row k ≡ true) (if_allowed row o)
   if_allowed_is (Some kind) = of_where (λ k. kind_allowed row k ≡ true) (kind_allowed row kind) (Some kind) (λ h. h)
   if_allowed_is None = tt
 
@@ -75,14 +75,14 @@ module _ (row : RowData) where
   base_is (Some base) z ramps s h = even_or_curved (int_eq base.value (pos 1000000)) base z ramps s h
   base_is None z ramps s h = ramps
 
-  way_is : (kind : Kind) (base : Option Spelled) (z : Bool) → kind_allowed row kind ≡ true → OfSome IsSpelled base
+  way_is : (kind : FunctionType) (base : Option Spelled) (z : Bool) → kind_allowed row kind ≡ true → OfSome IsSpelled base
       → is_outside_way (way_by kind base) z ≡ false → OfSome (IsWayOf row) (way_by kind base)
   way_is Exponential base z ramps s h = base_is base z ramps s h
   way_is Interval base z ramps s h = tt
   way_is Categorical base z ramps s h = tt
   way_is Identity base z ramps s h = tt
 
-  stops_body_is : (ms : Members) → OfSome (IsWayOf row) (way_by ms.kind ms.base)
+  stops_body_is : (ms : FunctionMembers) → OfSome (IsWayOf row) (way_by ms.kind ms.base)
       → OfSome (IsBodyOf row) (stops_body row ms)
   stops_body_is ms w =
       let any = is_categories ms.kind in
@@ -90,7 +90,7 @@ module _ (row : RowData) where
       of_then (AreSomePlaced row) (IsBodyOf row) (stops_form row any t) _ (stops_are row any t)
       (λ placed h. body_is row (way_by ms.kind ms.base) (is_some ms.property) placed w h))
 
-  kind_body_is : (kind : Kind) (ms : Members) → OfSome (IsWayOf row) (way_by ms.kind ms.base)
+  kind_body_is : (kind : FunctionType) (ms : FunctionMembers) → OfSome (IsWayOf row) (way_by ms.kind ms.base)
       → OfSome (IsBodyOf row) (kind_body kind row ms)
   kind_body_is Exponential ms w = stops_body_is ms w
   kind_body_is Interval ms w = stops_body_is ms w
@@ -110,7 +110,7 @@ module _ (row : RowData) where
   none_outside false true f h = tt
   none_outside false false f h = h refl
 
-  inside_is : (ms : Members) (body : Body) → AreMembers ms → kind_body ms.kind row ms ≡ Some body
+  inside_is : (ms : FunctionMembers) (body : Body) → AreMembers ms → kind_body ms.kind row ms ≡ Some body
       → IsInsideOf (inside ms body)
   inside_is ms body h is =
       let f : Function = record { property = ms.property; fallback = ms.fallback; body = body } in
@@ -121,7 +121,7 @@ module _ (row : RowData) where
         body = subst (OfSome (IsBodyOf row)) is (kind_body_is ms.kind ms w);
       })
 
-  mapped_is : (ms : Members) (found : Option Body) → AreMembers ms → kind_body ms.kind row ms ≡ found
+  mapped_is : (ms : FunctionMembers) (found : Option Body) → AreMembers ms → kind_body ms.kind row ms ≡ found
       → OfSome IsInsideOf (option_map (inside ms) found)
   mapped_is ms (Some body) h is = inside_is ms body h is
   mapped_is ms None h is = tt

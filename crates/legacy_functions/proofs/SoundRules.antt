@@ -10,9 +10,9 @@ use Rattle.decimal_json.specs.Tree.{Tree, Trees, no_trees, tree, field_at}
 use Rattle.prop_values.specs.Data.{Data}
 use Rattle.property_tables.specs.Literals.{literal_of}
 use Rattle.property_tables.specs.Rows.{RowData}
-use Rattle.legacy_functions.specs.Function.{Spelled, Input, flag, number, word, Output, literal, tokens, Way, even, curved, stepped, Rule, numeric, categorical, Body, plain, zoomed, identity}
+use Rattle.legacy_functions.specs.Function.{Spelled, Input, flag, number, word, Output, literal, tokens, Way, even, curved, stepped, PropertyRule, numeric, categorical, Body, plain, zoomed, identity}
 use Rattle.legacy_functions.specs.Form.{where_true, and_first, spelled_number, number_form, literal_form, text_output, output_form, input_form, PlacedInput, has_two_fields, zoomed_input, placed_input, PlacedStop, stop_form, each_stop, stops_form, Stop, plain_stop, plain_stops, zoomed_stop, zoomed_stops, never_descend, all_differ, number_stops, equals_before, without_repeated, some_of, rule_form, zooms_never_descend, with_group, by_zoom, group_form, rules_form, zoomed_body, zoomed_form, plain_form, begins_with_zoom, body_of}
-use Rattle.legacy_functions.specs.GroupView.{Zoomed, Group}
+use Rattle.legacy_functions.specs.GroupView.{Zoomed, StopGroup}
 use Rattle.legacy_functions.specs.Meaning.{stop_inputs, rule_zooms}
 use Rattle.legacy_functions.specs.Tokens.{has_tokens}
 use Rattle.legacy_functions.proofs.ClimbLaws.{Climbs, stops_climb, group_zooms, Rises, zooms_rise, ZoomsAre, rules_zooms}
@@ -62,12 +62,12 @@ abbrev pub AreNumberStops : RowData → List (Spelled × Output) → Type 0
 AreNumberStops row [] = Unit {0}
 AreNumberStops row (s ∷ ss) = (IsSpelled s.0 × IsOutputOf row s.1) × AreNumberStops row ss
 
-abbrev pub IsRuleOf : RowData → Rule → Type 0
+abbrev pub IsRuleOf : RowData → PropertyRule → Type 0
 IsRuleOf row (numeric way stops) =
     IsWayOf row way × (AreNumberStops row stops × (HasSome stops × Climbs None (stop_inputs stops)))
 IsRuleOf row (categorical stops) = AreStops row stops × HasSome stops
 
-abbrev pub AreRulesOf : RowData → List (Spelled × Rule) → Type 0
+abbrev pub AreRulesOf : RowData → List (Spelled × PropertyRule) → Type 0
 AreRulesOf row [] = Unit {0}
 AreRulesOf row (r ∷ rs) = (IsSpelled r.0 × IsRuleOf row r.1) × AreRulesOf row rs
 
@@ -259,16 +259,16 @@ module _ (row : RowData) where
 
   -- ---- groups of one zoom each
 
-  abbrev AreGroups : List Group → Type 0
+  abbrev AreGroups : List StopGroup → Type 0
   AreGroups [] = Unit {0}
   AreGroups (g ∷ gs) = (IsSpelled g.0 × (AreStops row g.1 × HasSome g.1)) × AreGroups gs
 
-  grouped_if : (b : Bool) (s : Zoomed) (g : Group) (gs : List Group) → IsZoomedStop s → AreGroups (g ∷ gs)
+  grouped_if : (b : Bool) (s : Zoomed) (g : StopGroup) (gs : List StopGroup) → IsZoomedStop s → AreGroups (g ∷ gs)
       → AreGroups (if b then (s.0, s.1 ∷ g.1) ∷ gs else (s.0, s.1 ∷ []) ∷ g ∷ gs)
   grouped_if true s g gs h k = ((h.0, ((h.1, k.0.1.0), tt)), k.1)
   grouped_if false s g gs h k = ((h.0, ((h.1, tt), tt)), k)
 
-  with_group_is : (s : Zoomed) (gs : List Group) → IsZoomedStop s → AreGroups gs → AreGroups (with_group s gs)
+  with_group_is : (s : Zoomed) (gs : List StopGroup) → IsZoomedStop s → AreGroups gs → AreGroups (with_group s gs)
   with_group_is s [] h k = ((h.0, ((h.1, tt), tt)), tt)
   with_group_is s (g ∷ gs) h k = grouped_if (int_eq s.0.value g.0.value) s g gs h k
 
@@ -310,10 +310,10 @@ module _ (row : RowData) where
   rule_is None ss w h some =
       of_where (IsRuleOf row) (never_descend None ss && all_differ (λ i. false) ss) (Some (categorical ss)) (λ p. (h, some))
 
-  abbrev IsZoomRule : Spelled × Rule → Type 0
+  abbrev IsZoomRule : Spelled × PropertyRule → Type 0
   IsZoomRule r = IsSpelled r.0 × IsRuleOf row r.1
 
-  rules_are : (way : Option Way) (gs : List Group) → OfSome (IsWayOf row) way → AreGroups gs
+  rules_are : (way : Option Way) (gs : List StopGroup) → OfSome (IsWayOf row) way → AreGroups gs
       → OfSome (AreRulesOf row) (rules_form way gs)
   rules_are way [] w h = tt
   rules_are way (g ∷ gs) w h =
@@ -327,7 +327,7 @@ module _ (row : RowData) where
   climbs_from [] h = tt
   climbs_from (z ∷ zs) h = (tt, h.1)
 
-  zoomed_is : (found : Option (List (Spelled × Rule))) (zs : List ℤ) → OfSome (AreRulesOf row) found → ZoomsAre found zs
+  zoomed_is : (found : Option (List (Spelled × PropertyRule))) (zs : List ℤ) → OfSome (AreRulesOf row) found → ZoomsAre found zs
       → Climbs None zs → OfSome (IsBodyOf row) (zoomed_body found)
   zoomed_is (Some []) zs h same climbs = tt
   zoomed_is (Some (r ∷ rs)) zs h same climbs = (h, (tt, subst (λ ys. Climbs None ys) (sym same) climbs))

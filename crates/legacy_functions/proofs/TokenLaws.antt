@@ -5,12 +5,12 @@ use Rattle.std.proofs.Math.Dec.{eqb-suc-zero}
 use Rattle.std.specs.Prelude.{flat_map, Bool, ◌||◌, nat_eq, if◌then◌else◌, Option, Some, None, is_some}
 use Rattle.std.specs.List.{list_any}
 use Rattle.tile_reader.specs.declared.tile.Feature.{Feature}
-use Rattle.legacy_functions.specs.declared.tokens.Piece.{Piece}
-use Rattle.legacy_functions.specs.declared.tokens.Piece.TheVariants.{Plain, Token}
+use Rattle.legacy_functions.specs.declared.tokens.TokenPiece.{TokenPiece}
+use Rattle.legacy_functions.specs.declared.tokens.TokenPiece.TheVariants.{Plain, Token}
 use Rattle.legacy_functions.specs.Tokens.{piece_text, token_text, is_brace, before_brace, closes, closed_name, token_name, token_at, with_byte, with_piece, rest_of_token, pieces_behind, pieces, is_token, has_tokens}
 use Rattle.legacy_functions.specs.TokenSize.{size_of, token_size, plain_size, begins_token, any_token}
 
-any_with_byte : (b : ℕ) (ps : List Piece) → list_any is_token (with_byte b ps) ≡ list_any is_token ps
+any_with_byte : (b : ℕ) (ps : List TokenPiece) → list_any is_token (with_byte b ps) ≡ list_any is_token ps
 any_with_byte b [] = refl
 any_with_byte b (Plain s ∷ ps) = refl
 any_with_byte b (Token name ∷ ps) = refl
@@ -215,11 +215,11 @@ pub plain_from : (bs : List ℕ) (i : ℕ) → i < length bs → plain_size (dro
 plain_from bs i h = plain_after bs i h ∙ ap (λ n. if begins_token (drop i bs) then 0 else plain_size (drop n bs) + 1) (sym (add-one i))
 
 -- a piece that was added, before the pieces of what follows
-pub piece_added : (old new : List Piece) (p : Piece) (rest later : List ℕ) → new ≡ old ++ p ∷ [] → pieces rest ≡ p ∷ pieces later → new ++ pieces later ≡ old ++ pieces rest
+pub piece_added : (old new : List TokenPiece) (p : TokenPiece) (rest later : List ℕ) → new ≡ old ++ p ∷ [] → pieces rest ≡ p ∷ pieces later → new ++ pieces later ≡ old ++ pieces rest
 piece_added old new p rest later e f = ap (λ ps. ps ++ pieces later) e ∙ (append_assoc old (p ∷ []) (pieces later) ∙ ap (λ ps. old ++ ps) (sym f))
 
 -- the text of a piece that was added, before that of what follows
-pub text_added : (old new : List ℕ) (p : Piece) (rest later : List ℕ) (feature : Feature) → new ≡ old ++ piece_text feature p → pieces rest ≡ p ∷ pieces later → new ++ token_text later feature ≡ old ++ token_text rest feature
+pub text_added : (old new : List ℕ) (p : TokenPiece) (rest later : List ℕ) (feature : Feature) → new ≡ old ++ piece_text feature p → pieces rest ≡ p ∷ pieces later → new ++ token_text later feature ≡ old ++ token_text rest feature
 text_added old new p rest later feature e f =
     ap (λ (bs : List ℕ). bs ++ token_text later feature) e
-    ∙ (append_assoc old (piece_text feature p) (token_text later feature) ∙ ap (λ (ps : List Piece). old ++ flat_map (piece_text feature) ps) (sym f))
+    ∙ (append_assoc old (piece_text feature p) (token_text later feature) ∙ ap (λ (ps : List TokenPiece). old ++ flat_map (piece_text feature) ps) (sym f))

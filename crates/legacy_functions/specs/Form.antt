@@ -12,10 +12,10 @@ use Rattle.prop_values.specs.Data.{Data}
 use Rattle.prop_values.specs.Equality.{same_flag, same_text}
 use Rattle.property_tables.specs.Literals.{literal_of}
 use Rattle.property_tables.specs.Rows.{RowData}
-use Rattle.legacy_functions.specs.Function.{Spelled, Input, flag, number, word, Output, literal, tokens, Way, even, curved, stepped, Rule, numeric, categorical, Body, plain, zoomed, identity, Function}
+use Rattle.legacy_functions.specs.Function.{Spelled, Input, flag, number, word, Output, literal, tokens, Way, even, curved, stepped, PropertyRule, numeric, categorical, Body, plain, zoomed, identity, Function}
 use Rattle.legacy_functions.specs.Tokens.{has_tokens}
-use Rattle.legacy_functions.specs.declared.function.Kind.{Kind}
-use Rattle.legacy_functions.specs.declared.function.Kind.TheVariants.{Exponential, Interval, Categorical, Identity}
+use Rattle.legacy_functions.specs.declared.function.FunctionType.{FunctionType}
+use Rattle.legacy_functions.specs.declared.function.FunctionType.TheVariants.{Exponential, Interval, Categorical, Identity}
 
 -- nothing unless a test holds
 abbrev pub where_true : {A : Type 0} → Bool → Option A → Option A
@@ -49,7 +49,7 @@ member_form form None = Some None
 
 -- ---- the four types
 
-abbrev pub kind_named : List ℕ → Option Kind
+abbrev pub kind_named : List ℕ → Option FunctionType
 kind_named name =
     if bytes_eq name (codes "exponential") then Some Exponential else
     if bytes_eq name (codes "interval") then Some Interval else
@@ -58,18 +58,18 @@ kind_named name =
     None
 
 -- exponential needs a row that ramps
-abbrev pub kind_allowed : RowData → Kind → Bool
+abbrev pub kind_allowed : RowData → FunctionType → Bool
 kind_allowed row Exponential = row.reads.ramps
 kind_allowed row Interval = true
 kind_allowed row Categorical = true
 kind_allowed row Identity = true
 
-abbrev pub if_allowed : RowData → Option Kind → Option Kind
+abbrev pub if_allowed : RowData → Option FunctionType → Option FunctionType
 if_allowed row (Some kind) = where_true (kind_allowed row kind) (Some kind)
 if_allowed row None = None
 
 -- without `type` it is exponential where the row ramps, else interval
-abbrev pub kind_form : RowData → Option Tree → Option Kind
+abbrev pub kind_form : RowData → Option Tree → Option FunctionType
 kind_form row (Some (json.text name)) = if_allowed row (kind_named name)
 kind_form row (Some _) = None
 kind_form row None = Some (if row.reads.ramps then Exponential else Interval)
@@ -207,7 +207,7 @@ some_of [] = None
 some_of (x ∷ xs) = Some (x ∷ xs)
 
 -- a rule over numbers, or of categories where no way is given
-abbrev pub rule_form : Option Way → List Stop → Option Rule
+abbrev pub rule_form : Option Way → List Stop → Option PropertyRule
 rule_form (Some way) ss =
     where_true (never_descend None ss) (option_map (numeric way) (some_of (without_repeated None (number_stops ss))))
 rule_form None ss = where_true (never_descend None ss && all_differ (λ i. false) ss) (Some (categorical ss))
@@ -227,13 +227,13 @@ abbrev pub by_zoom : List (Spelled × Stop) → List (Spelled × List Stop)
 by_zoom [] = []
 by_zoom (s ∷ ss) = with_group s (by_zoom ss)
 
-abbrev pub group_form : Option Way → Spelled × List Stop → Option (Spelled × Rule)
+abbrev pub group_form : Option Way → Spelled × List Stop → Option (Spelled × PropertyRule)
 group_form way g = option_map (λ rule. (g.0, rule)) (rule_form way g.1)
 
-abbrev pub rules_form : Option Way → List (Spelled × List Stop) → Option (List (Spelled × Rule))
+abbrev pub rules_form : Option Way → List (Spelled × List Stop) → Option (List (Spelled × PropertyRule))
 rules_form way gs = each_of (group_form way) gs
 
-abbrev pub zoomed_body : Option (List (Spelled × Rule)) → Option Body
+abbrev pub zoomed_body : Option (List (Spelled × PropertyRule)) → Option Body
 zoomed_body found = option_map zoomed (option_and_then some_of found)
 
 abbrev pub zoomed_form : Option Way → List (Spelled × Stop) → Option Body
@@ -253,8 +253,8 @@ body_of way has_property ss =
 
 -- ---- the members together
 
-pub record Members : Type 0 where
-  pub kind : Kind
+pub record FunctionMembers : Type 0 where
+  pub kind : FunctionType
   pub base : Option Spelled
   pub property : Option (List ℕ)
   pub fallback : Option Output
@@ -265,7 +265,7 @@ infixl 10 ◌>>=◌
 abbrev ◌>>=◌ : {A B : Type 0} → Option A → (A → Option B) → Option B
 found >>= go = option_and_then go found
 
-abbrev pub members_form : RowData → Fields → Option Members
+abbrev pub members_form : RowData → Fields → Option FunctionMembers
 members_form row fs = where_true (has_known_members fs) (do
   kind ← kind_form row (field_at (codes "type") fs)
   base ← member_form number_form (field_at (codes "base") fs)
@@ -286,23 +286,23 @@ base_way None = even
 base_way (Some base) = if int_eq base.value (pos 1000000) then even else curved base
 
 -- no way: categories, or the property itself
-abbrev pub way_by : Kind → Option Spelled → Option Way
+abbrev pub way_by : FunctionType → Option Spelled → Option Way
 way_by Exponential base = Some (base_way base)
 way_by Interval base = Some stepped
 way_by Categorical base = None
 way_by Identity base = None
 
-abbrev pub is_categories : Kind → Bool
+abbrev pub is_categories : FunctionType → Bool
 is_categories Categorical = true
 is_categories _ = false
 
-abbrev pub stops_body : RowData → Members → Option Body
+abbrev pub stops_body : RowData → FunctionMembers → Option Body
 stops_body row ms = do
   stops ← ms.stops
   placed ← stops_form row (is_categories ms.kind) stops
   body_of (way_by ms.kind ms.base) (is_some ms.property) placed
 
-abbrev pub kind_body : Kind → RowData → Members → Option Body
+abbrev pub kind_body : FunctionType → RowData → FunctionMembers → Option Body
 kind_body Exponential row ms = stops_body row ms
 kind_body Interval row ms = stops_body row ms
 kind_body Categorical row ms = where_true (is_some ms.property) (stops_body row ms)
@@ -325,7 +325,7 @@ is_outside_way (Some way) over_zooms = is_outside_base way over_zooms
 is_outside_way None over_zooms = false
 
 -- a function, or none where it is outside
-abbrev pub inside : Members → Body → Option Function
+abbrev pub inside : FunctionMembers → Body → Option Function
 inside ms body =
     if ms.has_space || is_outside_way (way_by ms.kind ms.base) (is_zoomed body) then None
     else Some (record { property = ms.property; fallback = ms.fallback; body = body })

@@ -27,14 +27,14 @@ pub data Way : Type 0 where
   stepped : Way
 
 -- stops over a number, at least one, each input below the next; or categories, of which no two are equal
-pub data Rule : Type 0 where
-  numeric : Way → List (Spelled × Output) → Rule
-  categorical : List (Input × Output) → Rule
+pub data PropertyRule : Type 0 where
+  numeric : Way → List (Spelled × Output) → PropertyRule
+  categorical : List (Input × Output) → PropertyRule
 
 -- one rule; a rule for each of some zooms, at least one, each below the next; or the property itself
 pub data Body : Type 0 where
-  plain : Rule → Body
-  zoomed : List (Spelled × Rule) → Body
+  plain : PropertyRule → Body
+  zoomed : List (Spelled × PropertyRule) → Body
   identity : Body
 
 pub record Function : Type 0 where

@@ -6,9 +6,9 @@ use Rattle.operator_values.specs.Evaluated.{Evaluated}
 use Rattle.tile_reader.specs.declared.tile.Feature.{Feature}
 use Rattle.legacy_functions.specs.declared.function.Function.{Function as FunctionValue}
 use Rattle.legacy_functions.specs.declared.function.NumberStop.{NumberStop}
-use Rattle.legacy_functions.specs.declared.function.Rule.{Rule as RuleValue}
+use Rattle.legacy_functions.specs.declared.function.PropertyRule.{PropertyRule as RuleValue}
 use Rattle.legacy_functions.specs.declared.function.ZoomRule.{ZoomRule}
-use Rattle.legacy_functions.specs.Function.{Spelled, Rule}
+use Rattle.legacy_functions.specs.Function.{Spelled, PropertyRule}
 use Rattle.legacy_functions.specs.Meaning.{default_data, stop_results, rule_results, property_at}
 use Rattle.legacy_functions.specs.ToExpression.{default_by, named_property, Branches, stop_branches}
 use Rattle.legacy_functions.specs.Parts.{stop_seen}
@@ -18,10 +18,10 @@ use Rattle.legacy_functions.specs.View.{function_of, row_of, way_seen, rule_seen
 abbrev pub default_on : FunctionValue → Feature → Data
 default_on f feature = default_data (row_of f) (function_of f) feature
 
-abbrev pub rule_in : FunctionValue → RuleValue → Rule
+abbrev pub rule_in : FunctionValue → RuleValue → PropertyRule
 rule_in f rule = rule_seen (way_seen f.way) rule
 
-abbrev pub rules_in : FunctionValue → List ZoomRule → List (Spelled × Rule)
+abbrev pub rules_in : FunctionValue → List ZoomRule → List (Spelled × PropertyRule)
 rules_in f rules = map (zoom_rule_seen (way_seen f.way)) rules
 
 -- what the outputs of stops are on a feature

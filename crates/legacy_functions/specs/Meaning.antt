@@ -21,7 +21,7 @@ use Rattle.tile_reader.specs.declared.tile.Feature.{Feature}
 use Rattle.operator_values.specs.Arithmetic.{then_number}
 use Rattle.operator_values.specs.Evaluated.{Evaluated, then_value}
 use Rattle.operator_values.specs.Ramps.{between_of}
-use Rattle.legacy_functions.specs.Function.{Spelled, Input, flag, number, word, Output, literal, tokens, Way, even, curved, stepped, Rule, numeric, categorical, Body, plain, zoomed, identity, Function}
+use Rattle.legacy_functions.specs.Function.{Spelled, Input, flag, number, word, Output, literal, tokens, Way, even, curved, stepped, PropertyRule, numeric, categorical, Body, plain, zoomed, identity, Function}
 use Rattle.legacy_functions.specs.Tokens.{token_text}
 
 -- ---- outputs, and the output where there is no stop
@@ -98,7 +98,7 @@ numeric_at row way stops default feature (Some _) = Ok default
 numeric_at row way stops default feature None = Ok default
 
 -- the result of a rule by a property, fitted to the row
-abbrev pub rule_result : RowData → Data → Feature → Option Data → Rule → Evaluated
+abbrev pub rule_result : RowData → Data → Feature → Option Data → PropertyRule → Evaluated
 rule_result row default feature found (numeric way stops) = then_value (numeric_at row way stops default feature found) (fit row.want)
 rule_result row default feature found (categorical stops) = fit row.want (category_data default feature (unwrap_or found null) stops)
 
@@ -139,11 +139,11 @@ property_at (Some name) feature = at_key name (pairs_of feature.properties)
 property_at None feature = None
 
 -- one rule goes by the property, or by the zoom where there is none
-abbrev pub zoom_rule : RowData → Data → ℤ → Feature → Rule → Evaluated
+abbrev pub zoom_rule : RowData → Data → ℤ → Feature → PropertyRule → Evaluated
 zoom_rule row default zoom feature (numeric way stops) = numeric_result row way stops feature zoom
 zoom_rule row default zoom feature (categorical stops) = Ok default
 
-abbrev pub plain_by : Option (List ℕ) → RowData → Data → ℤ → Feature → Rule → Evaluated
+abbrev pub plain_by : Option (List ℕ) → RowData → Data → ℤ → Feature → PropertyRule → Evaluated
 plain_by (Some name) row default zoom feature rule = rule_result row default feature (at_key name (pairs_of feature.properties)) rule
 plain_by None row default zoom feature rule = zoom_rule row default zoom feature rule
 
@@ -151,11 +151,11 @@ plain_by None row default zoom feature rule = zoom_rule row default zoom feature
 abbrev pub zoom_way : RowData → Way
 zoom_way row = if row.reads.ramps then even else stepped
 
-abbrev pub rule_zooms : List (Spelled × Rule) → List ℤ
-rule_zooms rules = map (λ (r : Spelled × Rule). r.0.value) rules
+abbrev pub rule_zooms : List (Spelled × PropertyRule) → List ℤ
+rule_zooms rules = map (λ (r : Spelled × PropertyRule). r.0.value) rules
 
-abbrev pub rule_results : RowData → Data → Feature → Option Data → List (Spelled × Rule) → List Evaluated
-rule_results row default feature found rules = map (λ (r : Spelled × Rule). rule_result row default feature found r.1) rules
+abbrev pub rule_results : RowData → Data → Feature → Option Data → List (Spelled × PropertyRule) → List Evaluated
+rule_results row default feature found rules = map (λ (r : Spelled × PropertyRule). rule_result row default feature found r.1) rules
 
 abbrev pub body_result : RowData → Data → Function → ℤ → Feature → Body → Evaluated
 body_result row default f zoom feature (plain rule) = plain_by f.property row default zoom feature rule

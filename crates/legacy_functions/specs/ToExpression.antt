@@ -6,7 +6,7 @@ use Rattle.decimal_json.specs.Tree.{Tree, trees_of}
 use Rattle.prop_values.specs.declared.kinds.Want.{Want}
 use Rattle.prop_values.specs.declared.kinds.Want.TheVariants as wants
 use Rattle.property_tables.specs.Rows.{RowData, Default, absent, flag as flag_default, amount, word as word_default, zeros, fonts}
-use Rattle.legacy_functions.specs.Function.{Spelled, Input, flag, number, word, Output, literal, tokens, Way, even, curved, stepped, Rule, numeric, categorical, Body, plain, zoomed, identity, Function}
+use Rattle.legacy_functions.specs.Function.{Spelled, Input, flag, number, word, Output, literal, tokens, Way, even, curved, stepped, PropertyRule, numeric, categorical, Body, plain, zoomed, identity, Function}
 use Rattle.legacy_functions.specs.Meaning.{zoom_way}
 use Rattle.legacy_functions.specs.Tokens.{call, property_expression, token_expression}
 
@@ -75,7 +75,7 @@ abbrev pub category_elements : Tree → List (Input × Output) → List Tree
 category_elements property stops = flat_map (λ (s : Input × Output). call (codes "==") (property ∷ input_tree s.0 ∷ []) ∷ output_expression s.1 ∷ []) stops
 
 -- a rule by a property
-abbrev pub rule_expression : Tree → Tree → Rule → Tree
+abbrev pub rule_expression : Tree → Tree → PropertyRule → Tree
 rule_expression property default (numeric way stops) = kind_case (codes "number") property (way_expression way property (stop_branches stops)) default
 rule_expression property default (categorical stops) = call (codes "case") (category_elements property stops ++ default ∷ [])
 
@@ -83,11 +83,11 @@ abbrev pub zoom_expression : Tree
 zoom_expression = call (codes "zoom") []
 
 -- a rule by the zoom
-abbrev pub zoom_rule_expression : Tree → Rule → Tree
+abbrev pub zoom_rule_expression : Tree → PropertyRule → Tree
 zoom_rule_expression default (numeric way stops) = way_expression way zoom_expression (stop_branches stops)
 zoom_rule_expression default (categorical stops) = default
 
-abbrev pub rule_branches : Tree → Tree → List (Spelled × Rule) → Branches
+abbrev pub rule_branches : Tree → Tree → List (Spelled × PropertyRule) → Branches
 rule_branches property default [] = []
 rule_branches property default (r ∷ rs) = (r.0, rule_expression property default r.1) ∷ rule_branches property default rs
 
@@ -107,7 +107,7 @@ abbrev pub named_property : Option (List ℕ) → Tree
 named_property (Some name) = property_expression name
 named_property None = json.null
 
-abbrev pub plain_expression : Option (List ℕ) → Tree → Rule → Tree
+abbrev pub plain_expression : Option (List ℕ) → Tree → PropertyRule → Tree
 plain_expression (Some name) default rule = rule_expression (property_expression name) default rule
 plain_expression None default rule = zoom_rule_expression default rule
 

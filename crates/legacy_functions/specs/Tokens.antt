@@ -6,8 +6,8 @@ use Rattle.prop_values.specs.Data.{pairs_of}
 use Rattle.prop_values.specs.Equality.{at_key}
 use Rattle.prop_values.specs.ValueText.{shown_text}
 use Rattle.tile_reader.specs.declared.tile.Feature.{Feature}
-use Rattle.legacy_functions.specs.declared.tokens.Piece.{Piece}
-use Rattle.legacy_functions.specs.declared.tokens.Piece.TheVariants.{Plain, Token}
+use Rattle.legacy_functions.specs.declared.tokens.TokenPiece.{TokenPiece}
+use Rattle.legacy_functions.specs.declared.tokens.TokenPiece.TheVariants.{Plain, Token}
 
 -- '{' is 123 and '}' is 125
 abbrev pub is_brace : ℕ → Bool
@@ -36,13 +36,13 @@ abbrev pub token_at : ℕ → List ℕ → Option (List ℕ)
 token_at b bs = if nat_eq b 123 then token_name bs else None
 
 -- a byte of no token, before the pieces after it
-abbrev pub with_byte : ℕ → List Piece → List Piece
+abbrev pub with_byte : ℕ → List TokenPiece → List TokenPiece
 with_byte b (Plain s ∷ ps) = Plain (b ∷ s) ∷ ps
 with_byte b (Token name ∷ ps) = Plain (b ∷ []) ∷ Token name ∷ ps
 with_byte b [] = Plain (b ∷ []) ∷ []
 
 -- a token, or a byte, before the pieces after it
-abbrev pub with_piece : ℕ → Option (List ℕ) → List Piece → List Piece
+abbrev pub with_piece : ℕ → Option (List ℕ) → List TokenPiece → List TokenPiece
 with_piece b (Some name) ps = Token name ∷ ps
 with_piece b None ps = with_byte b ps
 
@@ -52,15 +52,15 @@ rest_of_token (Some name) = length name + 1
 rest_of_token None = 0
 
 -- The pieces of a text from the left, after `passed` bytes of a token that was found.
-abbrev pub pieces_behind : ℕ → List ℕ → List Piece
+abbrev pub pieces_behind : ℕ → List ℕ → List TokenPiece
 pieces_behind k [] = []
 pieces_behind k (b ∷ bs) =
     if nat_eq k 0 then with_piece b (token_at b bs) (pieces_behind (rest_of_token (token_at b bs)) bs) else pieces_behind (k - 1) bs
 
-abbrev pub pieces : List ℕ → List Piece
+abbrev pub pieces : List ℕ → List TokenPiece
 pieces s = pieces_behind 0 s
 
-abbrev pub is_token : Piece → Bool
+abbrev pub is_token : TokenPiece → Bool
 is_token (Plain s) = false
 is_token (Token name) = true
 
@@ -73,7 +73,7 @@ has_tokens s = list_any is_token (pieces s)
 abbrev pub property_text : List ℕ → Feature → List ℕ
 property_text name feature = unwrap_or (option_map shown_text (at_key name (pairs_of feature.properties))) []
 
-abbrev pub piece_text : Feature → Piece → List ℕ
+abbrev pub piece_text : Feature → TokenPiece → List ℕ
 piece_text feature (Plain s) = s
 piece_text feature (Token name) = property_text name feature
 
@@ -88,7 +88,7 @@ call name elements = list (tree (text name) (trees_of elements))
 abbrev pub property_expression : List ℕ → Tree
 property_expression name = call (codes "get") (text name ∷ [])
 
-abbrev pub piece_expression : Piece → Tree
+abbrev pub piece_expression : TokenPiece → Tree
 piece_expression (Plain s) = text s
 piece_expression (Token name) = property_expression name
 

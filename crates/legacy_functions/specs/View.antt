@@ -8,12 +8,12 @@ use Rattle.legacy_functions.specs.declared.function.Function.{Function as Functi
 use Rattle.legacy_functions.specs.declared.function.FunctionFault.{FunctionFault}
 use Rattle.legacy_functions.specs.declared.function.FunctionReading.{FunctionReading}
 use Rattle.legacy_functions.specs.declared.function.FunctionReading.TheVariants.{Inside, Outside}
-use Rattle.legacy_functions.specs.declared.function.Rule.{Rule as RuleValue}
-use Rattle.legacy_functions.specs.declared.function.Rule.TheVariants as rules
+use Rattle.legacy_functions.specs.declared.function.PropertyRule.{PropertyRule as RuleValue}
+use Rattle.legacy_functions.specs.declared.function.PropertyRule.TheVariants as rules
 use Rattle.legacy_functions.specs.declared.function.Way.{Way as WayValue}
 use Rattle.legacy_functions.specs.declared.function.Way.TheVariants as ways
 use Rattle.legacy_functions.specs.declared.function.ZoomRule.{ZoomRule}
-use Rattle.legacy_functions.specs.Function.{Spelled, Way, even, curved, stepped, Rule, numeric, categorical, Body, plain, zoomed, identity, Function}
+use Rattle.legacy_functions.specs.Function.{Spelled, Way, even, curved, stepped, PropertyRule, numeric, categorical, Body, plain, zoomed, identity, Function}
 use Rattle.legacy_functions.specs.Parts.{spelled_seen, output_seen, stop_seen, category_seen}
 
 abbrev pub way_seen : WayValue → Way
@@ -22,11 +22,11 @@ way_seen (ways.Curved n) = curved (spelled_seen n)
 way_seen ways.Stepped = stepped
 
 -- a rule of a function that goes over numbers in this way
-abbrev pub rule_seen : Way → RuleValue → Rule
+abbrev pub rule_seen : Way → RuleValue → PropertyRule
 rule_seen way (rules.Numeric stops) = numeric way (map stop_seen stops)
 rule_seen way (rules.Categorical stops) = categorical (map category_seen stops)
 
-abbrev pub zoom_rule_seen : Way → ZoomRule → Spelled × Rule
+abbrev pub zoom_rule_seen : Way → ZoomRule → Spelled × PropertyRule
 zoom_rule_seen way r = (spelled_seen r.zoom, rule_seen way r.rule)
 
 abbrev pub body_seen : Way → BodyValue → Body

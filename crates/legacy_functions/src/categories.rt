@@ -6,7 +6,7 @@ ghost use Rattle.std.specs.Ordering.{int_cmp};
 ghost use Rattle.prop_values.specs.View.{data_of};
 ghost use Rattle.legacy_functions.specs.Function.{Input as InputData};
 ghost use Rattle.legacy_functions.specs.Parts.{input_seen, category_seen};
-ghost use Rattle.legacy_functions.specs.CategoryIndex.{text_place, flag_place, place_at, value_place, IsIndexOrNone, Notes, NotesText, NotesNumber};
+ghost use Rattle.legacy_functions.specs.CategoryIndex.{text_place, flag_place, place_at, value_place, IsIndexOrNone, NotesInput, NotesText, NotesNumber};
 
 use crate::function::{Category, Input, Output};
 use fixed_num::Fixed;
@@ -160,7 +160,7 @@ fn note(
     input: &Input,
     place: usize,
 ) -> Result<(), AllocError>
-    ensures { OnOk result (Notes (input_seen input.now) place index.old index.new) }
+    ensures { OnOk result (NotesInput (input_seen input.now) place index.old index.new) }
 {
     match input {
         Input::Flag(true) => {

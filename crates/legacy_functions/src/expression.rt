@@ -16,7 +16,9 @@ ghost use Rattle.legacy_functions.specs.Tokens.{call};
 ghost use Rattle.legacy_functions.specs.View.{function_of, row_of, way_seen};
 
 use crate::categories::Categories;
-use crate::function::{Body, Category, Function, Input, NumberStop, Output, Rule, Way, ZoomRule};
+use crate::function::{
+    Body, Category, Function, Input, NumberStop, Output, PropertyRule, Way, ZoomRule,
+};
 use crate::stops::{NumberStops, ZoomRules};
 use crate::tokens::{property_expression, token_expr};
 use decimal_json::{Items, Json, NumText, Text, copy};
@@ -284,17 +286,25 @@ fn kind_case(
 }
 
 // A rule by the property.
-fn rule_expression(alloc: Global, function: &Function, rule: &Rule) -> Result<Json, AllocError>
+fn rule_expression(
+    alloc: Global,
+    function: &Function,
+    rule: &PropertyRule,
+) -> Result<Json, AllocError>
     ensures { IfOk result (λ made. tree_of made
         ≡ rule_expression (property_tree function.now) (default_tree function.now) (rule_in function.now rule.now)) }
 {
     match rule {
-        Rule::Numeric(stops) => {
+        PropertyRule::Numeric(stops) => {
             let input = property_json(alloc, function)?;
             let expression = way_expression(alloc, &function.way, input, stops)?;
             kind_case(alloc, function, "number", expression)
         }
-        Rule::Categorical(stops) => categories_expression(alloc, function, stops.as_slice()),
+        PropertyRule::Categorical(stops) => categories_expression(
+            alloc,
+            function,
+            stops.as_slice(),
+        ),
     }
 }
 
@@ -342,15 +352,19 @@ fn input_json(input: &Input) -> Result<Json, AllocError>
 }
 
 // A rule by the zoom.
-fn zoom_rule_expression(alloc: Global, function: &Function, rule: &Rule) -> Result<Json, AllocError>
+fn zoom_rule_expression(
+    alloc: Global,
+    function: &Function,
+    rule: &PropertyRule,
+) -> Result<Json, AllocError>
     ensures { IfOk result (λ made. tree_of made ≡ zoom_rule_expression (default_tree function.now) (rule_in function.now rule.now)) }
 {
     match rule {
-        Rule::Numeric(stops) => {
+        PropertyRule::Numeric(stops) => {
             let input = zoom_json(alloc)?;
             way_expression(alloc, &function.way, input, stops)
         }
-        Rule::Categorical(_) => default_expression(alloc, function),
+        PropertyRule::Categorical(_) => default_expression(alloc, function),
     }
 }
 

@@ -13,7 +13,7 @@ use property_tables::Row;
 
 // The four types.
 #[derive(Clone, Copy, Debug, PartialEq, Eq)]
-pub(crate) enum Kind {
+pub(crate) enum FunctionType {
     Exponential,
     Interval,
     Categorical,
@@ -64,7 +64,7 @@ pub(crate) enum Way {
 }
 
 #[derive(Drop)]
-pub(crate) enum Rule {
+pub(crate) enum PropertyRule {
     Numeric(NumberStops),
     Categorical(Categories),
 }
@@ -72,12 +72,12 @@ pub(crate) enum Rule {
 #[derive(Drop)]
 pub(crate) struct ZoomRule {
     pub(crate) zoom: Spelled,
-    pub(crate) rule: Rule,
+    pub(crate) rule: PropertyRule,
 }
 
 #[derive(Drop)]
 pub(crate) enum Body {
-    Plain(Rule),
+    Plain(PropertyRule),
     Zoomed(ZoomRules),
     Identity,
 }

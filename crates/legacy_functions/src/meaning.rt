@@ -8,7 +8,7 @@ ghost use Rattle.interpolate_fixed.specs.Places.{IsAscending, IsBetween, count_n
 ghost use Rattle.interpolate_fixed.specs.declared.place.StopPlace.TheVariants.{Between};
 ghost use Rattle.interpolate_fixed.specs.Warp.{warp_of};
 ghost use Rattle.property_tables.specs.Fitting.{fit};
-ghost use Rattle.operator_values.specs.Evaluated.{Gives, or_fault};
+ghost use Rattle.operator_values.specs.Evaluated.{GivesValue, or_fault};
 ghost use Rattle.legacy_functions.specs.Meaning.{value_of, body_result, property_at, output_data, chosen_output, category_data, numeric_at, numeric_result, rule_result, zoom_rule, step_result, ramp_result, result_at, way_result, zoom_way, rule_zooms, identity_data, is_of_form};
 ghost use Rattle.legacy_functions.specs.FunctionView.{default_on, rule_in, rules_in, results_in, zoom_results_in};
 ghost use Rattle.legacy_functions.specs.Parts.{stop_seen, category_seen, output_seen};
@@ -17,7 +17,7 @@ ghost use Rattle.legacy_functions.specs.View.{function_of, row_of, way_seen};
 ghost use Rattle.legacy_functions.specs.Zooms.{zooms_seen};
 
 use crate::categories::Categories;
-use crate::function::{Body, Function, Output, Rule, Way};
+use crate::function::{Body, Function, Output, PropertyRule, Way};
 use crate::stops::{Base, NumberStops, ZoomRules};
 use crate::tokens::token_text;
 use fixed_num::Fixed;
@@ -54,14 +54,14 @@ fn fitted_value(
     zoom: Fixed,
     feature: &Feature,
 ) -> Result<Value, Halt<EvalFault>>
-    ensures { Gives result (value_of (row_of function.now) (function_of function.now) zoom feature.now) }
+    ensures { GivesValue result (value_of (row_of function.now) (function_of function.now) zoom feature.now) }
 {
     let value = body_value(alloc, function, zoom, feature)?;
     fit_value(alloc, value, &function.row.want)
 }
 
 fn fit_value(alloc: Global, value: Value, want: &Want) -> Result<Value, Halt<EvalFault>>
-    ensures { Gives result (fit want.now (data_of value)) }
+    ensures { GivesValue result (fit want.now (data_of value)) }
 {
     Ok(fit(alloc, value, want)??)
 }
@@ -72,7 +72,7 @@ fn body_value(
     zoom: Fixed,
     feature: &Feature,
 ) -> Result<Value, Halt<EvalFault>>
-    ensures { Gives result (body_result (row_of function.now) (default_on function.now feature.now)
+    ensures { GivesValue result (body_result (row_of function.now) (default_on function.now feature.now)
         (function_of function.now) zoom feature.now (function_of function.now).body) }
 {
     match &function.body {
@@ -129,19 +129,19 @@ fn output_value(alloc: Global, output: &Output, feature: &Feature) -> Result<Val
 fn rule_value(
     alloc: Global,
     function: &Function,
-    rule: &Rule,
+    rule: &PropertyRule,
     feature: &Feature,
     found: Option<&Value>,
 ) -> Result<Value, Halt<EvalFault>>
-    ensures { Gives result (rule_result (row_of function.now) (default_on function.now feature.now) feature.now
+    ensures { GivesValue result (rule_result (row_of function.now) (default_on function.now feature.now) feature.now
         (option_map (λ v. data_of v.now) found.entry) (rule_in function.now rule.now)) }
 {
     match rule {
-        Rule::Numeric(stops) => {
+        PropertyRule::Numeric(stops) => {
             let value = value_by_number(alloc, function, stops, feature, found)?;
             fit_value(alloc, value, &function.row.want)
         }
-        Rule::Categorical(stops) => {
+        PropertyRule::Categorical(stops) => {
             let value = category_value(alloc, function, stops, feature, found)?;
             fit_value(alloc, value, &function.row.want)
         }
@@ -152,16 +152,16 @@ fn rule_value(
 fn zoom_rule_value(
     alloc: Global,
     function: &Function,
-    rule: &Rule,
+    rule: &PropertyRule,
     zoom: Fixed,
     feature: &Feature,
 ) -> Result<Value, Halt<EvalFault>>
-    ensures { Gives result (zoom_rule (row_of function.now) (default_on function.now feature.now) zoom feature.now
+    ensures { GivesValue result (zoom_rule (row_of function.now) (default_on function.now feature.now) zoom feature.now
         (rule_in function.now rule.now)) }
 {
     match rule {
-        Rule::Numeric(stops) => numeric_value(alloc, function, stops, zoom, feature),
-        Rule::Categorical(_) => Ok(default_of(alloc, function, feature)?),
+        PropertyRule::Numeric(stops) => numeric_value(alloc, function, stops, zoom, feature),
+        PropertyRule::Categorical(_) => Ok(default_of(alloc, function, feature)?),
     }
 }
 
@@ -173,7 +173,7 @@ fn value_by_number(
     feature: &Feature,
     found: Option<&Value>,
 ) -> Result<Value, Halt<EvalFault>>
-    ensures { Gives result (numeric_at (row_of function.now) (way_seen function.now.way) (map stop_seen stops.now)
+    ensures { GivesValue result (numeric_at (row_of function.now) (way_seen function.now.way) (map stop_seen stops.now)
         (default_on function.now feature.now) feature.now (option_map (λ v. data_of v.now) found.entry)) }
 {
     match found {
@@ -220,7 +220,7 @@ fn numeric_value(
     input: Fixed,
     feature: &Feature,
 ) -> Result<Value, Halt<EvalFault>>
-    ensures { Gives result (numeric_result (row_of function.now) (way_seen function.now.way) (map stop_seen stops.now)
+    ensures { GivesValue result (numeric_result (row_of function.now) (way_seen function.now.way) (map stop_seen stops.now)
         feature.now input) }
 {
     match &function.way {
@@ -248,7 +248,7 @@ fn step_value(
     input: Fixed,
     feature: &Feature,
 ) -> Result<Value, Halt<EvalFault>>
-    ensures { Gives result (step_result (inputs_in stops.now) (results_in function.now feature.now stops.now) input) }
+    ensures { GivesValue result (step_result (inputs_in stops.now) (results_in function.now feature.now stops.now) input) }
 {
     let place = place_in_force(stops.inputs(), input);
     stop_value(alloc, function, stops, place, feature)
@@ -273,7 +273,7 @@ fn ramp_value(
     x: Fixed,
     feature: &Feature,
 ) -> Result<Value, Halt<EvalFault>>
-    ensures { Gives result (ramp_result (inputs_in stops.now) (results_in function.now feature.now stops.now) x
+    ensures { GivesValue result (ramp_result (inputs_in stops.now) (results_in function.now feature.now stops.now) x
         (place_of (inputs_in stops.now) x)) }
 {
     let inputs = stops.inputs();
@@ -294,7 +294,7 @@ fn value_between_stops(
     feature: &Feature,
 ) -> Result<Value, Halt<EvalFault>>
     requires { IsBetween (inputs_in stops.now) x i }
-    ensures { Gives result (ramp_result (inputs_in stops.now) (results_in function.now feature.now stops.now) x (Between i)) }
+    ensures { GivesValue result (ramp_result (inputs_in stops.now) (results_in function.now feature.now stops.now) x (Between i)) }
 {
     let inputs = stops.inputs();
     let lower = stop_value(alloc, function, stops, i, feature)?;
@@ -312,7 +312,7 @@ fn stop_value(
     feature: &Feature,
 ) -> Result<Value, Halt<EvalFault>>
     requires { place < length stops.now }
-    ensures { Gives result (result_at (results_in function.now feature.now stops.now) place) }
+    ensures { GivesValue result (result_at (results_in function.now feature.now stops.now) place) }
 {
     let stops = stops.as_slice();
     let value = output_value(alloc, &stops[place].output, feature)?;
@@ -330,7 +330,7 @@ fn zoomed_value(
     zoom: Fixed,
     feature: &Feature,
 ) -> Result<Value, Halt<EvalFault>>
-    ensures { Gives result (way_result (zoom_way (row_of function.now)) (rule_zooms (rules_in function.now rules.now))
+    ensures { GivesValue result (way_result (zoom_way (row_of function.now)) (rule_zooms (rules_in function.now rules.now))
         (zoom_results_in function.now feature.now rules.now) zoom) }
 {
     if function.row.ramps {
@@ -349,7 +349,7 @@ fn zoom_ramp_value(
     zoom: Fixed,
     feature: &Feature,
 ) -> Result<Value, Halt<EvalFault>>
-    ensures { Gives result (ramp_result (zooms_seen rules.now) (zoom_results_in function.now feature.now rules.now) zoom
+    ensures { GivesValue result (ramp_result (zooms_seen rules.now) (zoom_results_in function.now feature.now rules.now) zoom
         (place_of (zooms_seen rules.now) zoom)) }
 {
     let zooms = rules.zooms();
@@ -370,7 +370,7 @@ fn value_between_zooms(
     feature: &Feature,
 ) -> Result<Value, Halt<EvalFault>>
     requires { IsBetween (zooms_seen rules.now) zoom i }
-    ensures { Gives result (ramp_result (zooms_seen rules.now) (zoom_results_in function.now feature.now rules.now) zoom
+    ensures { GivesValue result (ramp_result (zooms_seen rules.now) (zoom_results_in function.now feature.now rules.now) zoom
         (Between i)) }
 {
     let zooms = rules.zooms();
@@ -389,7 +389,7 @@ fn zoom_value(
     feature: &Feature,
 ) -> Result<Value, Halt<EvalFault>>
     requires { place < length rules.now }
-    ensures { Gives result (result_at (zoom_results_in function.now feature.now rules.now) place) }
+    ensures { GivesValue result (result_at (zoom_results_in function.now feature.now rules.now) place) }
 {
     let rules = rules.as_slice();
     rule_value(
@@ -409,7 +409,7 @@ fn identity_value(
     function: &Function,
     feature: &Feature,
 ) -> Result<Value, Halt<EvalFault>>
-    ensures { Gives result (Ok (identity_data (row_of function.now).want (default_on function.now feature.now)
+    ensures { GivesValue result (Ok (identity_data (row_of function.now).want (default_on function.now feature.now)
         (property_at function.now.property feature.now))) }
 {
     match property_at(function, feature) {

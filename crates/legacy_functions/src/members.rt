@@ -9,7 +9,7 @@ ghost use Rattle.legacy_functions.specs.Form.{members_form, has_known_members, k
 ghost use Rattle.legacy_functions.specs.FoundView.{members_seen};
 ghost use Rattle.legacy_functions.specs.Parts.{spelled_seen, output_seen};
 
-use crate::function::{Kind, Output, Spelled};
+use crate::function::{FunctionType, Output, Spelled};
 use crate::leaves::{number_form, output_form};
 use decimal_json::{Json, Members, Text};
 use property_tables::Row;
@@ -17,8 +17,8 @@ use std::alloc::{AllocError, Global};
 
 /// The members but for the stops.
 #[derive(Drop)]
-pub(crate) struct Found {
-    pub(crate) kind: Kind,
+pub(crate) struct FoundMembers {
+    pub(crate) kind: FunctionType,
     pub(crate) base: Option<Spelled>,
     pub(crate) property: Option<Text>,
     pub(crate) fallback: Option<Output>,
@@ -28,7 +28,7 @@ pub(crate) fn members_form(
     alloc: Global,
     members: &Members,
     row: &Row,
-) -> Result<Option<Found>, AllocError>
+) -> Result<Option<FoundMembers>, AllocError>
     ensures { IfOk result (λ found. option_map (members_seen (fields_of members.now)) found
         ≡ members_form (row_seen row.now) (fields_of members.now)) }
 {
@@ -47,7 +47,7 @@ pub(crate) fn members_form(
     let Some(fallback) = fallback_form(alloc, members.get("default"), row)? else {
         return Ok(None);
     };
-    Ok(Some(Found {
+    Ok(Some(FoundMembers {
         kind,
         base,
         property,
@@ -67,20 +67,20 @@ fn has_known_members(members: &Members) -> bool
     true
 }
 
-fn kind_form(json: Option<&Json>, row: &Row) -> Option<Kind>
+fn kind_form(json: Option<&Json>, row: &Row) -> Option<FunctionType>
     ensures { result ≡ kind_form (row_seen row.now) (option_map (λ j. tree_of j.now) json.entry) }
 {
     match json {
         None => Some(if row.ramps {
-            Kind::Exponential
+            FunctionType::Exponential
         } else {
-            Kind::Interval
+            FunctionType::Interval
         }),
         Some(Json::Text(name)) => match name.as_str() {
-            "exponential" if row.ramps => Some(Kind::Exponential),
-            "interval" => Some(Kind::Interval),
-            "categorical" => Some(Kind::Categorical),
-            "identity" => Some(Kind::Identity),
+            "exponential" if row.ramps => Some(FunctionType::Exponential),
+            "interval" => Some(FunctionType::Interval),
+            "categorical" => Some(FunctionType::Categorical),
+            "identity" => Some(FunctionType::Identity),
             _ => None,
         },
         Some(_) => None,

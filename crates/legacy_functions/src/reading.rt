@@ -5,15 +5,15 @@ ghost use Rattle.decimal_json.specs.Tree.{fields_of};
 ghost use Rattle.decimal_json.specs.View.{tree_of};
 ghost use Rattle.property_tables.specs.RowView.{row_seen};
 ghost use Rattle.legacy_functions.specs.Form.{form, kind_body, stops_body, body_of, begins_with_zoom, plain_form, inside, is_zoomed};
-ghost use Rattle.legacy_functions.specs.declared.function.Kind.TheVariants.{Exponential};
+ghost use Rattle.legacy_functions.specs.declared.function.FunctionType.TheVariants.{Exponential};
 ghost use Rattle.legacy_functions.specs.FoundView.{members_seen, way_read, way_seen_for, way_inside, way_kept};
 ghost use Rattle.legacy_functions.specs.Function.{Way as WayData};
 ghost use Rattle.legacy_functions.specs.Parts.{spelled_seen};
 ghost use Rattle.legacy_functions.specs.PlacedView.{placed_stop_seen};
 ghost use Rattle.legacy_functions.specs.View.{reading_seen, inside_seen, IsOfRow, way_seen, body_seen};
 
-use crate::function::{Body, Function, FunctionFault, FunctionReading, Kind, Spelled, Way};
-use crate::members::{Found, members_form};
+use crate::function::{Body, Function, FunctionFault, FunctionReading, FunctionType, Spelled, Way};
+use crate::members::{FoundMembers, members_form};
 use crate::placed::{PlacedStop, stops_form};
 use crate::rules::{plain_stops, rule_form};
 use crate::stops::Base;
@@ -47,23 +47,23 @@ pub fn read(
 fn body_form(
     alloc: Global,
     members: &Members,
-    found: &Found,
+    found: &FoundMembers,
     row: &Row,
 ) -> Result<Option<Body>, AllocError>
     ensures { IfOk result (λ body. option_map (body_seen (way_seen_for found.now)) body
         ≡ kind_body found.now.kind (row_seen row.now) (members_seen (fields_of members.now) found.now)) }
 {
     match found.kind {
-        Kind::Exponential => stops_body(alloc, members, found, row),
-        Kind::Interval => stops_body(alloc, members, found, row),
-        Kind::Categorical => {
+        FunctionType::Exponential => stops_body(alloc, members, found, row),
+        FunctionType::Interval => stops_body(alloc, members, found, row),
+        FunctionType::Categorical => {
             if found.property.is_some() {
                 stops_body(alloc, members, found, row)
             } else {
                 Ok(None)
             }
         }
-        Kind::Identity => {
+        FunctionType::Identity => {
             if found.property.is_some() && members.get("stops").is_none() {
                 Ok(Some(Body::Identity))
             } else {
@@ -76,7 +76,7 @@ fn body_form(
 fn stops_body(
     alloc: Global,
     members: &Members,
-    found: &Found,
+    found: &FoundMembers,
     row: &Row,
 ) -> Result<Option<Body>, AllocError>
     ensures { IfOk result (λ body. option_map (body_seen (way_seen_for found.now)) body
@@ -85,14 +85,18 @@ fn stops_body(
     let Some(stops) = members.get("stops") else {
         return Ok(None);
     };
-    let any = matches!(found.kind, Kind::Categorical);
+    let any = matches!(found.kind, FunctionType::Categorical);
     match stops_form(alloc, any, stops, row)? {
         Some(stops) => body_of(alloc, stops, found),
         None => Ok(None),
     }
 }
 
-fn body_of(alloc: Global, stops: Vec<PlacedStop>, found: &Found) -> Result<Option<Body>, AllocError>
+fn body_of(
+    alloc: Global,
+    stops: Vec<PlacedStop>,
+    found: &FoundMembers,
+) -> Result<Option<Body>, AllocError>
     ensures { IfOk result (λ body. option_map (body_seen (way_seen_for found.now)) body
         ≡ body_of (way_read found.now) (is_some found.now.property) (map placed_stop_seen stops.items)) }
 {
@@ -118,7 +122,7 @@ fn begins_with_zoom(stops: &[PlacedStop]) -> bool
 fn plain_form(
     alloc: Global,
     stops: Vec<PlacedStop>,
-    found: &Found,
+    found: &FoundMembers,
 ) -> Result<Option<Body>, AllocError>
     ensures { IfOk result (λ body. option_map (body_seen (way_seen_for found.now)) body
         ≡ plain_form (way_read found.now) (map placed_stop_seen stops.items)) }
@@ -132,7 +136,7 @@ fn plain_form(
     }
 }
 
-fn inside(members: &Members, found: Found, body: Body, row: &Row) -> FunctionReading
+fn inside(members: &Members, found: FoundMembers, body: Body, row: &Row) -> FunctionReading
     ensures function { inside_seen result
         ≡ inside (members_seen (fields_of members.now) found) (body_seen (way_seen_for found) body) }
     ensures row { IsOfRow (row_seen row.now) result }
@@ -140,7 +144,7 @@ fn inside(members: &Members, found: Found, body: Body, row: &Row) -> FunctionRea
     if members.get("colorSpace").is_some() {
         return FunctionReading::Outside;
     }
-    let Found {
+    let FoundMembers {
         kind,
         base,
         property,
@@ -169,11 +173,11 @@ fn is_zoomed(body: &Body) -> bool
 
 // The way of a function, or none where it is outside: where its base is not above 0, or is not 1 and its
 // inputs have zooms.
-fn way_inside(kind: Kind, base: Option<Spelled>, over_zooms: bool) -> Option<Way>
+fn way_inside(kind: FunctionType, base: Option<Spelled>, over_zooms: bool) -> Option<Way>
     ensures { option_map way_seen result ≡ way_inside kind (option_map spelled_seen base) over_zooms }
 {
     match kind {
-        Kind::Exponential => match base {
+        FunctionType::Exponential => match base {
             Some(base) => curve_inside(base, over_zooms),
             None => Some(Way::Even),
         },

@@ -9,8 +9,8 @@ ghost use Rattle.legacy_functions.specs.PlacedView.{placed_stop_seen};
 ghost use Rattle.legacy_functions.specs.View.{rule_seen};
 
 use crate::categories::Categories;
-use crate::function::{Category, Input, Kind, NumberStop, Rule};
-use crate::members::Found;
+use crate::function::{Category, FunctionType, Input, NumberStop, PropertyRule};
+use crate::members::FoundMembers;
 use crate::placed::PlacedStop;
 use crate::stops::NumberStops;
 use fixed_num::Fixed;
@@ -39,8 +39,8 @@ pub(crate) fn plain_stops(
 pub(crate) fn rule_form(
     alloc: Global,
     stops: Vec<Category>,
-    found: &Found,
-) -> Result<Option<Rule>, AllocError>
+    found: &FoundMembers,
+) -> Result<Option<PropertyRule>, AllocError>
     ensures { IfOk result (λ rule. option_map (rule_seen (way_seen_for found.now)) rule
         ≡ rule_form (way_read found.now) (map category_seen stops.items)) }
 {
@@ -49,23 +49,23 @@ pub(crate) fn rule_form(
     }
     if is_over_numbers(found.kind) {
         match number_stops(alloc, stops)? {
-            Some(stops) => Ok(Some(Rule::Numeric(stops))),
+            Some(stops) => Ok(Some(PropertyRule::Numeric(stops))),
             None => Ok(None),
         }
     } else {
         match Categories::of(alloc, stops)? {
-            Some(stops) => Ok(Some(Rule::Categorical(stops))),
+            Some(stops) => Ok(Some(PropertyRule::Categorical(stops))),
             None => Ok(None),
         }
     }
 }
 
-fn is_over_numbers(kind: Kind) -> bool
+fn is_over_numbers(kind: FunctionType) -> bool
     ensures { result ≡ is_over_numbers kind }
 {
     match kind {
-        Kind::Exponential | Kind::Interval => true,
-        Kind::Categorical | Kind::Identity => false,
+        FunctionType::Exponential | FunctionType::Interval => true,
+        FunctionType::Categorical | FunctionType::Identity => false,
     }
 }
 

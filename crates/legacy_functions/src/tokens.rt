@@ -13,7 +13,7 @@ use tile_reader::Feature;
 
 /// A part of a token text: a literal text, or the name of the property that a token represents.
 #[derive(Drop)]
-pub(crate) enum Piece {
+pub(crate) enum TokenPiece {
     Plain(Text),
     Token(Text),
 }
@@ -105,12 +105,12 @@ pub fn token_expr(alloc: Global, text: &str) -> Result<Json, AllocError>
     Ok(Json::List(items))
 }
 
-fn piece_expression(alloc: Global, piece: &Piece) -> Result<Json, AllocError>
+fn piece_expression(alloc: Global, piece: &TokenPiece) -> Result<Json, AllocError>
     ensures { IfOk result (λ made. tree_of made ≡ piece_expression piece.now) }
 {
     match piece {
-        Piece::Plain(part) => Ok(Json::Text(part.share()?)),
-        Piece::Token(name) => property_expression(alloc, name),
+        TokenPiece::Plain(part) => Ok(Json::Text(part.share()?)),
+        TokenPiece::Token(name) => property_expression(alloc, name),
     }
 }
 
@@ -125,7 +125,7 @@ pub(crate) fn property_expression(alloc: Global, name: &Text) -> Result<Json, Al
 }
 
 // The pieces of a text from the left.
-fn pieces_of(alloc: Global, text: &str) -> Result<Vec<Piece>, AllocError>
+fn pieces_of(alloc: Global, text: &str) -> Result<Vec<TokenPiece>, AllocError>
     ensures { IfOk result (λ made. made.items ≡ pieces text.now) }
 {
     let mut made = Vec::new(alloc);
@@ -139,7 +139,7 @@ fn pieces_of(alloc: Global, text: &str) -> Result<Vec<Piece>, AllocError>
 // Adds the first piece of a text, and gives the text after it.
 fn push_piece<'a>(
     alloc: Global,
-    made: &mut Vec<Piece>,
+    made: &mut Vec<TokenPiece>,
     rest: &'a str,
 ) -> Result<&'a str, AllocError>
     requires { 0 < length rest.now }
@@ -148,11 +148,11 @@ fn push_piece<'a>(
 {
     let size = token_length(rest.as_bytes());
     if size > 0 {
-        made.push(Piece::Token(Text::copy_of(alloc, &rest[1..size - 1])?))?;
+        made.push(TokenPiece::Token(Text::copy_of(alloc, &rest[1..size - 1])?))?;
         Ok(&rest[size..])
     } else {
         let size = plain_length(rest.as_bytes());
-        made.push(Piece::Plain(Text::copy_of(alloc, &rest[..size])?))?;
+        made.push(TokenPiece::Plain(Text::copy_of(alloc, &rest[..size])?))?;
         Ok(&rest[size..])
     }
 }

@@ -9,7 +9,7 @@ ghost use Rattle.legacy_functions.specs.PlacedView.{placed_stop_seen};
 ghost use Rattle.legacy_functions.specs.View.{body_seen, zoom_rule_seen};
 
 use crate::function::{Body, Category, Spelled, ZoomRule};
-use crate::members::Found;
+use crate::members::FoundMembers;
 use crate::placed::PlacedStop;
 use crate::rules::rule_form;
 use crate::stops::ZoomRules;
@@ -54,7 +54,7 @@ pub(crate) fn zoomed_stops(
 pub(crate) fn zoomed_form(
     alloc: Global,
     stops: Vec<ZoomedStop>,
-    found: &Found,
+    found: &FoundMembers,
 ) -> Result<Option<Body>, AllocError>
     ensures { IfOk result (λ body. option_map (body_seen (way_seen_for found.now)) body
         ≡ zoomed_form (way_read found.now) (map zoomed_stop_seen stops.items)) }
@@ -186,7 +186,7 @@ fn put_first(alloc: Global, groups: &mut Vec<ZoomGroup>, stop: ZoomedStop) -> Re
 fn rules_form(
     alloc: Global,
     groups: Vec<ZoomGroup>,
-    found: &Found,
+    found: &FoundMembers,
 ) -> Result<Option<Vec<ZoomRule>>, AllocError>
     ensures { IfOk result (λ rules.
         option_map (λ v. map (zoom_rule_seen (way_seen_for found.now)) v.items) rules

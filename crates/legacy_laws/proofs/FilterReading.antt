@@ -12,8 +12,8 @@ use Rattle.prop_values.specs.JsonData.{json_data, trees_data, then_data, then_it
 use Rattle.expr_syntax.specs.declared.expression.Operator.{Operator}
 use Rattle.expr_syntax.specs.declared.expression.Operator.TheVariants as operators
 use Rattle.expr_syntax.specs.declared.fault.SynFault.{SynFault}
-use Rattle.expr_syntax.specs.declared.rows.Layout.TheVariants.{Arguments}
-use Rattle.expr_syntax.specs.declared.rows.Place.TheVariants.{Part, Argument}
+use Rattle.expr_syntax.specs.declared.rows.ElementLayout.TheVariants.{Arguments}
+use Rattle.expr_syntax.specs.declared.rows.ElementPlace.TheVariants.{Part, Argument}
 use Rattle.expr_syntax.specs.Elements.{Element}
 use Rattle.expr_syntax.specs.Reading.{Read, Reader, read, options, elements, Reading, number_read, data_read, and_term, arguments}
 use Rattle.expr_syntax.specs.Reading.{then_node, is_part, inside, at, reading_with, fault}

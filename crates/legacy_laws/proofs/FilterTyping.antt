@@ -17,7 +17,7 @@ use Rattle.expr_types.specs.Allowed.{Allowed, filter_allows, first_unread}
 use Rattle.expr_types.specs.Checked.{checked, allowed, unless_at}
 use Rattle.expr_types.specs.Own.{faults_if}
 use Rattle.expr_types.specs.OwnTable.{own}
-use Rattle.expr_types.specs.Typing.{Found, Typed, Scope, looked_at, and_found, founds_of, kinds_in, may_after}
+use Rattle.expr_types.specs.Typing.{TypedNodes, Typed, KindScope, looked_at, and_found, founds_of, kinds_in, may_after}
 use Rattle.expr_types.specs.Typing.{then_found, finished, typed, typings, literals}
 use Rattle.expr_types.specs.Visits.{Visit, all_visits, visits, visitings}
 use Rattle.expr_types.specs.declared.fault.TypeCode.TheVariants as type_codes
@@ -67,7 +67,7 @@ or_moved false b c = refl
 
 -- a term that is typed so as a filter, in all scopes and at all paths
 abbrev IsFilterAs : Bool → Term → Type 0
-IsFilterAs b e = (scope : Scope) (path : List PathPart) → IsTypedAs b (typed e wants.Boolean scope path)
+IsFilterAs b e = (scope : KindScope) (path : List PathPart) → IsTypedAs b (typed e wants.Boolean scope path)
 
 -- ---- tests
 
@@ -151,9 +151,9 @@ parts_of fs = terms_of (filter_terms fs)
 
 -- what is found of arguments, and then of their node under Boolean
 abbrev FoundAll : Type 0
-FoundAll = Result (List Found) TypeFault
+FoundAll = Result (List TypedNodes) TypeFault
 
-abbrev found_from : Operator → Filters → ℕ → ℕ → Scope → List PathPart → FoundAll
+abbrev found_from : Operator → Filters → ℕ → ℕ → KindScope → List PathPart → FoundAll
 found_from op fs m k scope path = founds_of op m k (typings (parts_of fs)) wants.Boolean scope path
 
 abbrev node_from : Operator → Terms → List PathPart → FoundAll → Typed
@@ -215,7 +215,7 @@ any_finished b ts path (Err f) h = absurd h
 -- the parts from place k on, among m
 abbrev ArePartsOf : Operator → Filters → ℕ → ℕ → Type 0
 ArePartsOf op fs m k =
-    (scope : Scope) (path : List PathPart) → AreTypedAs (some_order fs) (found_from op fs m k scope path)
+    (scope : KindScope) (path : List PathPart) → AreTypedAs (some_order fs) (found_from op fs m k scope path)
 
 all_node_typed : (fs : Filters) → ArePartsOf operators.All fs (length (typings (parts_of fs))) 0
     → IsFilterAs (some_order fs) (node operators.All (parts_of fs))
@@ -357,11 +357,11 @@ mutual
 
 abbrev pub IsCheckedAs : Bool → Term → Type 0
 IsCheckedAs b e =
-    (found : Found) × (checked e wants.Boolean None ≡ Ok found) × (found.node.kind ≡ kinds.Boolean)
+    (found : TypedNodes) × (checked e wants.Boolean None ≡ Ok found) × (found.node.kind ≡ kinds.Boolean)
     × (found.node.may ≡ faults_if b NotOrdered)
 
 unless_unread : (b : Bool) (vs : List Visit) (r : Typed) → IsTypedAs b r → first_unread filter_allows vs ≡ None
-    → (found : Found) × (allowed None vs r ≡ Ok found) × (found.node.kind ≡ kinds.Boolean)
+    → (found : TypedNodes) × (allowed None vs r ≡ Ok found) × (found.node.kind ≡ kinds.Boolean)
     × (found.node.may ≡ faults_if b NotOrdered)
 unless_unread b vs (Ok found) h k = (found, ap (λ o. unless_at o type_codes.Input (Ok found)) k, h.0, h.1)
 unless_unread b vs (Err f) h k = absurd h

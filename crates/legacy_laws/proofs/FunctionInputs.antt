@@ -18,7 +18,7 @@ use Rattle.expr_types.specs.Visits.{Visit, standing_of, all_visits, visits, visi
 use Rattle.expr_types.specs.declared.standing.Standing.{Standing}
 use Rattle.expr_types.specs.declared.standing.Standing.TheVariants.{Reached}
 use Rattle.legacy_functions.specs.Function.{Spelled, Input, Output, literal as literal_output, tokens, Way, even}
-use Rattle.legacy_functions.specs.Function.{curved, stepped, Rule, numeric, categorical, Body, plain, zoomed}
+use Rattle.legacy_functions.specs.Function.{curved, stepped, PropertyRule, numeric, categorical, Body, plain, zoomed}
 use Rattle.legacy_functions.specs.Function.{identity, has_zoomed_stops}
 use Rattle.legacy_functions.specs.Meaning.{zoom_way}
 use Rattle.legacy_functions.specs.ToExpression.{form_name}
@@ -261,14 +261,14 @@ module _ (row : RowData) (tokens_read : row.takes_tokens ≡ true → row.reads.
       (output_calm s.1 is.0.1, categories_calm ss is.1),
     )
 
-    rule_calm : (rule : Rule) → IsRuleOf row rule → IsCalm row (rule_term property default rule)
+    rule_calm : (rule : PropertyRule) → IsRuleOf row rule → IsCalm row (rule_term property default rule)
     rule_calm (numeric way ss) is =
         case_calm row (codes "number") property (way_term way property (stop_terms ss)) default h
         (way_calm row way property (stop_terms ss) h (stops_calm ss is.1.0)) k
     rule_calm (categorical ss) is =
         node_calm row operators.Case (category_terms property default ss) refl (categories_calm ss is.0)
 
-    rules_calm : (rs : List (Spelled × Rule)) → AreRulesOf row rs → BranchesAreCalm row (rule_terms property default rs)
+    rules_calm : (rs : List (Spelled × PropertyRule)) → AreRulesOf row rs → BranchesAreCalm row (rule_terms property default rs)
     rules_calm [] is = tt
     rules_calm (r ∷ rs) is = (rule_calm r.1 is.0.1, rules_calm rs is.1)
 
@@ -297,7 +297,7 @@ module _ (row : RowData) (tokens_read : row.takes_tokens ≡ true → row.reads.
   AllowsFeature property = is_some property ≡ true → row.reads.feature ≡ true
 
   plain_at_root : (property : Option (List ℕ)) (default : Term) → IsCalm row default → AllowsFeature property
-      → (rule : Rule) → AllowsZoom property (plain rule) → IsRuleOf row rule
+      → (rule : PropertyRule) → AllowsZoom property (plain rule) → IsRuleOf row rule
       → IsAtRoot row (plain_term property default rule)
   plain_at_root (Some name) default k feature rule zoom is =
       let property = property_term name in
@@ -315,7 +315,7 @@ module _ (row : RowData) (tokens_read : row.takes_tokens ≡ true → row.reads.
       way_at_root row (zoom_way row) (rule_terms named default rs) (by_zooms property rs zoom)
       (rules_calm named default (named_calm row property feature) k rs is.0)
     where
-      by_zooms : (property : Option (List ℕ)) (rs : List (Spelled × Rule)) → AllowsZoom property (zoomed rs)
+      by_zooms : (property : Option (List ℕ)) (rs : List (Spelled × PropertyRule)) → AllowsZoom property (zoomed rs)
           → row.reads.zoom ≡ true
       by_zooms (Some name) rs h = h refl
       by_zooms None rs h = h refl

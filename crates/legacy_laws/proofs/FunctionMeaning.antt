@@ -29,7 +29,7 @@ use Rattle.eval_face.specs.Meaning.{mean, means}
 use Rattle.eval_face.specs.Meanings.{Meaning, then_values, and_values}
 use Rattle.eval_face.specs.World.{World, feature_world}
 use Rattle.legacy_functions.specs.Function.{Spelled, Input, Output, literal as literal_output, tokens, Way, even}
-use Rattle.legacy_functions.specs.Function.{curved, stepped, Rule, numeric, categorical, Body, plain, zoomed}
+use Rattle.legacy_functions.specs.Function.{curved, stepped, PropertyRule, numeric, categorical, Body, plain, zoomed}
 use Rattle.legacy_functions.specs.Function.{identity, Function}
 use Rattle.legacy_functions.specs.Meaning.{output_data, default_data, result_at, step_result, ramp_result}
 use Rattle.legacy_functions.specs.Meaning.{curve_result, way_result, stop_results, numeric_result, is_input}
@@ -242,7 +242,7 @@ module _ (zoom : ℤ) (feature : Feature) (state : List (List ℕ × Data)) (ima
           (λ i. case_from (equal_given s.0 i) (output_given s.1 h.0.1 i) (categories_given ss h.1 i))
           ∙ chosen_fit (is_input (value_at property) s.0) s.1 (chosen_output (value_at property) ss)
 
-      rule_given : (rule : Rule) → IsRuleOf row rule
+      rule_given : (rule : PropertyRule) → IsRuleOf row rule
           → mean (rule_term (named_term property) (default_term o row) rule) row.want [] here
           ≡ rule_result row default feature (found_at property) rule
       rule_given (numeric way ss) is =
@@ -254,20 +254,20 @@ module _ (zoom : ℤ) (feature : Feature) (state : List (List ℕ × Data)) (ima
 
       -- ---- rules by zooms
 
-      rules_give : (rs : List (Spelled × Rule)) → AreRulesOf row rs
+      rules_give : (rs : List (Spelled × PropertyRule)) → AreRulesOf row rs
           → gives row.want (rule_terms (named_term property) (default_term o row) rs)
           ≡ rule_results row default feature (found_at property) rs
       rules_give [] h = refl
       rules_give (r ∷ rs) h = λ i. rule_given r.1 h.0.1 i ∷ rules_give rs h.1 i
 
-      rules_some : (rs : List (Spelled × Rule)) → HasSome rs → HasSome (rule_terms (named_term property) (default_term o row) rs)
+      rules_some : (rs : List (Spelled × PropertyRule)) → HasSome rs → HasSome (rule_terms (named_term property) (default_term o row) rs)
       rules_some [] h = h
       rules_some (r ∷ rs) h = tt
 
       abbrev zoomed_result : List ℤ → List Evaluated → Evaluated
       zoomed_result zooms results = then_value (way_result (zoom_way row) zooms results zoom) (fit row.want)
 
-      zoomed_given : (rs : List (Spelled × Rule)) → IsBodyOf row (zoomed rs)
+      zoomed_given : (rs : List (Spelled × PropertyRule)) → IsBodyOf row (zoomed rs)
           → mean (way_term (zoom_way row) zoom_term (rule_terms (named_term property) (default_term o row) rs)) row.want [] here
           ≡ zoomed_result (rule_zooms rs) (rule_results row default feature (found_at property) rs)
       zoomed_given rs is =
@@ -360,7 +360,7 @@ module _ (zoom : ℤ) (feature : Feature) (state : List (List ℕ × Data)) (ima
 
     -- ---- by the form of the function
 
-    plain_given : (property : Option (List ℕ)) (o : Option Output) (fallback : OfSome (IsOutputOf row) o) (rule : Rule)
+    plain_given : (property : Option (List ℕ)) (o : Option Output) (fallback : OfSome (IsOutputOf row) o) (rule : PropertyRule)
         → IsRuleOf row rule
         → mean (plain_term property (default_term o row) rule) row.want [] here
         ≡ then_value (plain_by property row (default_by o) zoom feature rule) (fit row.want)

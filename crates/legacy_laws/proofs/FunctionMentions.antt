@@ -12,7 +12,7 @@ use Rattle.expr_syntax.specs.declared.world_parts.Mentions.{Mentions}
 use Rattle.expr_syntax.specs.Mentioned.{nothing, either, of_operator, count, mentions, all_mentions}
 use Rattle.expr_syntax.specs.Term.{Term, literal, node, terms_of}
 use Rattle.legacy_functions.specs.Function.{Spelled, Input, Output, literal as literal_output, tokens, Way, even, curved, stepped}
-use Rattle.legacy_functions.specs.Function.{Rule, numeric, categorical, Body, plain, zoomed, identity}
+use Rattle.legacy_functions.specs.Function.{PropertyRule, numeric, categorical, Body, plain, zoomed, identity}
 use Rattle.legacy_functions.specs.Meaning.{zoom_way}
 use Rattle.legacy_functions.specs.ToExpression.{form_name}
 use Rattle.legacy_functions.specs.Tokens.{pieces, is_token, has_tokens}
@@ -172,7 +172,7 @@ stops_ask_input stepped [] = refl
 stops_ask_input stepped (s ∷ []) = refl
 stops_ask_input stepped (s ∷ t ∷ ss) = refl
 
-rules_ask_input : (property default : Term) (way : Way) (rs : List (Spelled × Rule))
+rules_ask_input : (property default : Term) (way : Way) (rs : List (Spelled × PropertyRule))
     → asks_input way (rule_terms property default rs) ≡ asks_input way rs
 rules_ask_input property default even rs = refl
 rules_ask_input property default (curved base) rs = refl
@@ -190,14 +190,14 @@ module _ (default : Term) (k : IsStill default) where
     (output_still s.1, categories_still property h ss),
   )
 
-  rule_still : (property : Term) → IsStill property → (rule : Rule) → IsStill (rule_term property default rule)
+  rule_still : (property : Term) → IsStill property → (rule : PropertyRule) → IsStill (rule_term property default rule)
   rule_still property h (numeric way ss) =
       case_still (codes "number") property (way_term way property (stop_terms ss)) default h
       (way_still way property (stop_terms ss) h (stops_still ss)) k
   rule_still property h (categorical ss) =
       node_still operators.Case (category_terms property default ss) refl (categories_still property h ss)
 
-  rules_still : (property : Term) → IsStill property → (rs : List (Spelled × Rule))
+  rules_still : (property : Term) → IsStill property → (rs : List (Spelled × PropertyRule))
       → AreStill (branch_terms (rule_terms property default rs))
   rules_still property h [] = tt
   rules_still property h (r ∷ rs) = (rule_still property h r.1, rules_still property h rs)
@@ -219,15 +219,15 @@ module _ (default : Term) (k : IsStill default) where
     abbrev property : Term
     property = property_term name
 
-    rule_asks : (rule : Rule) → IsRuleOf row rule → asks_feature (rule_term property default rule) ≡ true
+    rule_asks : (rule : PropertyRule) → IsRuleOf row rule → asks_feature (rule_term property default rule) ≡ true
     rule_asks (numeric way ss) is = refl
     rule_asks (categorical []) is = absurd is.1
     rule_asks (categorical (s ∷ ss)) is = refl
 
-    rule_mentions : (rule : Rule) → IsRuleOf row rule → mentions (rule_term property default rule) ≡ seen false true
+    rule_mentions : (rule : PropertyRule) → IsRuleOf row rule → mentions (rule_term property default rule) ≡ seen false true
     rule_mentions rule is = rule_still property refl rule ∙ ap (seen false) (rule_asks rule is)
 
-    rules_mention : (way : Way) (r : Spelled × Rule) (rs : List (Spelled × Rule)) → AreRulesOf row (r ∷ rs)
+    rules_mention : (way : Way) (r : Spelled × PropertyRule) (rs : List (Spelled × PropertyRule)) → AreRulesOf row (r ∷ rs)
         → mentions (way_term way zoom_term (rule_terms property default (r ∷ rs))) ≡ seen (asks_input way (r ∷ rs)) true
     rules_mention way r rs is =
         let later = some_feature (branch_terms (rule_terms property default rs)) in

@@ -4,10 +4,10 @@ use Rattle.std.specs.Prelude.{ℕ, Bool, Option, Some, None, is_some, option_map
 use Rattle.decimal_json.specs.Tree as json
 use Rattle.decimal_json.specs.Tree.{Tree, Fields}
 use Rattle.property_tables.specs.Rows.{RowData}
-use Rattle.legacy_functions.specs.Function.{Way, Rule, numeric, categorical, Body, plain, zoomed, identity, Function}
+use Rattle.legacy_functions.specs.Function.{Way, PropertyRule, numeric, categorical, Body, plain, zoomed, identity, Function}
 use Rattle.legacy_functions.specs.Form.{some_of, without_repeated, number_stops, never_descend, rule_form, plain_form}
 use Rattle.legacy_functions.specs.Form.{Stop, PlacedStop, plain_stops, body_of, stops_form, stops_body, kind_body, is_categories}
-use Rattle.legacy_functions.specs.Form.{Members, members_form, way_by, inside, function_form, form}
+use Rattle.legacy_functions.specs.Form.{FunctionMembers, members_form, way_by, inside, function_form, form}
 use Rattle.legacy_functions.proofs.SoundRules.{OfSome, of_then, of_map, of_where, of_any}
 
 abbrev pub IsOverNumbers : Body → Type 0
@@ -33,7 +33,7 @@ is_way : (way : Option Way) → is_some way ≡ true → HasWay way
 is_way (Some way) h = tt
 is_way None h = absurd (cc)
 
-abbrev IsNumeric : Rule → Type 0
+abbrev IsNumeric : PropertyRule → Type 0
 IsNumeric rule = IsOverNumbers (plain rule)
 
 rule_goes : (way : Way) (ss : List Stop) → OfSome IsNumeric (rule_form (Some way) ss)
@@ -60,22 +60,22 @@ with_property (Some name) found h = of_any found
 with_property None found h = absurd (cc)
 
 module _ (row : RowData) where
-  stops_go : (ms : Members) → HasWay (way_by ms.kind ms.base) → OfSome (GoesBy ms.property) (stops_body row ms)
+  stops_go : (ms : FunctionMembers) → HasWay (way_by ms.kind ms.base) → OfSome (GoesBy ms.property) (stops_body row ms)
   stops_go ms h =
       let placed = stops_form row (is_categories ms.kind) in
       of_then (λ t. Unit {0}) (GoesBy ms.property) ms.stops _ (of_any ms.stops) (λ t u.
       of_then (λ ss. Unit {0}) (GoesBy ms.property) (placed t) _ (of_any (placed t)) (λ ss v.
       body_goes (way_by ms.kind ms.base) ms.property ss h))
 
-  abbrev read_body : Members → Option Body
+  abbrev read_body : FunctionMembers → Option Body
   read_body ms = kind_body ms.kind row ms
 
   -- without a property there are no categories, and no property that is the value itself
-  no_property : (ms : Members) → is_some ms.property ≡ false
+  no_property : (ms : FunctionMembers) → is_some ms.property ≡ false
       → (read_body ms ≡ None) ⊎ ((read_body ms ≡ stops_body row ms) × (is_some (way_by ms.kind ms.base) ≡ true))
   no_property ms h = grind (arith, h)
 
-  members_go : (ms : Members) (property : Option (List ℕ)) → ms.property ≡ property → OfSome (GoesBy ms.property) (read_body ms)
+  members_go : (ms : FunctionMembers) (property : Option (List ℕ)) → ms.property ≡ property → OfSome (GoesBy ms.property) (read_body ms)
   members_go ms (Some name) same = with_property ms.property (read_body ms) (ap is_some same)
   members_go ms None same =
       let Goes : Option Body → Type 0 = OfSome (GoesBy ms.property) in
@@ -89,7 +89,7 @@ module _ (row : RowData) where
   if_inside true f h = tt
   if_inside false f h = h
 
-  inside_goes : (ms : Members) (body : Body) → GoesBy ms.property body → OfSome FunctionGoes (inside ms body)
+  inside_goes : (ms : FunctionMembers) (body : Body) → GoesBy ms.property body → OfSome FunctionGoes (inside ms body)
   inside_goes ms body h =
       let f : Function = record { property = ms.property; fallback = ms.fallback; body = body } in
       if_inside _ f h

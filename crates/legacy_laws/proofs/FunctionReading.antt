@@ -10,10 +10,10 @@ use Rattle.expr_syntax.specs.declared.expression.Operator.{Operator}
 use Rattle.expr_syntax.specs.declared.expression.Operator.TheVariants as operators
 use Rattle.expr_syntax.specs.declared.fault.SynFault.{SynFault}
 use Rattle.expr_syntax.specs.declared.rows.Arity.TheVariants.{OddFrom}
-use Rattle.expr_syntax.specs.declared.rows.Layout.{Layout}
-use Rattle.expr_syntax.specs.declared.rows.Layout.TheVariants.{Arguments, Choices, Cases}
-use Rattle.expr_syntax.specs.declared.rows.Place.{Place}
-use Rattle.expr_syntax.specs.declared.rows.Place.TheVariants.{Part, Argument, Output}
+use Rattle.expr_syntax.specs.declared.rows.ElementLayout.{ElementLayout}
+use Rattle.expr_syntax.specs.declared.rows.ElementLayout.TheVariants.{Arguments, Choices, Cases}
+use Rattle.expr_syntax.specs.declared.rows.ElementPlace.{ElementPlace}
+use Rattle.expr_syntax.specs.declared.rows.ElementPlace.TheVariants.{Part, Argument, Output}
 use Rattle.expr_syntax.specs.Elements.{Element}
 use Rattle.expr_syntax.specs.Reading.{Reader, read, options, and_term, arguments, then_node, is_part, at}
 use Rattle.expr_syntax.specs.Rows.{allows, place, element_place, is_last, is_even}
@@ -36,12 +36,12 @@ AllNowhere (e ∷ es) = (e.0 ≡ nowhere) × AllNowhere es
 abbrev or_walk : Walker → Walker → Walker
 or_walk v w sought format = v sought format || w sought format
 
-place_nowhere : (p : Place) → in_element p nowhere ≡ nowhere
+place_nowhere : (p : ElementPlace) → in_element p nowhere ≡ nowhere
 place_nowhere Part = refl
 place_nowhere Argument = refl
 place_nowhere Output = refl
 
-elements_nowhere : (layout : Layout) (n i : ℕ) (es : List (Element Walker)) → AllNowhere es
+elements_nowhere : (layout : ElementLayout) (n i : ℕ) (es : List (Element Walker)) → AllNowhere es
     → some_element layout n i es ≡ nowhere
 elements_nowhere layout n i [] h = refl
 elements_nowhere layout n i (e ∷ es) h =
@@ -53,7 +53,7 @@ few_nowhere : (b : Bool) (others : Walker) → others ≡ nowhere → walk_unles
 few_nowhere true others h = h
 few_nowhere false others h = refl
 
-pub node_inside : (layout : Layout) (n : ℕ) (b : Bool) (es : List (Element Walker)) → AllNowhere es
+pub node_inside : (layout : ElementLayout) (n : ℕ) (b : Bool) (es : List (Element Walker)) → AllNowhere es
     → node_with (walk_unless_few b (some_element layout n 1 es)) ≡ nowhere
 node_inside layout n b es h =
     let others = some_element layout n 1 es in
@@ -74,7 +74,7 @@ abbrev an_element : Bool → Bool → Reader → ReadAll → Scope → List Path
 an_element is_a_part is_end r later scope path =
     if is_a_part then later else and_term (r (if is_end then scope else scope) path) later
 
-pub argument_read : (layout : Layout) (n i : ℕ) (e : Element Reader) (es : List (Element Reader)) (scope : Scope)
+pub argument_read : (layout : ElementLayout) (n i : ℕ) (e : Element Reader) (es : List (Element Reader)) (scope : Scope)
     (path : List PathPart) (x : Term) (xs : List Term) → is_part (element_place layout n i) ≡ false
     → e.0 scope (at path i) ≡ Ok x → arguments layout n (i + 1) es scope scope path ≡ Ok xs
     → arguments layout n i (e ∷ es) scope scope path ≡ Ok (x ∷ xs)
@@ -84,7 +84,7 @@ argument_read layout n i e es scope path x xs no_part h k =
     ∙ (ap (λ s. and_term (e.0 s (at path i)) later) (same_scope (is_last n i) scope)
     ∙ (λ j. and_term (h j) (k j)))
 
-pub part_passed : (layout : Layout) (n i : ℕ) (e : Element Reader) (es : List (Element Reader)) (scope : Scope)
+pub part_passed : (layout : ElementLayout) (n i : ℕ) (e : Element Reader) (es : List (Element Reader)) (scope : Scope)
     (path : List PathPart) (xs : List Term) → is_part (element_place layout n i) ≡ true
     → arguments layout n (i + 1) es scope scope path ≡ Ok xs
     → arguments layout n i (e ∷ es) scope scope path ≡ Ok xs
@@ -94,7 +94,7 @@ part_passed layout n i e es scope path xs a_part k =
 
 -- ---- nodes without parts
 
-abbrev HasNoParts : Layout → Type 0
+abbrev HasNoParts : ElementLayout → Type 0
 HasNoParts layout = (n i : ℕ) → 0 < i → is_part (element_place layout n i) ≡ false
 
 behind_name : (i : ℕ) → 0 < i → nat_eq i 0 ≡ false
@@ -115,7 +115,7 @@ case_elements n i some =
     ap (λ b. is_part (if b then Part else place Cases n i)) (behind_name i some)
     ∙ output_or_argument (is_last n i || is_even i)
 
-all_read : (layout : Layout) → HasNoParts layout → (ts : List Tree) (xs : List Term) → AreReadAs ts xs
+all_read : (layout : ElementLayout) → HasNoParts layout → (ts : List Tree) (xs : List Term) → AreReadAs ts xs
     → (n i : ℕ) (scope : Scope) (path : List PathPart) → 0 < i
     → arguments layout n i (readers ts) scope scope path ≡ Ok xs
 all_read layout free [] [] h n i scope path some = refl
@@ -125,11 +125,11 @@ all_read layout free (t ∷ ts) (x ∷ xs) h n i scope path some =
     argument_read layout n i (read t, options t) (readers ts) scope path x xs (free n i some)
     (h.0.reads scope (at path i)) (all_read layout free ts xs h.1 n (i + 1) scope path (omega arith))
 
-abbrev node_read : Operator → Layout → Bool → List Tree → Reader
+abbrev node_read : Operator → ElementLayout → Bool → List Tree → Reader
 node_read op layout is_enough ts scope path =
     unless_few is_enough (then_node op (arguments layout (suc (length (readers ts))) 1 (readers ts) scope scope path)) path
 
-node_reads : (op : Operator) (layout : Layout) (b : Bool) → HasNoParts layout → b ≡ true
+node_reads : (op : Operator) (layout : ElementLayout) (b : Bool) → HasNoParts layout → b ≡ true
     → (ts : List Tree) (xs : List Term) → AreReadAs ts xs → (scope : Scope) (path : List PathPart)
     → node_read op layout b ts scope path ≡ Ok (node op (terms_of xs))
 node_reads op layout b free enough ts xs h scope path =

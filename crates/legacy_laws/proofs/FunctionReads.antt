@@ -25,7 +25,7 @@ use Rattle.expr_syntax.specs.Reading.{number_read, data_read}
 use Rattle.expr_syntax.specs.Rows.{allows}
 use Rattle.expr_syntax.specs.Term.{Term, literal}
 use Rattle.legacy_functions.specs.Function.{Spelled, Input, flag, number, word, Output, literal as literal_output}
-use Rattle.legacy_functions.specs.Function.{tokens, Way, even, curved, stepped, Rule, numeric, categorical, Body}
+use Rattle.legacy_functions.specs.Function.{tokens, Way, even, curved, stepped, PropertyRule, numeric, categorical, Body}
 use Rattle.legacy_functions.specs.Function.{plain, zoomed, identity, Function}
 use Rattle.legacy_functions.specs.Meaning.{zoom_way}
 use Rattle.legacy_functions.specs.Tokens.{call}
@@ -207,7 +207,7 @@ module _ (row : RowData) (regular : IsRegular row) where
         let odd : nat_eq (n % 2) 1 ≡ true = eq-eqb (n % 2) 1 (omega (arith, count)) in
         λ i. many i && odd i
 
-    read_rule : (rule : Rule) → IsRuleOf row rule → IsReadAs (rule_expression property default rule) (rule_term x y rule)
+    read_rule : (rule : PropertyRule) → IsRuleOf row rule → IsReadAs (rule_expression property default rule) (rule_term x y rule)
     read_rule (numeric way ss) is =
         read_kind_case (codes "number") property (way_expression way property (stop_branches ss)) default x
         (way_term way x (stop_terms ss)) y h (read_numeric way ss property x h is) k
@@ -215,12 +215,12 @@ module _ (row : RowData) (regular : IsRegular row) where
         read_case (category_elements property ss ++ default ∷ []) (category_terms x y ss) (read_categories ss is.0)
         (enough ss is.1)
 
-    read_rules : (rs : List (Spelled × Rule)) → AreRulesOf row rs
+    read_rules : (rs : List (Spelled × PropertyRule)) → AreRulesOf row rs
         → AreBranches (rule_branches property default rs) (rule_terms x y rs)
     read_rules [] is = tt
     read_rules (r ∷ rs) is = ((is.0.0, read_rule r.1 is.0.1), read_rules rs is.1)
 
-    rules_some : (rs : List (Spelled × Rule)) → HasSome rs → 0 < length (rule_branches property default rs)
+    rules_some : (rs : List (Spelled × PropertyRule)) → HasSome rs → 0 < length (rule_branches property default rs)
     rules_some [] some = absurd some
     rules_some (r ∷ rs) some = omega arith
 
@@ -228,7 +228,7 @@ module _ (row : RowData) (regular : IsRegular row) where
     zoom_way_is_read true = tt
     zoom_way_is_read false = tt
 
-    read_zoomed : (rs : List (Spelled × Rule)) → IsBodyOf row (zoomed rs)
+    read_zoomed : (rs : List (Spelled × PropertyRule)) → IsBodyOf row (zoomed rs)
         → IsReadAs (way_expression (zoom_way row) zoom_expression (rule_branches property default rs))
         (way_term (zoom_way row) zoom_term (rule_terms x y rs))
     read_zoomed rs is =
@@ -257,7 +257,7 @@ module _ (row : RowData) (regular : IsRegular row) where
   read_named (Some name) = read_property name
   read_named None = read_null
 
-  read_plain : (property : Option (List ℕ)) (default : Tree) (y : Term) → IsReadAs default y → (rule : Rule) → IsRuleOf row rule
+  read_plain : (property : Option (List ℕ)) (default : Tree) (y : Term) → IsReadAs default y → (rule : PropertyRule) → IsRuleOf row rule
       → IsReadAs (plain_expression property default rule) (plain_term property y rule)
   read_plain (Some name) default y k rule is =
       read_rule (named_property (Some name)) default (named_term (Some name)) y (read_property name) k rule is

@@ -13,7 +13,7 @@ use Rattle.property_tables.specs.Rows.{RowData}
 use Rattle.expr_syntax.specs.declared.expression.Operator.TheVariants as operators
 use Rattle.expr_syntax.specs.Term.{Term, literal, node, no_terms, terms_of}
 use Rattle.legacy_functions.specs.Function.{Spelled, Input, flag, number, word, Output, literal as literal_output}
-use Rattle.legacy_functions.specs.Function.{tokens, Way, even, curved, stepped, Rule, numeric, categorical, Body}
+use Rattle.legacy_functions.specs.Function.{tokens, Way, even, curved, stepped, PropertyRule, numeric, categorical, Body}
 use Rattle.legacy_functions.specs.Function.{plain, zoomed, identity, Function}
 use Rattle.legacy_functions.specs.Meaning.{stop_inputs, zoom_way, rule_zooms}
 use Rattle.legacy_functions.specs.ToExpression.{form_name}
@@ -94,7 +94,7 @@ category_terms property default [] = default ∷ []
 category_terms property default (s ∷ ss) =
     two_terms operators.Equal property (literal (input_data s.0)) ∷ output_term s.1 ∷ category_terms property default ss
 
-abbrev pub rule_term : Term → Term → Rule → Term
+abbrev pub rule_term : Term → Term → PropertyRule → Term
 rule_term property default (numeric way stops) =
     case_term (codes "number") property (way_term way property (stop_terms stops)) default
 rule_term property default (categorical stops) = node operators.Case (terms_of (category_terms property default stops))
@@ -102,11 +102,11 @@ rule_term property default (categorical stops) = node operators.Case (terms_of (
 abbrev pub zoom_term : Term
 zoom_term = node operators.Zoom no_terms
 
-abbrev pub zoom_rule_term : Term → Rule → Term
+abbrev pub zoom_rule_term : Term → PropertyRule → Term
 zoom_rule_term default (numeric way stops) = way_term way zoom_term (stop_terms stops)
 zoom_rule_term default (categorical stops) = default
 
-abbrev pub rule_terms : Term → Term → List (Spelled × Rule) → TermBranches
+abbrev pub rule_terms : Term → Term → List (Spelled × PropertyRule) → TermBranches
 rule_terms property default [] = []
 rule_terms property default (r ∷ rs) = (r.0, rule_term property default r.1) ∷ rule_terms property default rs
 
@@ -120,7 +120,7 @@ abbrev pub named_term : Option (List ℕ) → Term
 named_term (Some name) = property_term name
 named_term None = literal null
 
-abbrev pub plain_term : Option (List ℕ) → Term → Rule → Term
+abbrev pub plain_term : Option (List ℕ) → Term → PropertyRule → Term
 plain_term (Some name) default rule = rule_term (property_term name) default rule
 plain_term None default rule = zoom_rule_term default rule
 
@@ -139,7 +139,7 @@ pub stops_go : (ss : List (Spelled × Output)) → branch_inputs (stop_terms ss)
 stops_go [] = refl
 stops_go (s ∷ ss) = ap (λ zs. s.0.value ∷ zs) (stops_go ss)
 
-pub rules_go : (property default : Term) (rs : List (Spelled × Rule))
+pub rules_go : (property default : Term) (rs : List (Spelled × PropertyRule))
     → branch_inputs (rule_terms property default rs) ≡ rule_zooms rs
 rules_go property default [] = refl
 rules_go property default (r ∷ rs) = ap (λ zs. r.0.value ∷ zs) (rules_go property default rs)

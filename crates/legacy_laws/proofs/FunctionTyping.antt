@@ -19,11 +19,11 @@ use Rattle.expr_syntax.specs.Rows.{is_last, is_even}
 use Rattle.expr_syntax.specs.Term.{Term, literal, node, terms_of}
 use Rattle.expr_types.specs.ArgumentPaths.{argument_path}
 use Rattle.expr_types.specs.Fits.{fits}
-use Rattle.expr_types.specs.Typing.{Scope, looked_at, argument_want, and_found}
+use Rattle.expr_types.specs.Typing.{KindScope, looked_at, argument_want, and_found}
 use Rattle.expr_types.specs.Typing.{founds_of, typed, typings}
 use Rattle.expr_types.specs.Typing.{literals}
 use Rattle.legacy_functions.specs.Function.{Spelled, Input, Output, literal as literal_output}
-use Rattle.legacy_functions.specs.Function.{tokens, Way, Rule, numeric, categorical, Body}
+use Rattle.legacy_functions.specs.Function.{tokens, Way, PropertyRule, numeric, categorical, Body}
 use Rattle.legacy_functions.specs.Function.{plain, zoomed, identity}
 use Rattle.legacy_functions.specs.Meaning.{zoom_way}
 use Rattle.legacy_functions.specs.ToExpression.{form_name}
@@ -107,7 +107,7 @@ module _ (row : RowData) (regular : IsRegular row) where
     abbrev all_terms : List (Input × Output) → List Term
     all_terms ss = category_terms (named_term property) default ss
 
-    module _ (scope : Scope) (path : List PathPart) where
+    module _ (scope : KindScope) (path : List PathPart) where
       abbrev founds_from : ℕ → ℕ → List Term → Founds
       founds_from m k xs = founds_of operators.Case m k (typings (terms_of xs)) row.want scope path
 
@@ -132,7 +132,7 @@ module _ (row : RowData) (regular : IsRegular row) where
     category_count [] = refl
     category_count (s ∷ ss) = let n = category_count ss in omega (arith, n)
 
-    pub rule_typed : (rule : Rule) → IsRuleOf row rule → IsTypedUnder row.want (rule_term (named_term property) default rule)
+    pub rule_typed : (rule : PropertyRule) → IsRuleOf row rule → IsTypedUnder row.want (rule_term (named_term property) default rule)
     rule_typed (numeric way ss) is =
         case_typed property (codes "number") row.want (way_term way (named_term property) (stop_terms ss)) default
         (numeric_typed way ss (named_term property) (property_typed property wants.Number) is) (default_typed o fallback)
@@ -142,12 +142,12 @@ module _ (row : RowData) (regular : IsRegular row) where
         case_is_ok (literals ts) (founds_of operators.Case m 0 (typings ts) row.want scope path) row.want path
         (categories_are_ok scope path ss is.0 m 0 refl (category_count ss))
 
-    pub rules_typed : (rs : List (Spelled × Rule)) → AreRulesOf row rs
+    pub rules_typed : (rs : List (Spelled × PropertyRule)) → AreRulesOf row rs
         → AreTypedUnder row.want (rule_terms (named_term property) default rs)
     rules_typed [] is = tt
     rules_typed (r ∷ rs) is = (rule_typed r.1 is.0.1, rules_typed rs is.1)
 
-    pub rules_some : (rs : List (Spelled × Rule)) → HasSome rs → HasSome (rule_terms (named_term property) default rs)
+    pub rules_some : (rs : List (Spelled × PropertyRule)) → HasSome rs → HasSome (rule_terms (named_term property) default rs)
     rules_some [] h = h
     rules_some (r ∷ rs) h = tt
 
@@ -183,7 +183,7 @@ module _ (row : RowData) (regular : IsRegular row) where
 
   -- ---- by the form of the function
 
-  plain_typed : (property : Option (List ℕ)) (o : Option Output) → OfSome (IsOutputOf row) o → (rule : Rule)
+  plain_typed : (property : Option (List ℕ)) (o : Option Output) → OfSome (IsOutputOf row) o → (rule : PropertyRule)
       → IsRuleOf row rule → IsTypedUnder row.want (plain_term property (default_term o row) rule)
   plain_typed (Some name) o fallback rule is = rule_typed (Some name) o fallback rule is
   plain_typed None o fallback (numeric way ss) is = numeric_typed way ss zoom_term zoom_typed is

@@ -2,7 +2,7 @@
 use Rattle.std.proofs.Common.{◌≡◌, ◌∙◌, refl, sym, ap, subst, true, false}
 use Rattle.std.specs.Prelude.{Bool, Some, Ok, Err, if◌then◌else◌}
 use Rattle.decimal_json.specs.Tree.{Tree}
-use Rattle.legacy_filters.specs.Form.{Read, reading}
+use Rattle.legacy_filters.specs.Form.{FilterRead, reading}
 use Rattle.legacy_filters.specs.Laws.{NoExpressionIsLegacy}
 use Rattle.legacy_filters.specs.Split.{is_legacy}
 use Rattle.legacy_filters.specs.ToExpression.{expression}
@@ -30,7 +30,7 @@ migrated_filters t f read e values is =
 
 -- ---- migrating again
 
-stays_where : NoExpressionIsLegacy → (t : Tree) (b : Bool) (r : Read) → is_legacy t ≡ b → reading t ≡ r
+stays_where : NoExpressionIsLegacy → (t : Tree) (b : Bool) (r : FilterRead) → is_legacy t ≡ b → reading t ≡ r
     → migrated_filter (if b then expression_or_itself r t else t) ≡ (if b then expression_or_itself r t else t)
 stays_where h t false r p q = ap (λ b. if b then expression_or_itself (reading t) t else t) p
 stays_where h t true (Ok f) p q =

@@ -6,7 +6,7 @@ use Rattle.expr_syntax.specs.Mentioned.{nothing, mentions}
 use Rattle.expr_syntax.specs.Term.{Term}
 use Rattle.expr_types.specs.Allowed.{row_allows, first_unread, first_stray_zoom}
 use Rattle.expr_types.specs.Checked.{checked, allowed, unless_at}
-use Rattle.expr_types.specs.Typing.{Found, Typed, typed}
+use Rattle.expr_types.specs.Typing.{TypedNodes, Typed, typed}
 use Rattle.expr_types.specs.Visits.{Visit, visits}
 use Rattle.expr_types.specs.declared.fault.TypeCode.TheVariants as codes
 use Rattle.expr_types.specs.declared.standing.Standing.TheVariants.{Reached}
@@ -40,10 +40,10 @@ expressions_mean row t f of_table read =
 -- ---- types
 
 abbrev IsChecked : RowData → Term → Type 0
-IsChecked row e = (found : Found) × (checked e row.want (Some row) ≡ Ok found)
+IsChecked row e = (found : TypedNodes) × (checked e row.want (Some row) ≡ Ok found)
 
 checked_by : (row : RowData) (vs : List Visit) (r : Typed) → IsOk r → first_unread (row_allows row) vs ≡ None
-    → first_stray_zoom vs ≡ None → (found : Found) × (allowed (Some row) vs r ≡ Ok found)
+    → first_stray_zoom vs ≡ None → (found : TypedNodes) × (allowed (Some row) vs r ≡ Ok found)
 checked_by row vs (Ok found) h unread stray =
     (found, λ i. unless_at (unread i) codes.Input (unless_at (stray i) codes.ZoomPlace (Ok found)))
 checked_by row vs (Err f) h unread stray = absurd h

@@ -18,7 +18,7 @@ use Rattle.expr_syntax.specs.Term.{Term, literal}
 use Rattle.expr_types.specs.Fits.{same_item, is_any_item, is_open, same_count, list_fit, fits}
 use Rattle.expr_types.specs.Literals.{is_value, are_all, item_of, count_of}
 use Rattle.expr_types.specs.Own.{owns}
-use Rattle.expr_types.specs.Typing.{Node, Scope, fit_or, with_below, typed}
+use Rattle.expr_types.specs.Typing.{Node, KindScope, fit_or, with_below, typed}
 use Rattle.expr_types.specs.declared.fault.TypeFault.{TypeFault}
 use Rattle.expr_types.specs.declared.fits.Fit.{Fit}
 use Rattle.expr_types.specs.declared.fits.Fit.TheVariants.{Always, Maybe, Never}
@@ -33,7 +33,7 @@ IsOk (Err f) = ⊥
 
 -- well typed under a want, in all scopes and at all paths
 abbrev pub IsTypedUnder : Want → Term → Type 0
-IsTypedUnder want e = (scope : Scope) (path : List PathPart) → IsOk (typed e want scope path)
+IsTypedUnder want e = (scope : KindScope) (path : List PathPart) → IsOk (typed e want scope path)
 
 abbrev pub MayFit : Fit → Type 0
 MayFit Always = Unit {0}

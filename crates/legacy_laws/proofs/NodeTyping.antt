@@ -22,7 +22,7 @@ use Rattle.expr_types.specs.ArgumentPaths.{argument_path}
 use Rattle.expr_types.specs.Fits.{fits}
 use Rattle.expr_types.specs.Own.{owns, common_kind}
 use Rattle.expr_types.specs.OwnTable.{own}
-use Rattle.expr_types.specs.Typing.{Found, Typed, Scope, fit_or, looked_at, is_sequence_of, argument_want, and_found}
+use Rattle.expr_types.specs.Typing.{TypedNodes, Typed, KindScope, fit_or, looked_at, is_sequence_of, argument_want, and_found}
 use Rattle.expr_types.specs.Typing.{founds_of, kinds_in, all_may, all_places, then_found, finished, typed_as, typed, typings}
 use Rattle.expr_types.specs.Typing.{literals}
 use Rattle.expr_types.specs.declared.fault.TypeFault.{TypeFault}
@@ -77,7 +77,7 @@ equal_typed None (word s) scope path = tt
 -- ---- arguments
 
 abbrev pub Founds : Type 0
-Founds = Result (List Found) TypeFault
+Founds = Result (List TypedNodes) TypeFault
 
 pub argument_is_ok : (r : Typed) (path : List PathPart) (later : Founds) → IsOk r → IsOk later
     → IsOk (and_found (looked_at false r path) later)
@@ -114,7 +114,7 @@ text_wanted (wants.List i n) h = absurd (cc)
 text_wanted (wants.Enum c) h = absurd (cc)
 text_wanted (wants.EnumList c) h = absurd (cc)
 
-parts_typed : (ps : List Part) (m k : ℕ) (want : Want) (scope : Scope) (path : List PathPart)
+parts_typed : (ps : List Part) (m k : ℕ) (want : Want) (scope : KindScope) (path : List PathPart)
     → IsOk (founds_of operators.Concat m k (typings (terms_of (map part_term ps))) want scope path)
 parts_typed [] m k want scope path = tt
 parts_typed ((false, s) ∷ ps) m k want scope path =
@@ -205,7 +205,7 @@ AreTypedUnder want (x ∷ xs) = IsTypedUnder want x.1 × AreTypedUnder want xs
 behind_first : (k : ℕ) → 0 < k → nat_eq k 0 ≡ false
 behind_first k some = ne_eqb k 0 (λ p. omega (arith, some, p))
 
-module _ (want : Want) (scope : Scope) (path : List PathPart) where
+module _ (want : Want) (scope : KindScope) (path : List PathPart) where
   -- what is found of an argument, and of those after it
   abbrev and_later : Operator → ℕ → ℕ → Term → Founds → Founds
   and_later op m k e later =

@@ -20,7 +20,7 @@ use Rattle.legacy_filters.specs.declared.filter.Test.{Test}
 use Rattle.legacy_filters.specs.declared.filter.Test.TheVariants.{Has, HasNot, Equal, NotEqual, Ordered, Among, NotAmong}
 use Rattle.legacy_filters.specs.Split.{is_named}
 use Rattle.legacy_filters.specs.Filter.{Filter, flag, test, group, Filters, no_filters, filter}
-use Rattle.legacy_filters.specs.Form.{Read, Reader, ill_formed, key_named, shape_scalar, number_scalar, plain_scalar}
+use Rattle.legacy_filters.specs.Form.{FilterRead, FilterReader, ill_formed, key_named, shape_scalar, number_scalar, plain_scalar}
 use Rattle.legacy_filters.specs.Form.{scalar_form, alone, one_scalar, ordered_scalar, and_scalar, scalars_form}
 use Rattle.legacy_filters.specs.Form.{test_form, keyed_form, or_ill_formed, group_named, and_filter, parts_form}
 use Rattle.legacy_filters.specs.Form.{grouped, most_open, unless_group, form, array_form, forms, reading}
@@ -175,7 +175,7 @@ test_is_sound name key ts =
 
 -- ---- filters that were read
 
-abbrev ReadsSound : Read → Type 0
+abbrev ReadsSound : FilterRead → Type 0
 ReadsSound (Ok f) = IsSound f
 ReadsSound (Err fault) = Unit {0}
 
@@ -183,10 +183,10 @@ abbrev ReadSound : Result Filters FilterFault → Type 0
 ReadSound (Ok fs) = AreSound fs
 ReadSound (Err fault) = Unit {0}
 
-abbrev GivesSound : Reader → Type 0
+abbrev GivesSound : FilterReader → Type 0
 GivesSound r = (count : ℕ) (path : List PathPart) → ReadsSound (r count path)
 
-abbrev GiveSound : List Reader → Type 0
+abbrev GiveSound : List FilterReader → Type 0
 GiveSound [] = Unit {0}
 GiveSound (r ∷ rs) = GivesSound r × GiveSound rs
 
@@ -207,13 +207,13 @@ keyed_is_sound name (tree (text key) ts) path =
 keyed_is_sound name (tree (list us) ts) path = tt
 keyed_is_sound name (tree (object fs) ts) path = tt
 
-filters_are_sound : (r : Read) (later : Result Filters FilterFault) → ReadsSound r → ReadSound later
+filters_are_sound : (r : FilterRead) (later : Result Filters FilterFault) → ReadsSound r → ReadSound later
     → ReadSound (and_filter r later)
 filters_are_sound (Ok f) (Ok fs) h k = (h, k)
 filters_are_sound (Ok f) (Err fault) h k = tt
 filters_are_sound (Err fault) later h k = tt
 
-parts_are_sound : (i : ℕ) (rs : List Reader) (count : ℕ) (path : List PathPart) → GiveSound rs
+parts_are_sound : (i : ℕ) (rs : List FilterReader) (count : ℕ) (path : List PathPart) → GiveSound rs
     → ReadSound (parts_form i rs count path)
 parts_are_sound i [] count path h = tt
 parts_are_sound i (r ∷ rs) count path h =
@@ -224,12 +224,12 @@ grouped_is_sound : (g : Group) (r : Result Filters FilterFault) → ReadSound r 
 grouped_is_sound g (Ok fs) h = h
 grouped_is_sound g (Err fault) h = tt
 
-if_is_sound : (b : Bool) (r : Read) (path : List PathPart) → ReadsSound r
+if_is_sound : (b : Bool) (r : FilterRead) (path : List PathPart) → ReadsSound r
     → ReadsSound (if b then r else ill_formed path)
 if_is_sound true r path h = h
 if_is_sound false r path h = tt
 
-named_is_sound : (o : Option Group) (name : List ℕ) (ts : Trees) (rs : List Reader) (count : ℕ)
+named_is_sound : (o : Option Group) (name : List ℕ) (ts : Trees) (rs : List FilterReader) (count : ℕ)
     (path : List PathPart) → GiveSound rs → ReadsSound (unless_group o name ts rs count path)
 named_is_sound (Some g) name ts rs count path h =
     let parts = parts_form 1 rs (count + 1) path in

@@ -11,10 +11,10 @@ use Rattle.expr_syntax.specs.declared.expression.Operator.TheVariants as operato
 use Rattle.expr_syntax.specs.declared.fault.SynCode.{SynCode}
 use Rattle.expr_syntax.specs.declared.fault.SynCode.TheVariants as code
 use Rattle.expr_syntax.specs.declared.rows.Arity.TheVariants.{EvenFrom}
-use Rattle.expr_syntax.specs.declared.rows.Layout.{Layout}
-use Rattle.expr_syntax.specs.declared.rows.Layout.TheVariants.{Stops, Ramp}
-use Rattle.expr_syntax.specs.declared.rows.Place.{Place}
-use Rattle.expr_syntax.specs.declared.rows.Place.TheVariants.{Part, Argument, Output}
+use Rattle.expr_syntax.specs.declared.rows.ElementLayout.{ElementLayout}
+use Rattle.expr_syntax.specs.declared.rows.ElementLayout.TheVariants.{Stops, Ramp}
+use Rattle.expr_syntax.specs.declared.rows.ElementPlace.{ElementPlace}
+use Rattle.expr_syntax.specs.declared.rows.ElementPlace.TheVariants.{Part, Argument, Output}
 use Rattle.expr_syntax.specs.Elements.{Element, taken}
 use Rattle.expr_syntax.specs.Parts.{curve_of, inputs_of, input_of, steps_up, value_in, and_input, with_inputs, ramp_operator, base_of}
 use Rattle.expr_syntax.specs.Reading.{Reader, read, options, arguments, then_node, is_part, with_operator, at}
@@ -41,7 +41,7 @@ AreBranches (b ∷ bs) (x ∷ xs) =
     ((read_text b.0.spelled ≡ Ok x.0.value) × IsReadAs b.1 x.1) × AreBranches bs xs
 
 -- inputs are parts, and outputs are not
-record TakesStops (layout : Layout) : Type 0 where
+record TakesStops (layout : ElementLayout) : Type 0 where
   inputs : (n i : ℕ) → 3 ≤ i → i % 2 ≡ 1 → is_part (element_place layout n i) ≡ true
   outputs : (n i : ℕ) → 3 ≤ i → i % 2 ≡ 0 → is_part (element_place layout n i) ≡ false
 
@@ -57,7 +57,7 @@ even_is_none i many h =
     let is : is_even i ≡ true = eq-eqb (i % 2) 0 h in
     λ j. third j && not (is j)
 
-abbrev stop_place : Bool → Bool → Bool → Place
+abbrev stop_place : Bool → Bool → Bool → ElementPlace
 stop_place is_name is_value is_input =
     if is_name then Part else if is_value then Argument else if is_input then Part else Output
 
@@ -96,7 +96,7 @@ ramp_elements = record { inputs = inputs_of_ramp; outputs = outputs_of_ramp }
         let b : is_even i ≡ true = eq-eqb (i % 2) 0 h in
         λ j. is_part (if a j then Part else if b j then Argument else Part)
 
-branches_read : (layout : Layout) → TakesStops layout → (bs : Branches) (xs : TermBranches) → AreBranches bs xs
+branches_read : (layout : ElementLayout) → TakesStops layout → (bs : Branches) (xs : TermBranches) → AreBranches bs xs
     → (n i : ℕ) → 3 ≤ i → i % 2 ≡ 1 → (scope : Scope) (path : List PathPart)
     → arguments layout n i (readers (branch_elements bs)) scope scope path ≡ Ok (branch_terms xs)
 branches_read layout takes [] [] h n i many odd scope path = refl
@@ -158,7 +158,7 @@ inputs_read (b ∷ bs) (x ∷ xs) h before climbs n i many odd =
 
 -- ---- `step`
 
-abbrev stops_node : Layout → Bool → Result Operator SynCode → List Tree → Reader
+abbrev stops_node : ElementLayout → Bool → Result Operator SynCode → List Tree → Reader
 stops_node layout is_enough op ts scope path =
     unless_few is_enough (with_operator layout (readers ts) op scope path) path
 

@@ -10,7 +10,7 @@ use Rattle.expr_syntax.specs.Reading.{reading_with}
 use Rattle.expr_syntax.specs.Term.{Term}
 use Rattle.expr_types.specs.Checked.{checked}
 use Rattle.expr_types.specs.Own.{faults_if}
-use Rattle.expr_types.specs.Typing.{Found}
+use Rattle.expr_types.specs.Typing.{TypedNodes}
 use Rattle.eval_face.specs.Meaning.{mean}
 use Rattle.eval_face.specs.World.{feature_world}
 use Rattle.legacy_filters.specs.declared.filter.Test.{Test}
@@ -71,7 +71,7 @@ abbrev pub MigratedFiltersAreTyped : Type 0
 MigratedFiltersAreTyped =
     (t : Tree) (f : Filter) → legacy.reading t ≡ Ok f →
     (e : Term) (values : List (List ℕ × Data)) → reading_with (expression f) values ≡ Ok (Some e) →
-    (found : Found) × (checked e wants.Boolean None ≡ Ok found) × (found.node.kind ≡ kinds.Boolean)
+    (found : TypedNodes) × (checked e wants.Boolean None ≡ Ok found) × (found.node.kind ≡ kinds.Boolean)
     × (found.node.may ≡ faults_if (has_order f) NotOrdered)
 
 -- ---- migrating again

@@ -15,12 +15,12 @@ use Rattle.expr_syntax.specs.Reading.{reading_with}
 use Rattle.expr_syntax.specs.Term.{Term}
 use Rattle.expr_syntax.specs.declared.world_parts.Mentions.{Mentions}
 use Rattle.expr_types.specs.Checked.{checked}
-use Rattle.expr_types.specs.Typing.{Found}
+use Rattle.expr_types.specs.Typing.{TypedNodes}
 use Rattle.operator_values.specs.Evaluated.{Evaluated}
 use Rattle.eval_face.specs.Meaning.{mean}
 use Rattle.eval_face.specs.World.{feature_world}
 use Rattle.legacy_functions.specs.Function.{Spelled, Output, literal, tokens, Way, even, curved, stepped}
-use Rattle.legacy_functions.specs.Function.{Rule, numeric, categorical, Body, plain, zoomed, identity}
+use Rattle.legacy_functions.specs.Function.{PropertyRule, numeric, categorical, Body, plain, zoomed, identity}
 use Rattle.legacy_functions.specs.Function.{Function, has_zooms}
 use Rattle.legacy_functions.specs.Form as legacy
 use Rattle.legacy_functions.specs.Meaning.{value_of, zoom_way}
@@ -75,14 +75,14 @@ MigratedFunctionsAreTyped =
     legacy.form row t ≡ Some (Some f) →
     IsAllowedOn row f → (e : Term) (values : List (List ℕ × Data)) →
     reading_with (function_expression row f) values ≡ Ok (Some e) →
-    (found : Found) × (checked e row.want (Some row) ≡ Ok found)
+    (found : TypedNodes) × (checked e row.want (Some row) ≡ Ok found)
 
 -- The expression of a token text is well typed as a value of each row that takes token texts.
 abbrev pub MigratedTokenTextsAreTyped : Type 0
 MigratedTokenTextsAreTyped =
     (row : RowData) (s : List ℕ) → IsTableRow row → row.takes_tokens ≡ true →
     (e : Term) (values : List (List ℕ × Data)) → reading_with (token_expression s) values ≡ Ok (Some e) →
-    (found : Found) × (checked e row.want (Some row) ≡ Ok found)
+    (found : TypedNodes) × (checked e row.want (Some row) ≡ Ok found)
 
 -- ---- what is read of the world
 
@@ -97,7 +97,7 @@ asks_input (curved base) stops = true
 asks_input stepped stops = has_several stops
 
 -- one rule is over the zoom where there is no property
-abbrev pub rule_asks_zoom : Option (List ℕ) → Rule → Bool
+abbrev pub rule_asks_zoom : Option (List ℕ) → PropertyRule → Bool
 rule_asks_zoom (Some name) rule = false
 rule_asks_zoom None (numeric way stops) = asks_input way stops
 rule_asks_zoom None (categorical stops) = false

@@ -14,7 +14,7 @@ use Rattle.property_tables.specs.Literals.{has_form, keeps_limits, literal_read,
 use Rattle.property_tables.specs.Rows.{RowData}
 use Rattle.legacy_functions.specs.Form as legacy
 use Rattle.legacy_functions.specs.Function.{Spelled, Output, literal, tokens, Way, even, curved, stepped}
-use Rattle.legacy_functions.specs.Function.{Rule, numeric, categorical, Body, plain, zoomed, identity, Function}
+use Rattle.legacy_functions.specs.Function.{PropertyRule, numeric, categorical, Body, plain, zoomed, identity, Function}
 use Rattle.legacy_functions.specs.Meaning.{zoom_way}
 use Rattle.legacy_functions.specs.ToExpression.{output_expression, way_expression, stop_branches, zoom_expression}
 use Rattle.legacy_functions.specs.ToExpression.{rule_expression, rule_branches, named_property}
@@ -94,12 +94,12 @@ module _ (row : RowData) (regular : IsRegular row) where
   over_zoom stepped (s ∷ []) h some = output_forms s.1 h.0.1
   over_zoom stepped (s ∷ t ∷ ss) h some = inl refl
 
-  rule_is_call : (property default : Tree) (rule : Rule)
+  rule_is_call : (property default : Tree) (rule : PropertyRule)
       → is_expression (rule_expression property default rule) ≡ true
   rule_is_call property default (numeric way stops) = refl
   rule_is_call property default (categorical stops) = refl
 
-  over_zooms : (way : Way) (property default : Tree) (rs : List (Spelled × Rule)) → HasSome rs
+  over_zooms : (way : Way) (property default : Tree) (rs : List (Spelled × PropertyRule)) → HasSome rs
       → is_expression (way_expression way zoom_expression (rule_branches property default rs)) ≡ true
   over_zooms even property default rs some = refl
   over_zooms (curved base) property default rs some = refl

@@ -6,7 +6,7 @@ use Rattle.prop_values.specs.Data.{Data}
 use Rattle.expr_syntax.specs.Reading.{reading_with}
 use Rattle.expr_plain.specs.Resolved.{passes}
 use Rattle.legacy_filters.specs.Filter.{Filter}
-use Rattle.legacy_filters.specs.Form.{Read, reading}
+use Rattle.legacy_filters.specs.Form.{FilterRead, reading}
 use Rattle.legacy_filters.specs.Laws.{NoExpressionIsLegacy}
 use Rattle.legacy_filters.specs.Migrated.{expression_or_itself}
 use Rattle.legacy_filters.specs.Split.{is_legacy}
@@ -18,7 +18,7 @@ use Rattle.style_layout.specs.Forms.{expression_value, expression_mentions}
 use Rattle.migrate_laws.specs.MigratedLaw.{LetsTheSamePass, filter_mentions, MigratedFiltersAreTheSame}
 
 module _ (globals : List (List ℕ × Data)) where
-  abbrev filter_by : Bool → Read → Tree → LayerFilter
+  abbrev filter_by : Bool → FilterRead → Tree → LayerFilter
   filter_by b r t = if b then legacy_of r else condition_of (reading_with t globals)
 
   itself : (s : LayerFilter) → LetsTheSamePass s s
@@ -42,7 +42,7 @@ module _ (globals : List (List ℕ × Data)) where
         outside = refl;
       })
 
-  filter_same : ExpressionsMeanTheirFilters → NoExpressionIsLegacy → (t : Tree) (b : Bool) (r : Read)
+  filter_same : ExpressionsMeanTheirFilters → NoExpressionIsLegacy → (t : Tree) (b : Bool) (r : FilterRead)
       → is_legacy t ≡ b → reading t ≡ r
       → LetsTheSamePass (layer_filter globals (Some (if b then expression_or_itself r t else t)))
       (layer_filter globals (Some t))
@@ -62,7 +62,7 @@ module _ (globals : List (List ℕ × Data)) where
       let is = ap (λ b. filter_by b (reading new) new) (none t f read) ∙ ap condition_of (reads globals) in
       ap (filter_mentions globals) is ∙ sym (ap (λ r. expression_mentions (expression_value r)) (reads globals))
 
-  mentions_same : ExpressionsMeanTheirFilters → NoExpressionIsLegacy → (t : Tree) (b : Bool) (r : Read)
+  mentions_same : ExpressionsMeanTheirFilters → NoExpressionIsLegacy → (t : Tree) (b : Bool) (r : FilterRead)
       → is_legacy t ≡ b → reading t ≡ r
       → filter_mentions globals (layer_filter globals (Some (if b then expression_or_itself r t else t)))
       ≡ filter_mentions globals (layer_filter globals (Some t))

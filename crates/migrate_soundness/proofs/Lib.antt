@@ -1,4 +1,4 @@
 pub mod MemberLists
-pub mod ToldAlike
+pub mod ReportedAlike
 pub mod SoundParts
 pub mod SoundDocuments

@@ -19,11 +19,11 @@ use Rattle.property_tables.specs.declared.property_row.Place.{Place}
 use Rattle.property_tables.specs.declared.property_row.Place.TheVariants.{Layout, Paint}
 use Rattle.style_parts.specs.Parts.{equals_id, layers_of, sources_of, is_layers}
 use Rattle.value_forms.specs.LayerTypes.{layer_type, tested_type, place_named}
-use Rattle.style_rules.specs.Findings.{told, told_or}
-use Rattle.style_rules.specs.Ground.{Ground, sources_for, named_type, ground_of}
-use Rattle.style_rules.specs.Levels.{fields_told, fields_or_none, items_or_none, property_told, member_told}
-use Rattle.style_rules.specs.Levels.{grounded_told, layer_told, layers_told, named_told}
-use Rattle.style_rules.specs.Levels.{document_told, WalksByLevels}
+use Rattle.style_rules.specs.Findings.{reports, reports_or}
+use Rattle.style_rules.specs.LayerContext.{LayerContext, sources_for, named_type, context_of}
+use Rattle.style_rules.specs.Levels.{fields_reports, fields_or_none, items_or_none, property_reports, member_reports}
+use Rattle.style_rules.specs.Levels.{context_reports, layer_reports, layers_reports, named_reports}
+use Rattle.style_rules.specs.Levels.{document_reports, WalksByLevels}
 use Rattle.style_rules.specs.Places.{unless_broken, least_broken, root_mark, root_member_mark}
 use Rattle.style_rules.specs.Places.{properties_mark, row_mark, used_in}
 use Rattle.style_rules.specs.Rules.{is_on_vector, count_of}
@@ -35,8 +35,8 @@ use Rattle.migrate_laws.proofs.MigratedParts.{kept_member, migrated_layers}
 use Rattle.migrate_soundness.specs.SoundnessLaw.{HasDistinctMembers, SoundDocumentsStaySound}
 use Rattle.migrate_soundness.specs.SoundnessLaw.{SoundDocumentsKeepTheirNotes}
 use Rattle.migrate_soundness.proofs.MemberLists.{members_back, distinct_kept}
-use Rattle.migrate_soundness.proofs.ToldAlike.{ToldList, IsToldAlike, told_itself, told_same, both_alike}
-use Rattle.migrate_soundness.proofs.ToldAlike.{fields_alike, IsMarkedAlike, marked_same, rules_alike}
+use Rattle.migrate_soundness.proofs.ReportedAlike.{ToldList, IsReportedAlike, reports_itself, reports_same, both_alike}
+use Rattle.migrate_soundness.proofs.ReportedAlike.{fields_alike, IsMarkedAlike, marked_same, rules_alike}
 use Rattle.migrate_soundness.proofs.SoundParts.{HaveSoundExpressions, value_alike, filter_alike}
 
 is_key : (k key : List ℕ) → bytes_eq k key ≡ true → k ≡ key
@@ -67,34 +67,34 @@ object_kept change (list ts) = refl
 object_kept change (object fs) = refl
 
 values_alike : (tell later : List ℕ → Tree → ToldList) (change : List ℕ → Tree → Tree)
-    → ((k : List ℕ) (t : Tree) → IsToldAlike (tell k t) (later k (change k t)))
-    → (t : Tree) → IsToldAlike (fields_told tell (fields_or_none t))
-    (fields_told later (fields_or_none (with_values change t)))
-values_alike tell later change each null = told_itself []
-values_alike tell later change each (boolean b) = told_itself []
-values_alike tell later change each (number n) = told_itself []
-values_alike tell later change each (text s) = told_itself []
-values_alike tell later change each (list ts) = told_itself []
+    → ((k : List ℕ) (t : Tree) → IsReportedAlike (tell k t) (later k (change k t)))
+    → (t : Tree) → IsReportedAlike (fields_reports tell (fields_or_none t))
+    (fields_reports later (fields_or_none (with_values change t)))
+values_alike tell later change each null = reports_itself []
+values_alike tell later change each (boolean b) = reports_itself []
+values_alike tell later change each (number n) = reports_itself []
+values_alike tell later change each (text s) = reports_itself []
+values_alike tell later change each (list ts) = reports_itself []
 values_alike tell later change each (object fs) = fields_alike tell later change each fs
 
 -- ---- a layer
 
-abbrev ground_with : Option Fields → Option LayerType → Option (List ℕ) → Ground
-ground_with sources type name = record {
+abbrev context_with : Option Fields → Option LayerType → Option (List ℕ) → LayerContext
+context_with sources type name = record {
   type = type;
   sources = sources_for sources type;
   source_type = named_type (sources_for sources type) name;
 }
 
-ground_kept : (sources : Option Fields) (layer : Tree)
-    → ground_of sources (migrated_layer layer) ≡ ground_of sources layer
-ground_kept sources layer =
+context_kept : (sources : Option Fields) (layer : Tree)
+    → context_of sources (migrated_layer layer) ≡ context_of sources layer
+context_kept sources layer =
     let type = type_kept layer in
     let source = kept_member (codes "source") layer refl refl in
-    λ i. ground_with sources (type i) (option_and_then text_in (source i))
+    λ i. context_with sources (type i) (option_and_then text_in (source i))
 
 -- the rules that are tested at a layer, by which members it has
-abbrev layer_rules : Ground → (form id type ref source source_layer : Bool) → List (ℕ × Bool)
+abbrev layer_rules : LayerContext → (form id type ref source source_layer : Bool) → List (ℕ × Bool)
 layer_rules grounds form id type ref source source_layer =
     (6, form) ∷
     (7, id) ∷
@@ -102,12 +102,12 @@ layer_rules grounds form id type ref source source_layer =
     (10, not (is_some grounds.sources) || source) ∷
     (12, not (is_on_vector grounds) || source_layer) ∷ []
 
-abbrev rules_of_layer : Ground → Tree → List (ℕ × Bool)
+abbrev rules_of_layer : LayerContext → Tree → List (ℕ × Bool)
 rules_of_layer grounds layer =
     layer_rules grounds (is_object layer) (has (codes "id") layer) (has (codes "type") layer)
     (has (codes "ref") layer) (has (codes "source") layer) (has (codes "source-layer") layer)
 
-layer_rules_kept : (grounds : Ground) (layer : Tree)
+layer_rules_kept : (grounds : LayerContext) (layer : Tree)
     → rules_of_layer grounds (migrated_layer layer) ≡ rules_of_layer grounds layer
 layer_rules_kept grounds layer =
     let change = migrated_member (tested_type (layer_type layer)) in
@@ -130,46 +130,46 @@ module _ (laws : HaveSoundExpressions) where
   row_alike type place name None is t =
       marked_same (row_mark type place name None t) (row_mark type place name None t) refl
 
-  abbrev properties_told : Option LayerType → Place → List PathPart → Tree → ToldList
-  properties_told type place path t =
-      told_or (properties_mark type t) path
-      (fields_told (property_told type (Some place) path) (fields_or_none t))
+  abbrev properties_reports : Option LayerType → Place → List PathPart → Tree → ToldList
+  properties_reports type place path t =
+      reports_or (properties_mark type t) path
+      (fields_reports (property_reports type (Some place) path) (fields_or_none t))
 
   properties_alike : (type : Option LayerType) (place : Place) (path : List PathPart) (t : Tree)
-      → IsToldAlike (properties_told type place path t)
-      (properties_told type place path (migrated_properties type (Some place) t))
-  properties_alike None place path t = told_itself (properties_told None place path t)
+      → IsReportedAlike (properties_reports type place path t)
+      (properties_reports type place path (migrated_properties type (Some place) t))
+  properties_alike None place path t = reports_itself (properties_reports None place path t)
   properties_alike (Some type) place path t =
       let change = migrated_property type place in
-      let tell = property_told (Some type) (Some place) path in
-      let below = fields_told tell (fields_or_none t) in
-      let later = fields_told tell (fields_or_none (with_values change t)) in
+      let tell = property_reports (Some type) (Some place) path in
+      let below = fields_reports tell (fields_or_none t) in
+      let later = fields_reports tell (fields_or_none (with_values change t)) in
       let each = values_alike tell tell change
       (λ name u. row_alike type place name (row_of type place name) refl u (path ++ Key name ∷ [])) t in
-      let old = told_or (unless_broken 14 (is_object t)) path below in
-      subst (λ b. IsToldAlike old (told_or (unless_broken 14 b) path later))
+      let old = reports_or (unless_broken 14 (is_object t)) path below in
+      subst (λ b. IsReportedAlike old (reports_or (unless_broken 14 b) path later))
       (sym (object_kept change t)) (rules_alike ((14, is_object t) ∷ []) path below later each)
 
   -- ---- members of a layer
 
-  abbrev MemberIsAlike : Ground → (List ℕ → Bool) → List PathPart → List ℕ → Tree → Type 0
+  abbrev MemberIsAlike : LayerContext → (List ℕ → Bool) → List PathPart → List ℕ → Tree → Type 0
   MemberIsAlike grounds used path m t =
-      IsToldAlike (member_told grounds used path m t)
-      (member_told grounds used path m (migrated_member (tested_type grounds.type) m t))
+      IsReportedAlike (member_reports grounds used path m t)
+      (member_reports grounds used path m (migrated_member (tested_type grounds.type) m t))
 
-  other_alike : (grounds : Ground) (used : List ℕ → Bool) (path : List PathPart) (m : List ℕ) (t : Tree)
+  other_alike : (grounds : LayerContext) (used : List ℕ → Bool) (path : List PathPart) (m : List ℕ) (t : Tree)
       → bytes_eq m (codes "filter") ≡ false → place_named m ≡ None → MemberIsAlike grounds used path m t
   other_alike grounds used path m t no_filter no_place =
       let type = tested_type grounds.type in
-      told_same (member_told grounds used path m t)
-      (member_told grounds used path m (migrated_member type m t))
-      (ap (member_told grounds used path m) (member_kept type m no_filter no_place t))
+      reports_same (member_reports grounds used path m t)
+      (member_reports grounds used path m (migrated_member type m t))
+      (ap (member_reports grounds used path m) (member_kept type m no_filter no_place t))
 
   no_place_named : (m : List ℕ) → bytes_eq m (codes "layout") ≡ false → bytes_eq m (codes "paint") ≡ false
       → place_named m ≡ None
   no_place_named m no_layout no_paint = rw (no_layout, no_paint) refl
 
-  member_alike : (grounds : Ground) (used : List ℕ → Bool) (path : List PathPart) (m : List ℕ) (t : Tree)
+  member_alike : (grounds : LayerContext) (used : List ℕ → Bool) (path : List PathPart) (m : List ℕ) (t : Tree)
       → MemberIsAlike grounds used path m t
   member_alike grounds used path m t =
       let type = tested_type grounds.type in
@@ -193,36 +193,36 @@ module _ (laws : HaveSoundExpressions) where
 
   -- ---- layers
 
-  grounded_alike : (sources : Option Fields) (used : List ℕ → Bool) (path : List PathPart) (layer : Tree)
-      → IsToldAlike (layer_told sources used path layer)
-      (grounded_told (ground_of sources layer) used path (migrated_layer layer))
-  grounded_alike sources used path layer =
-      let grounds = ground_of sources layer in
+  context_alike : (sources : Option Fields) (used : List ℕ → Bool) (path : List PathPart) (layer : Tree)
+      → IsReportedAlike (layer_reports sources used path layer)
+      (context_reports (context_of sources layer) used path (migrated_layer layer))
+  context_alike sources used path layer =
+      let grounds = context_of sources layer in
       let change = migrated_member (tested_type (layer_type layer)) in
-      let tell = member_told grounds used path in
-      let below = fields_told tell (fields_or_none layer) in
-      let later = fields_told tell (fields_or_none (with_values change layer)) in
+      let tell = member_reports grounds used path in
+      let below = fields_reports tell (fields_or_none layer) in
+      let later = fields_reports tell (fields_or_none (with_values change layer)) in
       let members = values_alike tell tell change (member_alike grounds used path) layer in
-      subst (λ rs. IsToldAlike (layer_told sources used path layer) (told_or (least_broken rs) path later))
+      subst (λ rs. IsReportedAlike (layer_reports sources used path layer) (reports_or (least_broken rs) path later))
       (sym (layer_rules_kept grounds layer))
       (rules_alike (rules_of_layer grounds layer) path below later members)
 
   layer_alike : (sources : Option Fields) (used : List ℕ → Bool) (path : List PathPart) (layer : Tree)
-      → IsToldAlike (layer_told sources used path layer) (layer_told sources used path (migrated_layer layer))
+      → IsReportedAlike (layer_reports sources used path layer) (layer_reports sources used path (migrated_layer layer))
   layer_alike sources used path layer =
-      let old = layer_told sources used path layer in
-      subst (λ grounds. IsToldAlike old (grounded_told grounds used path (migrated_layer layer)))
-      (sym (ground_kept sources layer)) (grounded_alike sources used path layer)
+      let old = layer_reports sources used path layer in
+      subst (λ grounds. IsReportedAlike old (context_reports grounds used path (migrated_layer layer)))
+      (sym (context_kept sources layer)) (context_alike sources used path layer)
 
   layers_alike : (sources : Option Fields) (used : ℕ → List ℕ → Bool) (path : List PathPart) (i : ℕ)
-      (ts : Trees) → IsToldAlike (layers_told sources used path i ts)
-      (layers_told sources used path i (mapped_items migrated_layer ts))
-  layers_alike sources used path i no_trees = told_itself []
+      (ts : Trees) → IsReportedAlike (layers_reports sources used path i ts)
+      (layers_reports sources used path i (mapped_items migrated_layer ts))
+  layers_alike sources used path i no_trees = reports_itself []
   layers_alike sources used path i (tree t ts) =
-      both_alike (layer_told sources (used i) (path ++ Index i ∷ []) t)
-      (layers_told sources used path (i + 1) ts)
-      (layer_told sources (used i) (path ++ Index i ∷ []) (migrated_layer t))
-      (layers_told sources used path (i + 1) (mapped_items migrated_layer ts))
+      both_alike (layer_reports sources (used i) (path ++ Index i ∷ []) t)
+      (layers_reports sources used path (i + 1) ts)
+      (layer_reports sources (used i) (path ++ Index i ∷ []) (migrated_layer t))
+      (layers_reports sources used path (i + 1) (mapped_items migrated_layer ts))
       (layer_alike sources (used i) (path ++ Index i ∷ []) t)
       (layers_alike sources used path (i + 1) ts)
 
@@ -233,33 +233,33 @@ module _ (laws : HaveSoundExpressions) where
   count_kept (tree t ts) = ap suc (count_kept ts)
 
   -- by the sources of the document, and the ids that its layers use
-  abbrev part_told : Option Fields → (ℕ → List ℕ → Bool) → List ℕ → Tree → ToldList
-  part_told sources used k t =
-      told_or (root_member_mark k t) (Key k ∷ []) (
-      if is_layers k then layers_told sources used (Key k ∷ []) 0 (items_or_none t) else
+  abbrev part_reports : Option Fields → (ℕ → List ℕ → Bool) → List ℕ → Tree → ToldList
+  part_reports sources used k t =
+      reports_or (root_member_mark k t) (Key k ∷ []) (
+      if is_layers k then layers_reports sources used (Key k ∷ []) 0 (items_or_none t) else
       if bytes_eq k (codes "sources") || bytes_eq k (codes "state") then
-      fields_told (named_told k (Key k ∷ [])) (fields_or_none t) else
+      fields_reports (named_reports k (Key k ∷ [])) (fields_or_none t) else
       []
       )
 
   abbrev PartIsAlike : Option Fields → (ℕ → List ℕ → Bool) → List ℕ → Tree → Type 0
   PartIsAlike sources used k t =
-      IsToldAlike (part_told sources used k t) (part_told sources used k (migrated_part k t))
+      IsReportedAlike (part_reports sources used k t) (part_reports sources used k (migrated_part k t))
 
   layers_part : (sources : Option Fields) (used : ℕ → List ℕ → Bool) (t : Tree)
       → PartIsAlike sources used (codes "layers") t
-  layers_part sources used null = told_itself (part_told sources used (codes "layers") null)
-  layers_part sources used (boolean b) = told_itself (part_told sources used (codes "layers") (boolean b))
-  layers_part sources used (number n) = told_itself (part_told sources used (codes "layers") (number n))
-  layers_part sources used (text s) = told_itself (part_told sources used (codes "layers") (text s))
-  layers_part sources used (object fs) = told_itself (part_told sources used (codes "layers") (object fs))
+  layers_part sources used null = reports_itself (part_reports sources used (codes "layers") null)
+  layers_part sources used (boolean b) = reports_itself (part_reports sources used (codes "layers") (boolean b))
+  layers_part sources used (number n) = reports_itself (part_reports sources used (codes "layers") (number n))
+  layers_part sources used (text s) = reports_itself (part_reports sources used (codes "layers") (text s))
+  layers_part sources used (object fs) = reports_itself (part_reports sources used (codes "layers") (object fs))
   layers_part sources used (list ts) =
       let path = Key (codes "layers") ∷ [] in
-      let below = layers_told sources used path 0 ts in
-      let later = layers_told sources used path 0 (mapped_items migrated_layer ts) in
-      let old = part_told sources used (codes "layers") (list ts) in
+      let below = layers_reports sources used path 0 ts in
+      let later = layers_reports sources used path 0 (mapped_items migrated_layer ts) in
+      let old = part_reports sources used (codes "layers") (list ts) in
       let each = layers_alike sources used path 0 ts in
-      subst (λ n. IsToldAlike old (told_or (unless_broken 5 (nat_le n 65536)) path later))
+      subst (λ n. IsReportedAlike old (reports_or (unless_broken 5 (nat_le n 65536)) path later))
       (sym (count_kept ts))
       (rules_alike ((5, nat_le (count_of ts) 65536) ∷ []) path below later each)
 
@@ -270,8 +270,8 @@ module _ (laws : HaveSoundExpressions) where
         subst (λ key. PartIsAlike sources used key t) (sym (is_key k (codes "layers") is))
         (layers_part sources used t)
     | inr other ↦
-        told_same (part_told sources used k t) (part_told sources used k (migrated_part k t))
-        (ap (λ b. part_told sources used k (if b then with_items migrated_layer t else t)) other)
+        reports_same (part_reports sources used k t) (part_reports sources used k (migrated_part k t))
+        (ap (λ b. part_reports sources used k (if b then with_items migrated_layer t else t)) other)
   ]
 
   -- ---- the document
@@ -295,17 +295,17 @@ module _ (laws : HaveSoundExpressions) where
   root_kept key (object fs) other =
       kept_at migrated_part key fs (λ t. ap (λ b. if b then with_items migrated_layer t else t) other)
 
-  told_kept : (document : Tree)
-      → part_told (sources_of (migrated document)) (used_in (layers_of (migrated document)))
-      ≡ part_told (sources_of document) (used_in (layers_of document))
-  told_kept document =
+  reports_kept : (document : Tree)
+      → part_reports (sources_of (migrated document)) (used_in (layers_of (migrated document)))
+      ≡ part_reports (sources_of document) (used_in (layers_of document))
+  reports_kept document =
       let sources = root_kept (codes "sources") document refl in
       let layers = migrated_layers document in
       let used = used_kept (layers_of document) in
-      let first : part_told (sources_of (migrated document)) (used_in (layers_of (migrated document)))
-      ≡ part_told (sources_of document) (used_in (mapped_items migrated_layer (layers_of document))) =
-      λ i. part_told (option_and_then fields_in (sources i)) (used_in (layers i)) in
-      first ∙ (λ i. part_told (sources_of document) (λ n id. used n id i))
+      let first : part_reports (sources_of (migrated document)) (used_in (layers_of (migrated document)))
+      ≡ part_reports (sources_of document) (used_in (mapped_items migrated_layer (layers_of document))) =
+      λ i. part_reports (option_and_then fields_in (sources i)) (used_in (layers i)) in
+      first ∙ (λ i. part_reports (sources_of document) (λ n id. used n id i))
 
   abbrev root_rules : (form version sources layers : Bool) → List (ℕ × Bool)
   root_rules form version sources layers = (1, form) ∷ (2, version && (sources && layers)) ∷ []
@@ -324,45 +324,45 @@ module _ (laws : HaveSoundExpressions) where
       λ i. root_rules (form i) (version i) (sources i) (layers i)
 
   -- what is reported of a migrated document, by what is reported of its members
-  abbrev migrated_told : Tree → (List ℕ → Tree → ToldList) → ToldList
-  migrated_told document tell =
-      told_or (root_mark (migrated document)) [] (fields_told tell (fields_or_none (migrated document)))
+  abbrev migrated_reports : Tree → (List ℕ → Tree → ToldList) → ToldList
+  migrated_reports document tell =
+      reports_or (root_mark (migrated document)) [] (fields_reports tell (fields_or_none (migrated document)))
 
-  levels_alike : (document : Tree) → IsToldAlike (document_told document) (document_told (migrated document))
+  levels_alike : (document : Tree) → IsReportedAlike (document_reports document) (document_reports (migrated document))
   levels_alike document =
-      let old = document_told document in
+      let old = document_reports document in
       let sources = sources_of document in
       let used = used_in (layers_of document) in
-      let tell = part_told sources used in
-      let below = fields_told tell (fields_or_none document) in
-      let later = fields_told tell (fields_or_none (migrated document)) in
+      let tell = part_reports sources used in
+      let below = fields_reports tell (fields_or_none document) in
+      let later = fields_reports tell (fields_or_none (migrated document)) in
       let parts = values_alike tell tell migrated_part (part_alike sources used) document in
       let by_rules = rules_alike (rules_of_root document) [] below later parts in
-      let at_root = subst (λ rs. IsToldAlike old (told_or (least_broken rs) [] later))
+      let at_root = subst (λ rs. IsReportedAlike old (reports_or (least_broken rs) [] later))
       (sym (root_rules_kept document)) by_rules in
-      subst (λ told. IsToldAlike old (migrated_told document told)) (sym (told_kept document)) at_root
+      subst (λ reports. IsReportedAlike old (migrated_reports document reports)) (sym (reports_kept document)) at_root
 
   -- ---- the walk goes by levels where the names of the root differ
 
   by_levels : WalksByLevels → (fs : Fields) → HasDistinctKeys (members_of fs)
-      → told (object fs) ≡ document_told (object fs)
+      → reports (object fs) ≡ document_reports (object fs)
   by_levels walks fs distinct =
-      subst (λ gs. told (object gs) ≡ document_told (object gs)) (members_back fs)
+      subst (λ gs. reports (object gs) ≡ document_reports (object gs)) (members_back fs)
       (walks (members_of fs) distinct)
 
   documents_alike : WalksByLevels → (document : Tree) → HasDistinctMembers document
-      → IsToldAlike (told document) (told (migrated document))
-  documents_alike walks null distinct = told_itself (told null)
-  documents_alike walks (boolean b) distinct = told_itself (told (boolean b))
-  documents_alike walks (number n) distinct = told_itself (told (number n))
-  documents_alike walks (text s) distinct = told_itself (told (text s))
-  documents_alike walks (list ts) distinct = told_itself (told (list ts))
+      → IsReportedAlike (reports document) (reports (migrated document))
+  documents_alike walks null distinct = reports_itself (reports null)
+  documents_alike walks (boolean b) distinct = reports_itself (reports (boolean b))
+  documents_alike walks (number n) distinct = reports_itself (reports (number n))
+  documents_alike walks (text s) distinct = reports_itself (reports (text s))
+  documents_alike walks (list ts) distinct = reports_itself (reports (list ts))
   documents_alike walks (object fs) distinct =
       let old = by_levels walks fs distinct in
       let new = by_levels walks (mapped_fields migrated_part fs) (distinct_kept migrated_part fs distinct) in
       let levels = levels_alike (object fs) in
-      subst (λ ts. IsToldAlike ts (told (migrated (object fs)))) (sym old)
-      (subst (λ ts. IsToldAlike (document_told (object fs)) ts) (sym new) levels)
+      subst (λ ts. IsReportedAlike ts (reports (migrated (object fs)))) (sym old)
+      (subst (λ ts. IsReportedAlike (document_reports (object fs)) ts) (sym new) levels)
 
   pub stay_sound : WalksByLevels → SoundDocumentsStaySound
   stay_sound walks document distinct none = (documents_alike walks document distinct none).findings

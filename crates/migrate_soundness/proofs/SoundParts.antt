@@ -15,7 +15,7 @@ use Rattle.property_tables.specs.Rows.{RowData}
 use Rattle.expr_syntax.specs.Reading.{reading}
 use Rattle.expr_syntax.specs.Term.{Term}
 use Rattle.expr_types.specs.Checked.{checked}
-use Rattle.expr_types.specs.Typing.{Found}
+use Rattle.expr_types.specs.Typing.{TypedNodes}
 use Rattle.legacy_filters.specs.Filter.{Filter}
 use Rattle.legacy_filters.specs.Form as filters
 use Rattle.legacy_filters.specs.Laws.{NoExpressionIsLegacy}
@@ -32,7 +32,7 @@ use Rattle.legacy_laws.specs.LegacyFilterLaw.{ExpressionsMeanTheirFilters, Migra
 use Rattle.legacy_laws.specs.LegacyFunctionLaw.{IsTableRow, IsAllowedOn}
 use Rattle.legacy_laws.specs.LegacyFunctionLaw.{ExpressionsMeanTheirFunctions, TokenExpressionsMeanTheirTexts}
 use Rattle.legacy_laws.specs.LegacyFunctionLaw.{MigratedFunctionsAreTyped, MigratedTokenTextsAreTyped}
-use Rattle.style_rules.specs.Findings.{told_or, findings_in}
+use Rattle.style_rules.specs.Findings.{reports_or, findings_in}
 use Rattle.style_rules.specs.Values.{literal_mark, typed_mark, read_mark, expression_mark}
 use Rattle.style_rules.specs.Values.{function_reads, function_mark, form_mark, value_mark}
 use Rattle.style_rules.specs.Values.{legacy_mark, filter_mark}
@@ -40,7 +40,7 @@ use Rattle.value_forms.specs.declared.forms.Form.TheVariants as forms
 use Rattle.style_migrate.specs.Migrated.{function_or, tokens_or, value_by_form, migrated_value}
 use Rattle.migrate_laws.proofs.FunctionForms.{IsBareLiteral, IsMigratedForm, function_forms}
 use Rattle.migrate_laws.proofs.StayingValues.{form_by, call_form, bare_form}
-use Rattle.migrate_soundness.proofs.ToldAlike.{Mark, IsSound, IsMarkedAlike, marked_same, sound_alike}
+use Rattle.migrate_soundness.proofs.ReportedAlike.{Mark, IsSound, IsMarkedAlike, marked_same, sound_alike}
 
 sound_from : (old new : Mark) → new ≡ old → IsSound old → IsSound new
 sound_from old new same sound = subst IsSound (sym same) sound
@@ -48,7 +48,7 @@ sound_from old new same sound = subst IsSound (sym same) sound
 -- ---- expressions
 
 -- an expression that reads and is typed
-read_is_sound : (want : Want) (row : Option RowData) (e : Tree) (term : Term) (found : Found)
+read_is_sound : (want : Want) (row : Option RowData) (e : Tree) (term : Term) (found : TypedNodes)
     → reading e ≡ Ok (Some term) → checked term want row ≡ Ok found → IsSound (expression_mark want row e)
 read_is_sound want row e term found read typed =
     sound_from (typed_mark (Ok found)) (expression_mark want row e)
@@ -98,7 +98,7 @@ module _ (row : RowData) where
       takes_more (takes_literals_alone row) (is_expression t) (is_function t) (is_token_text row t) form is
       other
 
-  call_is_sound : (e : Tree) (term : Term) (found : Found) → takes_literals_alone row ≡ false
+  call_is_sound : (e : Tree) (term : Term) (found : TypedNodes) → takes_literals_alone row ≡ false
       → is_expression e ≡ true → reading e ≡ Ok (Some term) → checked term row.want (Some row) ≡ Ok found
       → IsSound (value_mark row e)
   call_is_sound e term found more call read typed =
@@ -128,7 +128,7 @@ module _ (row : RowData) where
     function_is_sound t f is read may_read (inr bare) = bare_is_sound (function_expression row f) bare
 
     breaks_reading : (f : Function) (path : List PathPart) → function_reads row f ≡ false
-        → findings_in (told_or (function_mark row (Some (Some f))) path []) ≡ (path ++ [], 17) ∷ []
+        → findings_in (reports_or (function_mark row (Some (Some f))) path []) ≡ (path ++ [], 17) ∷ []
     breaks_reading f path is = rw is refl
 
     reads_soundly : (f : Function) → function_reads row f ≡ true → IsSound (function_mark row (Some (Some f)))
@@ -220,7 +220,7 @@ module _ (laws : HaveSoundExpressions) where
       sound_from (expression_mark wants.Boolean None new) (filter_mark new) is
       (read_is_sound wants.Boolean None new e found (reads []) fits)
 
-  read_alike : (t : Tree) (r : filters.Read) → filters.reading t ≡ r
+  read_alike : (t : Tree) (r : filters.FilterRead) → filters.reading t ≡ r
       → IsMarkedAlike (legacy_mark r) (filter_mark (expression_or_itself r t))
   read_alike t (Ok f) read =
       sound_alike (legacy_mark (Ok f)) (filter_mark (expression f)) (λ path. (refl, refl))

@@ -29,7 +29,7 @@ use Rattle.legacy_filters.specs.declared.filter.Test.TheVariants.{Has, HasNot, E
 use Rattle.legacy_filters.specs.declared.filter.Test.TheVariants.{Among, NotAmong}
 use Rattle.legacy_filters.specs.Split.{is_named, is_legacy}
 use Rattle.legacy_filters.specs.Filter.{test, Filters}
-use Rattle.legacy_filters.specs.Form.{Read, Reader, ill_formed, key_named, shape_scalar, number_scalar}
+use Rattle.legacy_filters.specs.Form.{FilterRead, FilterReader, ill_formed, key_named, shape_scalar, number_scalar}
 use Rattle.legacy_filters.specs.Form.{plain_scalar}
 use Rattle.legacy_filters.specs.Form.{scalar_form, alone, one_scalar, ordered_scalar, and_scalar}
 use Rattle.legacy_filters.specs.Form.{scalars_form}
@@ -294,7 +294,7 @@ test_read_sound j name key ts h =
 
 -- ---- filters that were read of a sound filter, each at a place by the groups that are open there
 
-abbrev ReadsSound : ℕ → Read → Type 0
+abbrev ReadsSound : ℕ → FilterRead → Type 0
 ReadsSound k (Ok f) = IsSound k (expression f)
 ReadsSound k (Err fault) = Unit {0}
 
@@ -302,11 +302,11 @@ abbrev ReadSound : ℕ → Result Filters FilterFault → Type 0
 ReadSound k (Ok fs) = AreSound k (trees_of (expressions fs))
 ReadSound k (Err fault) = Unit {0}
 
-abbrev GivesSound : Reader → Type 0
+abbrev GivesSound : FilterReader → Type 0
 GivesSound r =
     (count k : ℕ) (path : List PathPart) → count ≤ 24 → k ≤ 2 * count + 3 → ReadsSound k (r count path)
 
-abbrev GiveSound : List Reader → Type 0
+abbrev GiveSound : List FilterReader → Type 0
 GiveSound [] = Unit {0}
 GiveSound (r ∷ rs) = GivesSound r × GiveSound rs
 
@@ -327,13 +327,13 @@ keyed_is_sound j k name (tree (text key) ts) path within h =
 keyed_is_sound j k name (tree (list us) ts) path within h = tt
 keyed_is_sound j k name (tree (object fs) ts) path within h = tt
 
-and_filter_is_sound : (k : ℕ) (r : Read) (later : Result Filters FilterFault) → ReadsSound k r
+and_filter_is_sound : (k : ℕ) (r : FilterRead) (later : Result Filters FilterFault) → ReadsSound k r
     → ReadSound k later → ReadSound k (and_filter r later)
 and_filter_is_sound k (Ok f) (Ok fs) h more = (h, more)
 and_filter_is_sound k (Ok f) (Err fault) h more = tt
 and_filter_is_sound k (Err fault) later h more = tt
 
-parts_are_sound : (i : ℕ) (rs : List Reader) (count k : ℕ) (path : List PathPart) → count ≤ 24
+parts_are_sound : (i : ℕ) (rs : List FilterReader) (count k : ℕ) (path : List PathPart) → count ≤ 24
     → k ≤ 2 * count + 3 → GiveSound rs → ReadSound k (parts_form i rs count path)
 parts_are_sound i [] count k path few within h = tt
 parts_are_sound i (r ∷ rs) count k path few within h =
@@ -359,12 +359,12 @@ grouped_is_sound k groups.None (Ok fs) within h =
     (omega arith, (negation_utf8, ((omega arith, (ascii_is_utf8 (codes "any") refl, h)), tt)))
 grouped_is_sound k g (Err fault) within h = tt
 
-if_is_sound : (b : Bool) (k count : ℕ) (r : Read) (path : List PathPart) → nat_lt count most_open ≡ b
+if_is_sound : (b : Bool) (k count : ℕ) (r : FilterRead) (path : List PathPart) → nat_lt count most_open ≡ b
     → (count < 24 → ReadsSound k r) → ReadsSound k (if b then r else ill_formed path)
 if_is_sound true k count r path is h = h (ltb-true count 24 is)
 if_is_sound false k count r path is h = tt
 
-named_is_sound : (o : Option Group) (j count k : ℕ) (name : List ℕ) (ts : Trees) (rs : List Reader)
+named_is_sound : (o : Option Group) (j count k : ℕ) (name : List ℕ) (ts : Trees) (rs : List FilterReader)
     (path : List PathPart) → count ≤ 24 → k ≤ 2 * count + 3 → AreSound j ts → GiveSound rs
     → ReadsSound k (unless_group o name ts rs count path)
 named_is_sound (Some g) j count k name ts rs path few within h parts =
@@ -402,7 +402,7 @@ mutual
 
 -- ---- migrated filters
 
-expression_is_sound : (k : ℕ) (t : Tree) (r : Read) → IsSound k t → ReadsSound k r
+expression_is_sound : (k : ℕ) (t : Tree) (r : FilterRead) → IsSound k t → ReadsSound k r
     → IsSound k (expression_or_itself r t)
 expression_is_sound k t (Ok f) h read = read
 expression_is_sound k t (Err fault) h read = h

@@ -17,7 +17,7 @@ use Rattle.property_tables.specs.Literals.{literal_of}
 use Rattle.property_tables.specs.Rows.{RowData}
 use Rattle.legacy_functions.specs.Function.{Spelled, Input, flag, number, word, Output, Way, even, curved}
 use Rattle.legacy_functions.specs.Function.{stepped}
-use Rattle.legacy_functions.specs.Function.{Rule, numeric, categorical, Body, plain, zoomed, identity, Function}
+use Rattle.legacy_functions.specs.Function.{PropertyRule, numeric, categorical, Body, plain, zoomed, identity, Function}
 use Rattle.legacy_functions.specs.Form.{member_form, kind_form, spelled_number, number_form}
 use Rattle.legacy_functions.specs.Form.{literal_form, text_output, output_form, input_form}
 use Rattle.legacy_functions.specs.Form.{PlacedInput, has_two_fields, zoomed_input, placed_input}
@@ -29,11 +29,11 @@ use Rattle.legacy_functions.specs.Form.{without_repeated, some_of, rule_form, zo
 use Rattle.legacy_functions.specs.Form.{with_group, by_zoom}
 use Rattle.legacy_functions.specs.Form.{group_form, rules_form, zoomed_body, zoomed_form, plain_form}
 use Rattle.legacy_functions.specs.Form.{begins_with_zoom, body_of}
-use Rattle.legacy_functions.specs.Form.{Members, has_known_members, members_form, base_way, way_by}
+use Rattle.legacy_functions.specs.Form.{FunctionMembers, has_known_members, members_form, base_way, way_by}
 use Rattle.legacy_functions.specs.Form.{is_categories}
 use Rattle.legacy_functions.specs.Form.{stops_body, kind_body, is_zoomed, is_outside_way, inside}
 use Rattle.legacy_functions.specs.Form.{function_form, form}
-use Rattle.legacy_functions.specs.GroupView.{Zoomed, Group}
+use Rattle.legacy_functions.specs.GroupView.{Zoomed, StopGroup}
 use Rattle.legacy_functions.specs.Tokens.{has_tokens}
 use Rattle.legacy_functions.specs.ToExpression.{output_expression}
 use Rattle.legacy_functions.proofs.SoundRules.{OfSome, of_then, of_map, of_where, of_any, of_first}
@@ -66,11 +66,11 @@ abbrev pub AreSoundNumbers : List (Spelled × Output) → Type 0
 AreSoundNumbers [] = Unit {0}
 AreSoundNumbers (s ∷ ss) = (IsSoundNumber s.0 × IsSoundOutput s.1) × AreSoundNumbers ss
 
-abbrev pub IsSoundRule : Rule → Type 0
+abbrev pub IsSoundRule : PropertyRule → Type 0
 IsSoundRule (numeric way stops) = IsSoundWay way × AreSoundNumbers stops
 IsSoundRule (categorical stops) = AreSoundStops stops
 
-abbrev pub AreSoundRules : List (Spelled × Rule) → Type 0
+abbrev pub AreSoundRules : List (Spelled × PropertyRule) → Type 0
 AreSoundRules [] = Unit {0}
 AreSoundRules (r ∷ rs) = (IsSoundNumber r.0 × IsSoundRule r.1) × AreSoundRules rs
 
@@ -263,17 +263,17 @@ module _ (row : RowData) (flat : is_flat_want row.want ≡ true) where
 
   -- ---- groups of one zoom each
 
-  abbrev AreSoundGroups : List Group → Type 0
+  abbrev AreSoundGroups : List StopGroup → Type 0
   AreSoundGroups [] = Unit {0}
   AreSoundGroups (g ∷ gs) = (IsSoundNumber g.0 × AreSoundStops g.1) × AreSoundGroups gs
 
-  grouped_if : (b : Bool) (s : Zoomed) (g : Group) (gs : List Group)
+  grouped_if : (b : Bool) (s : Zoomed) (g : StopGroup) (gs : List StopGroup)
       → IsSoundZoomed s → AreSoundGroups (g ∷ gs)
       → AreSoundGroups (if b then (s.0, s.1 ∷ g.1) ∷ gs else (s.0, s.1 ∷ []) ∷ g ∷ gs)
   grouped_if true s g gs h rest = ((h.0, (h.1, rest.0.1)), rest.1)
   grouped_if false s g gs h rest = ((h.0, (h.1, tt)), rest)
 
-  with_group_sound : (s : Zoomed) (gs : List Group) → IsSoundZoomed s → AreSoundGroups gs
+  with_group_sound : (s : Zoomed) (gs : List StopGroup) → IsSoundZoomed s → AreSoundGroups gs
       → AreSoundGroups (with_group s gs)
   with_group_sound s [] h rest = ((h.0, (h.1, tt)), tt)
   with_group_sound s (g ∷ gs) h rest = grouped_if (int_eq s.0.value g.0.value) s g gs h rest
@@ -317,10 +317,10 @@ module _ (row : RowData) (flat : is_flat_want row.want ≡ true) where
   rule_sound None ss w h =
       of_where IsSoundRule (never_descend None ss && all_differ (λ i. false) ss) (Some (categorical ss)) (λ p. h)
 
-  abbrev IsSoundZoomRule : Spelled × Rule → Type 0
+  abbrev IsSoundZoomRule : Spelled × PropertyRule → Type 0
   IsSoundZoomRule r = IsSoundNumber r.0 × IsSoundRule r.1
 
-  rules_sound : (way : Option Way) (gs : List Group) → OfSome IsSoundWay way → AreSoundGroups gs
+  rules_sound : (way : Option Way) (gs : List StopGroup) → OfSome IsSoundWay way → AreSoundGroups gs
       → OfSome AreSoundRules (rules_form way gs)
   rules_sound way [] w h = tt
   rules_sound way (g ∷ gs) w h =
@@ -330,7 +330,7 @@ module _ (row : RowData) (flat : is_flat_want row.want ≡ true) where
 
   -- ---- bodies
 
-  zoomed_body_sound : (found : Option (List (Spelled × Rule))) → OfSome AreSoundRules found
+  zoomed_body_sound : (found : Option (List (Spelled × PropertyRule))) → OfSome AreSoundRules found
       → OfSome IsSoundBody (zoomed_body found)
   zoomed_body_sound (Some []) h = tt
   zoomed_body_sound (Some (r ∷ rs)) h = h
@@ -368,7 +368,7 @@ module _ (row : RowData) (flat : is_flat_want row.want ≡ true) where
 
   -- ---- members
 
-  record HasSoundForms (k : ℕ) (ms : Members) : Type 0 where
+  record HasSoundForms (k : ℕ) (ms : FunctionMembers) : Type 0 where
     base : OfSome IsSoundNumber ms.base
     property : OfSome IsUtf8 ms.property
     fallback : OfSome IsSoundOutput ms.fallback
@@ -407,11 +407,11 @@ module _ (row : RowData) (flat : is_flat_want row.want ≡ true) where
   base_sound None h = tt
 
   -- evenly or by a base, by steps, or not at all
-  way_cases : (ms : Members) → (way_by ms.kind ms.base ≡ Some (base_way ms.base))
+  way_cases : (ms : FunctionMembers) → (way_by ms.kind ms.base ≡ Some (base_way ms.base))
       ⊎ ((way_by ms.kind ms.base ≡ Some stepped) ⊎ (way_by ms.kind ms.base ≡ None))
   way_cases ms = grind (arith)
 
-  way_sound : (ms : Members) → OfSome IsSoundNumber ms.base → OfSome IsSoundWay (way_by ms.kind ms.base)
+  way_sound : (ms : FunctionMembers) → OfSome IsSoundNumber ms.base → OfSome IsSoundWay (way_by ms.kind ms.base)
   way_sound ms h = elim (way_cases ms) [
     | inl is ↦ subst (OfSome IsSoundWay) (sym is) (base_sound ms.base h)
     | inr other ↦ elim other [
@@ -420,22 +420,22 @@ module _ (row : RowData) (flat : is_flat_want row.want ≡ true) where
     ]
   ]
 
-  stops_body_sound : (k : ℕ) (ms : Members) → HasSoundForms k ms → OfSome IsSoundBody (stops_body row ms)
+  stops_body_sound : (k : ℕ) (ms : FunctionMembers) → HasSoundForms k ms → OfSome IsSoundBody (stops_body row ms)
   stops_body_sound k ms h =
       let any = is_categories ms.kind in
       of_then (IsSound k) IsSoundBody ms.stops _ h.stops (λ t s.
       of_then AreSoundPlaced IsSoundBody (stops_form row any t) _ (stops_sound any k t s)
       (λ placed p. body_sound (way_by ms.kind ms.base) (is_some ms.property) placed (way_sound ms h.base) p))
 
-  abbrev read_body : Members → Option Body
+  abbrev read_body : FunctionMembers → Option Body
   read_body ms = kind_body ms.kind row ms
 
   -- what the stops say, the property itself, or nothing
-  body_cases : (ms : Members) → (read_body ms ≡ stops_body row ms)
+  body_cases : (ms : FunctionMembers) → (read_body ms ≡ stops_body row ms)
       ⊎ ((read_body ms ≡ Some identity) ⊎ (read_body ms ≡ None))
   body_cases ms = grind (arith)
 
-  read_body_sound : (k : ℕ) (ms : Members) → HasSoundForms k ms → OfSome IsSoundBody (read_body ms)
+  read_body_sound : (k : ℕ) (ms : FunctionMembers) → HasSoundForms k ms → OfSome IsSoundBody (read_body ms)
   read_body_sound k ms h = elim (body_cases ms) [
     | inl is ↦ subst (OfSome IsSoundBody) (sym is) (stops_body_sound k ms h)
     | inr other ↦ elim other [
@@ -453,7 +453,7 @@ module _ (row : RowData) (flat : is_flat_want row.want ≡ true) where
   none_or true f h = tt
   none_or false f h = h
 
-  inside_sound : (k : ℕ) (ms : Members) (body : Body) → HasSoundForms k ms → IsSoundBody body
+  inside_sound : (k : ℕ) (ms : FunctionMembers) (body : Body) → HasSoundForms k ms → IsSoundBody body
       → IsSoundInside (inside ms body)
   inside_sound k ms body h b =
       none_or (ms.has_space || is_outside_way (way_by ms.kind ms.base) (is_zoomed body))

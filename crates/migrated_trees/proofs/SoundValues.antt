@@ -11,7 +11,7 @@ use Rattle.property_tables.specs.Rows.{RowData}
 use Rattle.legacy_functions.specs.Form as functions
 use Rattle.legacy_functions.specs.Function.{Spelled, Input, flag, number, word, Output, Way, even, curved}
 use Rattle.legacy_functions.specs.Function.{stepped}
-use Rattle.legacy_functions.specs.Function.{Rule, numeric, categorical, Body, plain, zoomed, identity, Function}
+use Rattle.legacy_functions.specs.Function.{PropertyRule, numeric, categorical, Body, plain, zoomed, identity, Function}
 use Rattle.legacy_functions.specs.Meaning.{zoom_way}
 use Rattle.legacy_functions.specs.ToExpression.{default_by, Branches, branch_elements, curve_expression}
 use Rattle.legacy_functions.specs.ToExpression.{way_expression, stop_branches, kind_case, input_tree}
@@ -118,7 +118,7 @@ module _ (property default : Tree) (named : IsSoundUpTo 50 property) (else_sound
       (named (suc k) (omega (arith, low)), (input_sound s.0 (suc k) h.0.0, tt)) in
       (test, (h.0.1 k (omega (arith, low)), categories_sound ss k low h.1))
 
-  rule_sound : (rule : Rule) (k : ℕ) → k ≤ 46 → IsSoundRule rule
+  rule_sound : (rule : PropertyRule) (k : ℕ) → k ≤ 46 → IsSoundRule rule
       → IsSound k (rule_expression property default rule)
   rule_sound (numeric way stops) k low h =
       let e = way_sound 50 (omega arith) property named way (stop_branches stops) (suc k) (omega (arith, low)) h.0
@@ -129,7 +129,7 @@ module _ (property default : Tree) (named : IsSoundUpTo 50 property) (else_sound
       called (codes "case") k (category_elements property stops ++ default ∷ []) refl (omega (arith, low))
       (categories_sound stops (suc k) (omega (arith, low)) h)
 
-  rules_sound : (rs : List (Spelled × Rule)) → AreSoundRules rs
+  rules_sound : (rs : List (Spelled × PropertyRule)) → AreSoundRules rs
       → AreSoundBranches 46 (rule_branches property default rs)
   rules_sound [] h = tt
   rules_sound (r ∷ rs) h = ((h.0.0, λ k low. rule_sound r.1 k low h.0.1), rules_sound rs h.1)
@@ -162,14 +162,14 @@ if_way_sound : (b : Bool) → IsSoundWay (if b then even else stepped)
 if_way_sound true = tt
 if_way_sound false = tt
 
-zoom_rule_sound : (default : Tree) (rule : Rule) (k : ℕ) → IsSoundUpTo 50 default → k ≤ 45 → IsSoundRule rule
+zoom_rule_sound : (default : Tree) (rule : PropertyRule) (k : ℕ) → IsSoundUpTo 50 default → k ≤ 45 → IsSoundRule rule
     → IsSound k (zoom_rule_expression default rule)
 zoom_rule_sound default (numeric way stops) k d low h =
     way_sound 50 (omega arith) zoom_expression zoom_sound way (stop_branches stops) k (omega (arith, low)) h.0
     (stops_are_branches stops h.1)
 zoom_rule_sound default (categorical stops) k d low h = d k (omega (arith, low))
 
-plain_sound : (property : Option (List ℕ)) (default : Tree) (rule : Rule) (k : ℕ) → OfSome IsUtf8 property
+plain_sound : (property : Option (List ℕ)) (default : Tree) (rule : PropertyRule) (k : ℕ) → OfSome IsUtf8 property
     → IsSoundUpTo 50 default → k ≤ 45 → IsSoundRule rule → IsSound k (plain_expression property default rule)
 plain_sound (Some name) default rule k p d low h =
     rule_sound (property_expression name) default (named_sound (Some name) p) d rule k (omega (arith, low)) h

@@ -13,10 +13,10 @@ abbrev pub Evaluated : Type 0
 Evaluated = Result Data EvalFault
 
 -- What the program gives is what is meant, unless allocation fails.
-abbrev pub Gives : Result Value (Halt EvalFault) → Evaluated → Type 0
-Gives (Ok v) meant = meant ≡ Ok (data_of v)
-Gives (Err (Fault fault)) meant = meant ≡ Err fault
-Gives (Err NoMemory) meant = Unit {0}
+abbrev pub GivesValue : Result Value (Halt EvalFault) → Evaluated → Type 0
+GivesValue (Ok v) meant = meant ≡ Ok (data_of v)
+GivesValue (Err (Fault fault)) meant = meant ≡ Err fault
+GivesValue (Err NoMemory) meant = Unit {0}
 
 -- goes on with the value, unless there is a fault
 abbrev pub then_value : Evaluated → (Data → Evaluated) → Evaluated

@@ -3,7 +3,7 @@
 ghost use Rattle.std.specs.Prelude.{◌≡◌, IfSome};
 ghost use Rattle.fixed_num.specs.ColorRange.{IsInRange};
 ghost use Rattle.prop_values.specs.View.{values_view, evaluated_of};
-ghost use Rattle.operator_values.specs.Evaluated.{Gives};
+ghost use Rattle.operator_values.specs.Evaluated.{GivesValue};
 ghost use Rattle.operator_values.specs.Colors.{rgba_of, parts_of, color_or_range};
 
 use crate::conversions::color_of_parts;
@@ -44,7 +44,7 @@ fn color_or_range(color: Option<Color>) -> Result<Value, EvalFault>
 
 /// `to-rgba`: red, green and blue from 0 to 255, and the opacity from 0 to 1.
 pub fn color_parts(alloc: Global, values: &[Value]) -> Result<Value, Halt<EvalFault>>
-    ensures { Gives result (parts_of (values_view values.now)) }
+    ensures { GivesValue result (parts_of (values_view values.now)) }
 {
     let [Value::Color(color)] = values else {
         return Err(Halt::Fault(EvalFault::WrongType));

@@ -4,7 +4,7 @@ ghost use Rattle.std.specs.Prelude.{◌≡◌, ◌≤◌, length, IfSome};
 ghost use Rattle.fixed_num.specs.ColorRange.{IsInRange};
 ghost use Rattle.std.specs.List.{prefix_len, suffix_len};
 ghost use Rattle.prop_values.specs.View.{data_of, values_view, evaluated_of};
-ghost use Rattle.operator_values.specs.Evaluated.{Gives};
+ghost use Rattle.operator_values.specs.Evaluated.{GivesValue};
 ghost use Rattle.operator_values.specs.Conversions.{number_in, number_in_text, number_in_trimmed, signed_number, value_of, without_blanks, without_blanks_before, without_blanks_behind, is_blank, color_in, color_of_list, color_of_parts, are_parts, is_within, truth_of, text_of, kind_of, negation_of};
 
 use crate::whole::whole;
@@ -27,7 +27,7 @@ pub fn truth_of(values: &[Value]) -> Result<Value, EvalFault>
 
 /// `to-string`.
 pub fn text_of(alloc: Global, values: &[Value]) -> Result<Value, Halt<EvalFault>>
-    ensures { Gives result (text_of (values_view values.now)) }
+    ensures { GivesValue result (text_of (values_view values.now)) }
 {
     match values {
         [value] => Ok(Value::Text(to_text(alloc, value)?)),
@@ -37,7 +37,7 @@ pub fn text_of(alloc: Global, values: &[Value]) -> Result<Value, Halt<EvalFault>
 
 /// `typeof`: `null`, `boolean`, `number`, `string`, `color`, `array` or `object`.
 pub fn kind_of(alloc: Global, values: &[Value]) -> Result<Value, Halt<EvalFault>>
-    ensures { Gives result (kind_of (values_view values.now)) }
+    ensures { GivesValue result (kind_of (values_view values.now)) }
 {
     match values {
         [value] => Ok(Value::Text(Text::copy_of(alloc, kind_text(value))?)),

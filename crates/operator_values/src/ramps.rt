@@ -3,7 +3,7 @@
 ghost use Rattle.std.specs.Prelude.{◌≡◌, ◌≤ℤ◌, ◌<ℤ◌};
 ghost use Rattle.std.specs.Result.{is_ok};
 ghost use Rattle.prop_values.specs.View.{data_of, items, evaluated_of};
-ghost use Rattle.operator_values.specs.Evaluated.{Gives};
+ghost use Rattle.operator_values.specs.Evaluated.{GivesValue};
 ghost use Rattle.operator_values.specs.Ramps.{between_of, list_between, number_between, pairs_in};
 
 use crate::arithmetic::number_value;
@@ -26,7 +26,7 @@ pub fn value_between(
     requires from { x0 ≤ℤ x }
     requires to { x ≤ℤ x1 }
     requires apart { x0 <ℤ x1 }
-    ensures { Gives result (between_of x x0 (data_of a.now) x1 (data_of b.now)) }
+    ensures { GivesValue result (between_of x x0 (data_of a.now) x1 (data_of b.now)) }
 {
     match (a, b) {
         (Value::Num(a), Value::Num(b)) => Ok(number_value(linear(x, x0, *a, x1, *b))?),
@@ -53,7 +53,7 @@ fn list_between(
     requires from { x0 ≤ℤ x }
     requires to { x ≤ℤ x1 }
     requires apart { x0 <ℤ x1 }
-    ensures { Gives result (list_between x x0 x1 (pairs_in (items a.now) (items b.now))) }
+    ensures { GivesValue result (list_between x x0 x1 (pairs_in (items a.now) (items b.now))) }
 {
     if !are_pairs(a, b) {
         return Err(Halt::Fault(EvalFault::WrongType));

@@ -7,7 +7,7 @@ ghost use Rattle.std.specs.Str.{chars};
 ghost use Rattle.prop_values.specs.Data.{list, items_of};
 ghost use Rattle.prop_values.specs.Data.{text as text_data};
 ghost use Rattle.prop_values.specs.View.{data_of, values_view, evaluated_of};
-ghost use Rattle.operator_values.specs.Evaluated.{Gives};
+ghost use Rattle.operator_values.specs.Evaluated.{GivesValue};
 ghost use Rattle.operator_values.specs.Whole.{index_in};
 ghost use Rattle.operator_values.specs.Sequences.{at_of, item_of, item_at, item_or_outside, in_of, index_of_of, found_from, part_from, equal_from, first_equal, place_value, length_of, size_of, slice_of, stretch_of, stretch};
 
@@ -21,7 +21,7 @@ use std::alloc::{AllocError, Global};
 /// `at`, of an index and a list: the item. `IndexNotWhole` where the index has a fraction, else
 /// `IndexOutside` where no item has it.
 pub fn item(values: &[Value]) -> Result<Value, Halt<EvalFault>>
-    ensures { Gives result (at_of (values_view values.now)) }
+    ensures { GivesValue result (at_of (values_view values.now)) }
 {
     match values {
         [Value::Num(index), sequence] => item_of(*index, sequence),
@@ -31,7 +31,7 @@ pub fn item(values: &[Value]) -> Result<Value, Halt<EvalFault>>
 
 #[tactic(auto, using(crate::proofs::Lists::list_again))]
 fn item_of(index: Fixed, sequence: &Value) -> Result<Value, Halt<EvalFault>>
-    ensures { Gives result (item_of index (data_of sequence.now)) }
+    ensures { GivesValue result (item_of index (data_of sequence.now)) }
 {
     match sequence {
         Value::List(items) => item_in(items, index),
@@ -40,14 +40,14 @@ fn item_of(index: Fixed, sequence: &Value) -> Result<Value, Halt<EvalFault>>
 }
 
 fn item_in(items: &Values, index: Fixed) -> Result<Value, Halt<EvalFault>>
-    ensures { Gives result (item_at (index_in index) items.now) }
+    ensures { GivesValue result (item_at (index_in index) items.now) }
 {
     let place = index_in(index)?;
     copy_at(items.as_slice(), place)
 }
 
 fn copy_at(items: &[Value], place: u128) -> Result<Value, Halt<EvalFault>>
-    ensures { Gives result (item_or_outside (slice_get (values_view items.now) place)) }
+    ensures { GivesValue result (item_or_outside (slice_get (values_view items.now) place)) }
 {
     match item_at(items, place) {
         Some(item) => Ok(copy(item)?),
@@ -175,7 +175,7 @@ fn size_of(sequence: &Value) -> Result<usize, EvalFault>
 /// `slice`, of a text or list, an index to begin at, and one to end before or none. A negative index counts
 /// from the end, and each is clamped to the text or list. An index with a fraction is `IndexNotWhole`.
 pub fn slice(alloc: Global, values: &[Value]) -> Result<Value, Halt<EvalFault>>
-    ensures { Gives result (slice_of (values_view values.now)) }
+    ensures { GivesValue result (slice_of (values_view values.now)) }
 {
     match values {
         [sequence, Value::Num(from)] => {
@@ -202,7 +202,7 @@ fn stretch_of(
     to: usize,
 ) -> Result<Value, Halt<EvalFault>>
     requires { IfOk (size_of (data_of sequence.now)) (λ size. (from ≤ size) × (to ≤ size)) }
-    ensures { Gives result (stretch_of (data_of sequence.now) from to) }
+    ensures { GivesValue result (stretch_of (data_of sequence.now) from to) }
 {
     match sequence {
         Value::Text(text) => text_stretch(alloc, text.as_str(), from, to),
@@ -215,7 +215,7 @@ fn stretch_of(
 fn text_stretch(alloc: Global, text: &str, from: usize, to: usize) -> Result<Value, Halt<EvalFault>>
     requires from { from ≤ length (chars text.now) }
     requires to { to ≤ length (chars text.now) }
-    ensures { Gives result (Ok (text_data (encode_utf8_all (stretch from to (chars text.now))))) }
+    ensures { GivesValue result (Ok (text_data (encode_utf8_all (stretch from to (chars text.now))))) }
 {
     let part = text_units::slice(text, from, not_before(from, to));
     Ok(Value::Text(Text::copy_of(alloc, part)?))
@@ -230,7 +230,7 @@ fn list_stretch(
 ) -> Result<Value, Halt<EvalFault>>
     requires from { from ≤ length items.now }
     requires to { to ≤ length items.now }
-    ensures { Gives result (Ok (list (items_of (stretch from to (values_view items.now))))) }
+    ensures { GivesValue result (Ok (list (items_of (stretch from to (values_view items.now))))) }
 {
     let part = &items[from..not_before(from, to)];
     Ok(Value::List(copies(alloc, part)?))

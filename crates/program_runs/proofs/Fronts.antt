@@ -2,11 +2,11 @@
 use Rattle.std.proofs.Common.{ℕ, List, subst}
 use Rattle.std.specs.Prelude.{Option}
 use Rattle.outside_io.specs.Writing.{GainsPrefix}
-use Rattle.program_runs.specs.Outcome.{Outcome}
+use Rattle.program_runs.specs.Outcome.{RunOutcome}
 use Rattle.program_runs.specs.Runs.{Run, HasOutcome, AreTold}
 use Rattle.program_runs.proofs.RunLaws.{one_outcome}
 
-pub front : (files : List ℕ → Option (List ℕ)) (run : Run) (made : Outcome) (a b : Option (List ℕ)) (text : Outcome → List ℕ) → HasOutcome files run made → GainsPrefix a b (text made) → (o : Outcome) → AreTold files run → HasOutcome files run o → GainsPrefix a b (text o)
+pub front : (files : List ℕ → Option (List ℕ)) (run : Run) (made : RunOutcome) (a b : Option (List ℕ)) (text : RunOutcome → List ℕ) → HasOutcome files run made → GainsPrefix a b (text made) → (o : RunOutcome) → AreTold files run → HasOutcome files run o → GainsPrefix a b (text o)
 front files run made a b text defined held o told d =
-    let P : Outcome → Type 0 = λ x. GainsPrefix a b (text x) in
+    let P : RunOutcome → Type 0 = λ x. GainsPrefix a b (text x) in
     subst P (one_outcome files run told made o defined d) held

@@ -3,22 +3,22 @@ use Rattle.std.specs.Prelude.{◌≡◌, ℕ, List, Option, Result, Ok, Err, IfO
 use Rattle.std.proofs.Common.{sym, subst, ◌∙◌, ap}
 use Rattle.std.specs.Result.{IsErrAnd}
 use Rattle.outside_io.specs.Counts.{raised}
-use Rattle.program_runs.specs.declared.answer.Answer.{Answer}
-use Rattle.program_runs.specs.declared.halt.Halt.{Halt}
-use Rattle.program_runs.specs.declared.halt.Halt.TheVariants.{Stopped, Refused}
-use Rattle.program_runs.specs.declared.halt.Stop.TheVariants.{NoMemory, Unread}
+use Rattle.program_runs.specs.declared.answer.RunOutput.{RunOutput}
+use Rattle.program_runs.specs.declared.halt.RunHalt.{RunHalt}
+use Rattle.program_runs.specs.declared.halt.RunHalt.TheVariants.{Stopped, Refused}
+use Rattle.program_runs.specs.declared.halt.RunStop.TheVariants.{NoMemory, Unread}
 use Rattle.program_runs.specs.FailedReads.{NoneFailed}
-use Rattle.program_runs.specs.Progress.{outcome_of, LeadsTo, HaltsAt, GoesOn, Halts}
+use Rattle.program_runs.specs.Progress.{outcome_of, ComesTo, HaltsAt, GoesOn, Halts}
 use Rattle.program_runs.specs.Runs.{Run, HasOutcome}
 
 none_on : (old mid new : ℕ) (failed_old failed_mid failed_new : Option (List ℕ)) → NoneFailed old mid failed_old failed_mid → NoneFailed mid new failed_mid failed_new → NoneFailed old new failed_old failed_new
 none_on old mid new failed_old failed_mid failed_new a b = (b.0 ∙ a.0, b.1 ∙ a.1)
 
 module _ (files : List ℕ → Option (List ℕ)) where
-  pub leads_on : (a b c : Run) → LeadsTo files a b → LeadsTo files b c → LeadsTo files a c
+  pub leads_on : (a b c : Run) → ComesTo files a b → ComesTo files b c → ComesTo files a c
   leads_on a b c f g = record { outcomes = λ o d. f.outcomes o (g.outcomes o d); reads = λ n r. f.reads n (g.reads n r) }
 
-  pub halts_on : (run rest : Run) (old mid new : ℕ) (failed_old failed_mid failed_new : Option (List ℕ)) (h : Halt) → LeadsTo files run rest → NoneFailed old mid failed_old failed_mid → HaltsAt files rest mid new failed_mid failed_new h → HaltsAt files run old new failed_old failed_new h
+  pub halts_on : (run rest : Run) (old mid new : ℕ) (failed_old failed_mid failed_new : Option (List ℕ)) (h : RunHalt) → ComesTo files run rest → NoneFailed old mid failed_old failed_mid → HaltsAt files rest mid new failed_mid failed_new h → HaltsAt files run old new failed_old failed_new h
   halts_on run rest old mid new failed_old failed_mid failed_new (Stopped NoMemory) leads before halts = none_on old mid new failed_old failed_mid failed_new before halts
   halts_on run rest old mid new failed_old failed_mid failed_new (Stopped (Unread name)) leads before halts =
       record { counted = halts.counted ∙ ap raised before.0; noted = halts.noted; reached = leads.reads name.now halts.reached }
@@ -31,34 +31,34 @@ module _ {A B : Type 0} (files : List ℕ → Option (List ℕ)) (first : (B →
   abbrev pub both : (A → Run) → Run
   both k = first (λ x. rest x k)
 
-  pub halts_first : (old new : ℕ) (failed_old failed_new : Option (List ℕ)) (h : Halt) → Halts files first old new failed_old failed_new h → Halts files both old new failed_old failed_new h
+  pub halts_first : (old new : ℕ) (failed_old failed_new : Option (List ℕ)) (h : RunHalt) → Halts files first old new failed_old failed_new h → Halts files both old new failed_old failed_new h
   halts_first old new failed_old failed_new h halts = λ k. halts (λ x. rest x k)
 
   module _ (x y : B) (goes : GoesOn files first x) (lent : y ≡ x) (then_files : List ℕ → Option (List ℕ)) (same : then_files ≡ files) where
-    leads_rest : (k : A → Run) → LeadsTo files (both k) (rest y k)
-    leads_rest k = subst (λ z. LeadsTo files (both k) (rest z k)) (sym lent) (goes (λ z. rest z k))
+    leads_rest : (k : A → Run) → ComesTo files (both k) (rest y k)
+    leads_rest k = subst (λ z. ComesTo files (both k) (rest z k)) (sym lent) (goes (λ z. rest z k))
 
     pub goes_both : {T E : Type 0} (view : T → A) (r : Result T E) → IfOk r (λ t. GoesOn then_files (rest y) (view t)) → IfOk r (λ t. GoesOn files both (view t))
-    goes_both view (Ok t) goes = λ k. leads_on files (both k) (rest y k) (k (view t)) (leads_rest k) (subst (λ f. LeadsTo f (rest y k) (k (view t))) same (goes k))
+    goes_both view (Ok t) goes = λ k. leads_on files (both k) (rest y k) (k (view t)) (leads_rest k) (subst (λ f. ComesTo f (rest y k) (k (view t))) same (goes k))
     goes_both view (Err e) goes = tt
 
-    pub halts_second : {T : Type 0} (old mid new : ℕ) (failed_old failed_mid failed_new : Option (List ℕ)) (r : Result T Halt) → NoneFailed old mid failed_old failed_mid → IfErr r (λ h. Halts then_files (rest y) mid new failed_mid failed_new h) → IfErr r (λ h. Halts files both old new failed_old failed_new h)
+    pub halts_second : {T : Type 0} (old mid new : ℕ) (failed_old failed_mid failed_new : Option (List ℕ)) (r : Result T RunHalt) → NoneFailed old mid failed_old failed_mid → IfErr r (λ h. Halts then_files (rest y) mid new failed_mid failed_new h) → IfErr r (λ h. Halts files both old new failed_old failed_new h)
     halts_second old mid new failed_old failed_mid failed_new (Ok t) before halts = tt
     halts_second old mid new failed_old failed_mid failed_new (Err h) before halts =
         λ k. halts_on files (both k) (rest y k) old mid new failed_old failed_mid failed_new h (leads_rest k) before (subst (λ f. HaltsAt f (rest y k) mid new failed_mid failed_new h) same (halts k))
 
 -- The rest of a run after a part whose value is x; the known contents of files are the same after it.
 module _ {B : Type 0} (files : List ℕ → Option (List ℕ)) (part : (B → Run) → Run) (x : B) (goes : GoesOn files part x) (then_files : List ℕ → Option (List ℕ)) (same : then_files ≡ files) (k : B → Run) where
-  pub outcome_after : {E : Type 0} (r : Result Answer E) → IfOk r (λ a. HasOutcome then_files (k x) (outcome_of a)) → IfOk r (λ a. HasOutcome files (part k) (outcome_of a))
+  pub outcome_after : {E : Type 0} (r : Result RunOutput E) → IfOk r (λ a. HasOutcome then_files (k x) (outcome_of a)) → IfOk r (λ a. HasOutcome files (part k) (outcome_of a))
   outcome_after (Ok a) d = (goes k).outcomes (outcome_of a) (subst (λ f. HasOutcome f (k x) (outcome_of a)) same d)
   outcome_after (Err e) d = tt
 
-  pub halts_later : {T : Type 0} (old mid new : ℕ) (failed_old failed_mid failed_new : Option (List ℕ)) (r : Result T Halt) → NoneFailed old mid failed_old failed_mid → IfErr r (λ h. HaltsAt then_files (k x) mid new failed_mid failed_new h) → IfErr r (λ h. HaltsAt files (part k) old new failed_old failed_new h)
+  pub halts_later : {T : Type 0} (old mid new : ℕ) (failed_old failed_mid failed_new : Option (List ℕ)) (r : Result T RunHalt) → NoneFailed old mid failed_old failed_mid → IfErr r (λ h. HaltsAt then_files (k x) mid new failed_mid failed_new h) → IfErr r (λ h. HaltsAt files (part k) old new failed_old failed_new h)
   halts_later old mid new failed_old failed_mid failed_new (Ok t) before halts = tt
   halts_later old mid new failed_old failed_mid failed_new (Err h) before halts =
       halts_on files (part k) (k x) old mid new failed_old failed_mid failed_new h (goes k) before (subst (λ f. HaltsAt f (k x) mid new failed_mid failed_new h) same halts)
 
 -- the error that a `?` hands on
-pub at_residual : {T : Type 0} (P : Halt → Type 0) (h : Halt) (r : Result T Halt) → IsErrAnd r (λ e. e ≡ h) → P h → IfErr r P
+pub at_residual : {T : Type 0} (P : RunHalt → Type 0) (h : RunHalt) (r : Result T RunHalt) → IsErrAnd r (λ e. e ≡ h) → P h → IfErr r P
 at_residual P h (Ok x) is p = tt
 at_residual P h (Err e) is p = subst P (sym is) p

@@ -1,8 +1,8 @@
 -- What holds of every run.
 use Rattle.std.specs.Prelude.{◌≡◌, ℕ, List, Option}
-use Rattle.program_runs.specs.Outcome.{Outcome}
+use Rattle.program_runs.specs.Outcome.{RunOutcome}
 use Rattle.program_runs.specs.Runs.{Run, HasOutcome, AreTold}
 
 -- No run has two outcomes, where the contents of the files that it comes to read are known.
 abbrev pub EachRunHasOneOutcome : Type 0
-EachRunHasOneOutcome = (files : List ℕ → Option (List ℕ)) (run : Run) → AreTold files run → (o p : Outcome) → HasOutcome files run o → HasOutcome files run p → o ≡ p
+EachRunHasOneOutcome = (files : List ℕ → Option (List ℕ)) (run : Run) → AreTold files run → (o p : RunOutcome) → HasOutcome files run o → HasOutcome files run p → o ≡ p

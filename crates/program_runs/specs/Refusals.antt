@@ -3,7 +3,7 @@ use Rattle.std.specs.Prelude.{ℕ, zero, suc, List, [], ◌++◌, codes, decimal
 use Rattle.decimal_json.specs.JsonText.{text_json}
 use Rattle.json_tokens.specs.declared.kind.JsonKind.{JsonKind}
 use Rattle.json_tokens.specs.declared.kind.JsonKind.TheVariants.{Syntax, Utf8, DuplicateKey, Depth, NumberLength, LoneSurrogate}
-use Rattle.program_runs.specs.Outcome.{Outcome, refused}
+use Rattle.program_runs.specs.Outcome.{RunOutcome, refused}
 
 -- the tile of a source
 abbrev pub tile_text : List ℕ → List ℕ
@@ -24,9 +24,9 @@ tile_number zero = []
 tile_number (suc n) = codes " tile " ++ decimal (suc n)
 
 -- a file is longer than it may be
-abbrev pub too_long : (what which : List ℕ) → Outcome
+abbrev pub too_long : (what which : List ℕ) → RunOutcome
 too_long what which = refused (what ++ (codes " TooLong" ++ which))
 
 -- no JSON text: the kind of the fault, and its place in bytes from the beginning
-abbrev pub no_json : (what : List ℕ) → JsonKind → ℕ → Outcome
+abbrev pub no_json : (what : List ℕ) → JsonKind → ℕ → RunOutcome
 no_json what kind at = refused (what ++ (codes " json " ++ (json_kind_name kind ++ (codes " " ++ decimal at))))

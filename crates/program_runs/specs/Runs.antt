@@ -6,14 +6,14 @@ use Rattle.json_tokens.specs.declared.kind.JsonKind.{JsonKind}
 use Rattle.decimal_json.specs.Grammar.{Spells}
 use Rattle.decimal_json.specs.Parses.{IsAccepted, IsPlace, IsKind}
 use Rattle.decimal_json.specs.Tree.{Tree}
-use Rattle.program_runs.specs.Outcome.{Outcome}
+use Rattle.program_runs.specs.Outcome.{RunOutcome}
 use Rattle.program_runs.specs.Refusals.{no_json}
 
 pub data Run : Type 0 where
   -- all is read, and this is the outcome
-  ends : Outcome → Run
+  ends : RunOutcome → Run
   -- the file of this name is read, of `count` bytes at most: a longer one is refused
-  reads : (longer : Outcome) → (name : List ℕ) → (limit : ℕ) → (after : List ℕ → Run) → Run
+  reads : (longer : RunOutcome) → (name : List ℕ) → (limit : ℕ) → (after : List ℕ → Run) → Run
   -- the bytes are a JSON text; a refusal says what it is
   parses : (what bytes : List ℕ) → (after : Tree → Run) → Run
   -- the bytes may be a JSON text: the run goes on with their tree, or with none
@@ -26,7 +26,7 @@ module _ (files : List ℕ → Option (List ℕ)) where
 
   -- An outcome of the run by the known contents of files. Of a file whose contents are unknown some bytes
   -- serve. Bytes that are no JSON text have one fault, which is reported.
-  abbrev pub HasOutcome : Run → Outcome → Type 0
+  abbrev pub HasOutcome : Run → RunOutcome → Type 0
   HasOutcome (ends made) o = o ≡ made
   HasOutcome (reads longer name limit after) o =
       (IsLongerIfTold (files name) limit × (o ≡ longer))

@@ -6,7 +6,7 @@ use Rattle.decimal_json.specs.JsonText.{text_json}
 use Rattle.program_runs.specs.declared.status.Status.{Status}
 use Rattle.program_runs.specs.declared.status.Status.TheVariants as status
 use Rattle.program_runs.specs.Ending.{status_of}
-use Rattle.program_runs.specs.Outcome.{Outcome, line}
+use Rattle.program_runs.specs.Outcome.{RunOutcome, line}
 use Rattle.program_runs.specs.FailedReads.{NoneFailed, ReadFails}
 use Rattle.program_runs.specs.Runs.{Run, HasOutcome, AreTold}
 
@@ -36,7 +36,7 @@ EndsAtFailedRead answer old new failed_old failed_new = NoneFailed old new faile
 module _ (files : List ℕ → Option (List ℕ)) (run : Run) where
   -- the run has an outcome, both its texts were written whole, and the status is its own
   pub record Completes (answer : Status) (out_old out_new err_old err_new : Option (List ℕ)) : Type 0 where
-    pub outcome : Outcome
+    pub outcome : RunOutcome
     pub defined : HasOutcome files run outcome
     pub status : answer ≡ status_of outcome.ending
     pub out : Gains out_old out_new outcome.out
@@ -44,24 +44,24 @@ module _ (files : List ℕ → Option (List ℕ)) (run : Run) where
 
   -- what out holds more is a prefix of the out text, where the contents of files are known
   pub record OutFront (old new : Option (List ℕ)) : Type 0 where
-    pub front : (o : Outcome) → AreTold files run → HasOutcome files run o → GainsPrefix old new o.out
+    pub front : (o : RunOutcome) → AreTold files run → HasOutcome files run o → GainsPrefix old new o.out
 
   -- What err holds more is a prefix of the err text, where the contents of files are known; or, where a read
   -- failed, of the line that says so. The first three arguments are the count of failed reads before and
   -- after, and the name of the last of them.
   pub record ErrFront (reads_old reads_new : ℕ) (failed : Option (List ℕ)) (old new : Option (List ℕ)) : Type 0 where
     pub front :
-        ((o : Outcome) → AreTold files run → HasOutcome files run o → GainsPrefix old new o.err)
+        ((o : RunOutcome) → AreTold files run → HasOutcome files run o → GainsPrefix old new o.err)
         ⊎ ((name : List ℕ) × ReadFails files run reads_old reads_new failed name × GainsPrefix old new (unread_line name))
 
   -- an out text is due: the run has an outcome with one
   abbrev pub OutTextIsDue : Type 0
-  OutTextIsDue = (o : Outcome) × HasOutcome files run o × (0 < length o.out)
+  OutTextIsDue = (o : RunOutcome) × HasOutcome files run o × (0 < length o.out)
 
   -- an err line is due: the run has an outcome with one, or a read failed
   abbrev pub ErrLineIsDue : ℕ → ℕ → Option (List ℕ) → Type 0
   ErrLineIsDue reads_old reads_new failed =
-      ((o : Outcome) × HasOutcome files run o × (0 < length o.err))
+      ((o : RunOutcome) × HasOutcome files run o × (0 < length o.err))
       ⊎ ((name : List ℕ) × ReadFails files run reads_old reads_new failed name)
 
   -- One write failed: of out while an out text was due, or of err while an err line was due. Its count of

@@ -9,14 +9,14 @@ use std::alloc::{AllocError, Global};
 
 /// What is to be written, and how the run then ends.
 #[derive(Drop)]
-pub struct Answer {
+pub struct RunOutput {
     pub out: Vec<u8>,
     pub err: Vec<u8>,
     pub ending: Ending,
 }
 
 /// A text for standard output alone.
-pub fn answer_said(alloc: Global, text: &[u8]) -> Result<Answer, AllocError>
+pub fn answer_said(alloc: Global, text: &[u8]) -> Result<RunOutput, AllocError>
     ensures { IfOk result (λ answer. outcome_of answer ≡ said text.now Ending.Fine) }
 {
     let mut out = Vec::new(alloc);
@@ -25,10 +25,10 @@ pub fn answer_said(alloc: Global, text: &[u8]) -> Result<Answer, AllocError>
 }
 
 /// These bytes for standard output alone.
-pub fn answer_out(alloc: Global, out: Vec<u8>, ending: Ending) -> Answer
+pub fn answer_out(alloc: Global, out: Vec<u8>, ending: Ending) -> RunOutput
     ensures { outcome_of result ≡ said out.items ending }
 {
-    Answer {
+    RunOutput {
         out,
         err: Vec::new(alloc),
         ending,
@@ -36,7 +36,7 @@ pub fn answer_out(alloc: Global, out: Vec<u8>, ending: Ending) -> Answer
 }
 
 /// The line for an unknown command or wrong arguments.
-pub fn answer_usage(alloc: Global) -> Result<Answer, AllocError>
+pub fn answer_usage(alloc: Global) -> Result<RunOutput, AllocError>
     ensures { IfOk result (λ answer. outcome_of answer ≡ told (codes "usage") Ending.Usage) }
 {
     let mut err = Vec::new(alloc);
@@ -54,7 +54,7 @@ pub fn begin_refusal(alloc: Global) -> Result<Vec<u8>, AllocError>
 }
 
 /// A refusal by its line, which yet lacks its LF.
-pub fn answer_refused(alloc: Global, line: Vec<u8>) -> Result<Answer, AllocError>
+pub fn answer_refused(alloc: Global, line: Vec<u8>) -> Result<RunOutput, AllocError>
     ensures { IfOk result (λ answer. outcome_of answer ≡ record { out = []; err = line.items ++ 10 ∷ []; ending = Ending.Refused }) }
 {
     let mut err = line;
@@ -62,10 +62,10 @@ pub fn answer_refused(alloc: Global, line: Vec<u8>) -> Result<Answer, AllocError
     Ok(answer_err(alloc, err, Ending::Refused))
 }
 
-fn answer_err(alloc: Global, err: Vec<u8>, ending: Ending) -> Answer
+fn answer_err(alloc: Global, err: Vec<u8>, ending: Ending) -> RunOutput
     ensures { outcome_of result ≡ record { out = []; err = err.items; ending = ending } }
 {
-    Answer {
+    RunOutput {
         out: Vec::new(alloc),
         err,
         ending,

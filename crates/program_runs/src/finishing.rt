@@ -5,7 +5,7 @@ ghost use Rattle.outside_io.specs.Counts.{raised};
 ghost use Rattle.outside_io.specs.Writing.{Gains, GainsPrefix};
 ghost use Rattle.program_runs.specs.Written.{unread_line, EndsUnread};
 
-use crate::answer::Answer;
+use crate::answer::RunOutput;
 use crate::status::Status;
 use decimal_json::write_text;
 use outside_io::{Sink, SinkFailed};
@@ -13,7 +13,7 @@ use std::alloc::{AllocError, Global};
 
 /// Writes both texts, that of standard output first.
 pub fn write_answer<O: Sink, E: Sink>(
-    answer: &Answer,
+    answer: &RunOutput,
     out: &mut O,
     err: &mut E,
 ) -> Result<(), SinkFailed>

@@ -1,9 +1,9 @@
-use crate::answer::Answer;
+use crate::answer::RunOutput;
 use std::alloc::AllocError;
 
 /// Why a run has no answer.
 #[derive(Clone, Copy, Debug)]
-pub enum Stop<'a> {
+pub enum RunStop<'a> {
     NoMemory,
     /// The file of this name could not be read.
     Unread(&'a str),
@@ -11,21 +11,21 @@ pub enum Stop<'a> {
 
 /// Why a run goes no further.
 #[derive(Drop)]
-pub enum Halt<'a> {
+pub enum RunHalt<'a> {
     /// It has no answer.
-    Stopped(Stop<'a>),
+    Stopped(RunStop<'a>),
     /// What was read is not accepted, and this is the answer.
-    Refused(Answer),
+    Refused(RunOutput),
 }
 
-impl From<AllocError> for Halt<'_> {
+impl From<AllocError> for RunHalt<'_> {
     ghost use Rattle.std.specs.Prelude.{◌≡◌};
-    ghost use Rattle.program_runs.specs.declared.halt.Halt.TheVariants.{Stopped};
-    ghost use Rattle.program_runs.specs.declared.halt.Stop.TheVariants.{NoMemory};
+    ghost use Rattle.program_runs.specs.declared.halt.RunHalt.TheVariants.{Stopped};
+    ghost use Rattle.program_runs.specs.declared.halt.RunStop.TheVariants.{NoMemory};
 
     ghost from_gives = { λ _ halt. halt ≡ Stopped NoMemory };
 
     fn from(_: AllocError) -> Self {
-        Halt::Stopped(Stop::NoMemory)
+        RunHalt::Stopped(RunStop::NoMemory)
     }
 }

@@ -13,7 +13,7 @@
 //! the run it leads, and each halt is an outcome of the run, a failed read of a file that the run came to, or
 //! a failed allocation.
 //!
-//! The text to believe is in `specs/`: `Outcome`, `Ending`, `Refusals`, `Runs`, `Parts`, `FailedReads`,
+//! The text to believe is in `specs/`: `RunOutcome`, `Ending`, `Refusals`, `Runs`, `Parts`, `FailedReads`,
 //! `Written`. Law of it: `Laws`.
 #![tactic(auto)]
 
@@ -26,9 +26,9 @@ mod refusals;
 mod status;
 mod subject;
 
-pub use answer::{Answer, answer_out, answer_refused, answer_said, answer_usage, begin_refusal};
+pub use answer::{RunOutput, answer_out, answer_refused, answer_said, answer_usage, begin_refusal};
 pub use finishing::{write_answer, write_unread};
-pub use halt::{Halt, Stop};
+pub use halt::{RunHalt, RunStop};
 pub use laws::each_run_has_one_outcome;
 pub use reading::{parse_json, read_file, read_json};
 pub use refusals::{no_json, too_long};

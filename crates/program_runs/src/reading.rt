@@ -10,7 +10,7 @@ ghost use Rattle.program_runs.specs.Progress.{GoesOn, Halts};
 ghost use Rattle.program_runs.specs.Runs.{reads, parses};
 ghost use Rattle.program_runs.specs.Subjects.{subject_text, subject_number};
 
-use crate::halt::{Halt, Stop};
+use crate::halt::{RunHalt, RunStop};
 use crate::refusals::{no_json, too_long};
 use crate::subject::Subject;
 use decimal_json::{Json, JsonFault, parse, parse_owned};
@@ -24,7 +24,7 @@ pub fn read_file<'a, F: Files>(
     name: &'a str,
     at_most: usize,
     files: &mut F,
-) -> Result<Vec<u8>, Halt<'a>>
+) -> Result<Vec<u8>, RunHalt<'a>>
     ensures told { F.told files.new ≡ F.told files.old }
     ensures failed { OnOk result (NoneFailed (F.faults files.old) (F.faults files.new) (F.failed files.old) (F.failed files.new)) }
     ensures on { IfOk result (λ bytes. GoesOn (F.told files.old) (reads (too_long (subject_text what.now) (subject_number what.now)) name.now at_most) bytes.items) }
@@ -34,14 +34,14 @@ pub fn read_file<'a, F: Files>(
     let mut bytes = Vec::new(alloc);
     match files.read(alloc, name, at_most, &mut bytes) {
         ReadAnswer::Done => Ok(bytes),
-        ReadAnswer::TooLong => Err(Halt::Refused(too_long(alloc, what)?)),
-        ReadAnswer::Failed => Err(Halt::Stopped(Stop::Unread(name))),
-        ReadAnswer::NoMemory => Err(Halt::Stopped(Stop::NoMemory)),
+        ReadAnswer::TooLong => Err(RunHalt::Refused(too_long(alloc, what)?)),
+        ReadAnswer::Failed => Err(RunHalt::Stopped(RunStop::Unread(name))),
+        ReadAnswer::NoMemory => Err(RunHalt::Stopped(RunStop::NoMemory)),
     }
 }
 
 /// The JSON text that these bytes are.
-pub fn parse_json<'a>(alloc: Global, what: &Subject<'_>, bytes: &[u8]) -> Result<Json, Halt<'a>>
+pub fn parse_json<'a>(alloc: Global, what: &Subject<'_>, bytes: &[u8]) -> Result<Json, RunHalt<'a>>
     ensures on { (files : List ℕ → Option (List ℕ)) →
         IfOk result (λ json. GoesOn files (parses (subject_text what.now) bytes.now) (tree_of json)) }
     ensures halt { (files : List ℕ → Option (List ℕ)) (count : ℕ) (failed : Option (List ℕ)) →
@@ -57,7 +57,7 @@ pub fn read_json<'a, F: Files>(
     name: &'a str,
     at_most: usize,
     files: &mut F,
-) -> Result<Json, Halt<'a>>
+) -> Result<Json, RunHalt<'a>>
     ensures told { F.told files.new ≡ F.told files.old }
     ensures failed { OnOk result (NoneFailed (F.faults files.old) (F.faults files.new) (F.failed files.old) (F.failed files.new)) }
     ensures on { IfOk result (λ json. GoesOn (F.told files.old) (json_part (subject_text what.now) (subject_number what.now) name.now at_most) (tree_of json)) }
@@ -73,7 +73,7 @@ fn json_or_refusal<'a>(
     alloc: Global,
     what: &Subject<'_>,
     parsed: Result<Json, JsonFault>,
-) -> Result<Json, Halt<'a>>
+) -> Result<Json, RunHalt<'a>>
     ensures on { (files : List ℕ → Option (List ℕ)) (bytes : List ℕ) → Parses bytes parsed →
         IfOk result (λ json. GoesOn files (parses (subject_text what.now) bytes) (tree_of json)) }
     ensures halt { (files : List ℕ → Option (List ℕ)) (bytes : List ℕ) (count : ℕ) (failed : Option (List ℕ)) → Parses bytes parsed →
@@ -81,6 +81,6 @@ fn json_or_refusal<'a>(
 {
     match parsed {
         Ok(json) => Ok(json),
-        Err(fault) => Err(Halt::Refused(no_json(alloc, what, fault)?)),
+        Err(fault) => Err(RunHalt::Refused(no_json(alloc, what, fault)?)),
     }
 }

@@ -5,14 +5,14 @@ ghost use Rattle.program_runs.specs.Progress.{outcome_of};
 ghost use Rattle.program_runs.specs.Refusals.{json_kind_name, no_json, too_long};
 ghost use Rattle.program_runs.specs.Subjects.{subject_text, subject_number};
 
-use crate::answer::{Answer, answer_refused, begin_refusal};
+use crate::answer::{RunOutput, answer_refused, begin_refusal};
 use crate::subject::{Subject, write_number, write_subject};
 use decimal_json::{JsonFault, JsonKind};
 use itoa::Buffer;
 use std::alloc::{AllocError, Global};
 
 /// A file that is longer than it may be.
-pub fn too_long(alloc: Global, what: &Subject<'_>) -> Result<Answer, AllocError>
+pub fn too_long(alloc: Global, what: &Subject<'_>) -> Result<RunOutput, AllocError>
     ensures { IfOk result (λ answer. outcome_of answer ≡ too_long (subject_text what.now) (subject_number what.now)) }
 {
     let mut line = begin_refusal(alloc)?;
@@ -23,7 +23,7 @@ pub fn too_long(alloc: Global, what: &Subject<'_>) -> Result<Answer, AllocError>
 }
 
 /// No JSON text.
-pub fn no_json(alloc: Global, what: &Subject<'_>, fault: JsonFault) -> Result<Answer, AllocError>
+pub fn no_json(alloc: Global, what: &Subject<'_>, fault: JsonFault) -> Result<RunOutput, AllocError>
     ensures { IfOk result (λ answer. outcome_of answer ≡ no_json (subject_text what.now) fault.kind fault.at) }
 {
     let mut at = Buffer::new();

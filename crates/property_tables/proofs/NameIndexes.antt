@@ -14,7 +14,7 @@ use Rattle.std.proofs.lemmas.List.FromFn.{get_or-range_with_len, length-range_wi
 use Rattle.std.proofs.lemmas.Map.Text.{is_eq-slice_cmp}
 use Rattle.std.proofs.lemmas.Slice.Eq.{bytes_eq-Decides}
 use Rattle.property_tables.specs.RowView.{names_of}
-use Rattle.property_tables.specs.declared.entry.Entry.{Entry}
+use Rattle.property_tables.specs.declared.entry.TableEntry.{TableEntry}
 use Rattle.property_tables.specs.NameIndex.{name_at, is_before, ascends, is_index, IsPlaceOf, IsNowhere}
 
 pub both : (a b : Bool) → (a && b) ≡ true → (a ≡ true) × (b ≡ true)
@@ -144,5 +144,5 @@ module _ (names : List (List ℕ)) (order : List ℕ) (index : is_index names or
   }
 
 -- the names of entries, each by its entry
-pub entry_name : (es : List Entry) (i : ℕ) (d : Entry) → i < length es → name_at (names_of es) i ≡ (get_or es i d).name.now
+pub entry_name : (es : List TableEntry) (i : ℕ) (d : TableEntry) → i < length es → name_at (names_of es) i ≡ (get_or es i d).name.now
 entry_name es i d h = get_or-map (λ e. e.name.now) es i d [] h

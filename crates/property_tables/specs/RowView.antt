@@ -1,14 +1,14 @@
 -- What contracts see of rows and of the entries of the table.
 use Rattle.std.specs.Prelude.{ℕ, List, map}
 use Rattle.property_tables.specs.Rows.{RowData, Limits, Default, absent, flag, amount, word, zeros, fonts}
-use Rattle.property_tables.specs.declared.entry.Entry.{Entry}
+use Rattle.property_tables.specs.declared.entry.TableEntry.{TableEntry}
 use Rattle.property_tables.specs.declared.entry.Given.{Given}
 use Rattle.property_tables.specs.declared.entry.Given.TheVariants as given
 use Rattle.property_tables.specs.declared.property_row.Fallback.{Fallback}
 use Rattle.property_tables.specs.declared.property_row.Fallback.TheVariants as fallbacks
 use Rattle.property_tables.specs.declared.property_row.Row.{Row}
 
-abbrev pub names_of : List Entry → List (List ℕ)
+abbrev pub names_of : List TableEntry → List (List ℕ)
 names_of es = map (λ e. e.name.now) es
 
 abbrev pub given_seen : Given → Default
@@ -19,7 +19,7 @@ given_seen (given.Word s) = word s.now
 given_seen (given.Zeros n) = zeros n
 given_seen given.Fonts = fonts
 
-abbrev pub entry_seen : Entry → RowData
+abbrev pub entry_seen : TableEntry → RowData
 entry_seen e = record {
   name = e.name.now;
   place = e.place;
@@ -30,7 +30,7 @@ entry_seen e = record {
   takes_tokens = e.takes_tokens;
 }
 
-abbrev pub rows_seen : List Entry → List RowData
+abbrev pub rows_seen : List TableEntry → List RowData
 rows_seen es = map entry_seen es
 
 abbrev pub fallback_seen : Fallback → Default

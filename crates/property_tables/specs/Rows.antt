@@ -30,7 +30,7 @@ pub record Limits : Type 0 where
   pub most : Option ℤ
 
 -- what the value of a property may read, and whether a function on it ramps
-pub record Reads : Type 0 where
+pub record AllowedReads : Type 0 where
   pub zoom : Bool
   pub feature : Bool
   pub state : Bool
@@ -43,18 +43,18 @@ pub record RowData : Type 0 where
   pub want : Want
   pub fallback : Default
   pub limits : Limits
-  pub reads : Reads
+  pub reads : AllowedReads
   pub takes_tokens : Bool
 
 -- The words of the table.
 
-abbrev layout : String → Want → Default → Limits → Reads → RowData
+abbrev layout : String → Want → Default → Limits → AllowedReads → RowData
 layout s w d l r = record { name = codes s; place = Layout; want = w; fallback = d; limits = l; reads = r; takes_tokens = false }
 
-abbrev layout_with_tokens : String → Want → Default → Limits → Reads → RowData
+abbrev layout_with_tokens : String → Want → Default → Limits → AllowedReads → RowData
 layout_with_tokens s w d l r = record (layout s w d l r) { takes_tokens = true }
 
-abbrev paint : String → Want → Default → Limits → Reads → RowData
+abbrev paint : String → Want → Default → Limits → AllowedReads → RowData
 paint s w d l r = record { name = codes s; place = Paint; want = w; fallback = d; limits = l; reads = r; takes_tokens = false }
 
 abbrev one_of : Choice → Want
@@ -101,22 +101,22 @@ abbrev within_1 : Limits
 within_1 = record { least = Some (negsuc 999999); most = Some (pos 1000000) }
 
 -- z: the zoom, f: feature data, s: feature state, i: it ramps
-abbrev none : Reads
+abbrev none : AllowedReads
 none = record { zoom = false; feature = false; state = false; ramps = false }
 
-abbrev z : Reads
+abbrev z : AllowedReads
 z = record { zoom = true; feature = false; state = false; ramps = false }
 
-abbrev z_i : Reads
+abbrev z_i : AllowedReads
 z_i = record { zoom = true; feature = false; state = false; ramps = true }
 
-abbrev zf : Reads
+abbrev zf : AllowedReads
 zf = record { zoom = true; feature = true; state = false; ramps = false }
 
-abbrev zf_i : Reads
+abbrev zf_i : AllowedReads
 zf_i = record { zoom = true; feature = true; state = false; ramps = true }
 
-abbrev zfs_i : Reads
+abbrev zfs_i : AllowedReads
 zfs_i = record { zoom = true; feature = true; state = true; ramps = true }
 
 -- The table.

@@ -23,7 +23,7 @@ pub(crate) struct Limits {
 
 /// What a value may read, and whether a function on it ramps.
 #[derive(Clone, Copy)]
-pub(crate) struct Reads {
+pub(crate) struct AllowedReads {
     pub zoom: bool,
     pub feature: bool,
     pub state: bool,
@@ -31,12 +31,12 @@ pub(crate) struct Reads {
 }
 
 #[derive(Clone, Copy)]
-pub(crate) struct Entry {
+pub(crate) struct TableEntry {
     pub name: &'static str,
     pub place: Place,
     pub want: Want,
     pub given: Given,
     pub limits: Limits,
-    pub reads: Reads,
+    pub reads: AllowedReads,
     pub takes_tokens: bool,
 }

@@ -3,7 +3,7 @@ ghost use Rattle.property_tables.specs.NameIndex.{is_index};
 ghost use Rattle.property_tables.specs.Rows.{RowData, row_of, row_named, rows_of, is_unread, is_at};
 ghost use Rattle.property_tables.specs.RowView.{names_of, rows_seen, entry_seen, row_seen, numbered_seen, fallback_seen, given_seen};
 
-use crate::entry::{Entry, Given};
+use crate::entry::{Given, TableEntry};
 use crate::layer_type::LayerType;
 use crate::property_row::{Fallback, Place, Row};
 use crate::rows::*;
@@ -48,7 +48,7 @@ fn row_named(layer_type: LayerType, name: &str) -> Option<Row>
 
 // The entries of a type in table order, and their places in the order of names.
 #[tactic(auto, unfolding(crate::specs::NameIndex::is_index))]
-fn table_of(layer_type: LayerType) -> (&'static [Entry], &'static [u8])
+fn table_of(layer_type: LayerType) -> (&'static [TableEntry], &'static [u8])
     ensures rows { rows_seen result.0.now ≡ rows_of layer_type }
     ensures index { is_index (names_of result.0.now) result.1.now ≡ true }
     ensures few { length result.0.now ≤ 1000 }
@@ -67,7 +67,7 @@ fn table_of(layer_type: LayerType) -> (&'static [Entry], &'static [u8])
     }
 }
 
-fn row_among(entries: &[Entry], order: &[u8], name: &str) -> Option<Row>
+fn row_among(entries: &[TableEntry], order: &[u8], name: &str) -> Option<Row>
     requires index { is_index (names_of entries.now) order.now ≡ true }
     requires few { length entries.now ≤ 1000 }
     ensures { option_map numbered_seen result ≡ row_named 0 name.now (rows_seen entries.now) }
@@ -78,7 +78,7 @@ fn row_among(entries: &[Entry], order: &[u8], name: &str) -> Option<Row>
     }
 }
 
-fn row_at(entry: &Entry, number: u16) -> Row
+fn row_at(entry: &TableEntry, number: u16) -> Row
     ensures row { row_seen result ≡ entry_seen entry.now }
     ensures number { result.number ≡ number }
 {

@@ -1,6 +1,6 @@
 //! The table of style properties, in its order. Source: own, each cell of it.
 
-use crate::entry::{Entry, Given, Limits, Reads};
+use crate::entry::{AllowedReads, Given, Limits, TableEntry};
 use crate::property_row::Place;
 use prop_values::{Choice, Item, Want};
 
@@ -50,42 +50,42 @@ const WITHIN_1: Limits = Limits {
 };
 
 // Z: the zoom, F: feature data, S: feature state, I: it ramps.
-const FIXED: Reads = Reads {
+const FIXED: AllowedReads = AllowedReads {
     zoom: false,
     feature: false,
     state: false,
     ramps: false,
 };
 
-const Z: Reads = Reads {
+const Z: AllowedReads = AllowedReads {
     zoom: true,
     feature: false,
     state: false,
     ramps: false,
 };
 
-const Z_I: Reads = Reads {
+const Z_I: AllowedReads = AllowedReads {
     zoom: true,
     feature: false,
     state: false,
     ramps: true,
 };
 
-const ZF: Reads = Reads {
+const ZF: AllowedReads = AllowedReads {
     zoom: true,
     feature: true,
     state: false,
     ramps: false,
 };
 
-const ZF_I: Reads = Reads {
+const ZF_I: AllowedReads = AllowedReads {
     zoom: true,
     feature: true,
     state: false,
     ramps: true,
 };
 
-const ZFS_I: Reads = Reads {
+const ZFS_I: AllowedReads = AllowedReads {
     zoom: true,
     feature: true,
     state: true,
@@ -95,7 +95,7 @@ const ZFS_I: Reads = Reads {
 // A row that ends with `tokens` takes token texts.
 macro_rules! rows {
     ($($place:ident $name:literal: $want:expr, $given:expr, $limits:expr, $reads:expr $(, $tokens:ident)?;)*) => {
-        [$(Entry {
+        [$(TableEntry {
             name: $name,
             place: Place::$place,
             want: $want,
@@ -116,7 +116,7 @@ macro_rules! takes {
     };
 }
 
-pub(crate) static BACKGROUND: [Entry; 4] = rows! {
+pub(crate) static BACKGROUND: [TableEntry; 4] = rows! {
     Layout "visibility": Want::Enum(Choice::Visibility), Given::Word("visible"), FREE, FIXED;
     Paint "background-color": COLOR, Given::Word("#000000"), FREE, Z_I;
     Paint "background-pattern": IMAGE, ABSENT, FREE, Z;
@@ -125,7 +125,7 @@ pub(crate) static BACKGROUND: [Entry; 4] = rows! {
 
 pub(crate) static BACKGROUND_BY_NAME: [u8; 4] = [1, 3, 2, 0];
 
-pub(crate) static FILL: [Entry; 9] = rows! {
+pub(crate) static FILL: [TableEntry; 9] = rows! {
     Layout "visibility": Want::Enum(Choice::Visibility), Given::Word("visible"), FREE, FIXED;
     Layout "fill-sort-key": NUMBER, ABSENT, FREE, ZF;
     Paint "fill-antialias": BOOLEAN, Given::Flag(true), FREE, Z;
@@ -139,7 +139,7 @@ pub(crate) static FILL: [Entry; 9] = rows! {
 
 pub(crate) static FILL_BY_NAME: [u8; 9] = [2, 4, 3, 5, 8, 1, 6, 7, 0];
 
-pub(crate) static LINE: [Entry; 16] = rows! {
+pub(crate) static LINE: [TableEntry; 16] = rows! {
     Layout "visibility": Want::Enum(Choice::Visibility), Given::Word("visible"), FREE, FIXED;
     Layout "line-cap": Want::Enum(Choice::LineCap), Given::Word("butt"), FREE, Z;
     Layout "line-join": Want::Enum(Choice::LineJoin), Given::Word("miter"), FREE, ZF;
@@ -160,7 +160,7 @@ pub(crate) static LINE: [Entry; 16] = rows! {
 
 pub(crate) static LINE_BY_NAME: [u8; 16] = [13, 1, 7, 14, 11, 2, 3, 12, 6, 15, 4, 5, 8, 9, 10, 0];
 
-pub(crate) static SYMBOL: [Entry; 57] = rows! {
+pub(crate) static SYMBOL: [TableEntry; 57] = rows! {
     Layout "visibility": Want::Enum(Choice::Visibility), Given::Word("visible"), FREE, FIXED;
     Layout "symbol-placement": Want::Enum(Choice::SymbolPlacement), Given::Word("point"), FREE, Z;
     Layout "symbol-spacing": NUMBER, Given::Amount(250_000_000), FROM_1, Z_I;
@@ -226,7 +226,7 @@ pub(crate) static SYMBOL_BY_NAME: [u8; 57] = [
     24, 37, 55, 56, 30, 33, 0,
 ];
 
-pub(crate) static CIRCLE: [Entry; 13] = rows! {
+pub(crate) static CIRCLE: [TableEntry; 13] = rows! {
     Layout "visibility": Want::Enum(Choice::Visibility), Given::Word("visible"), FREE, FIXED;
     Layout "circle-sort-key": NUMBER, ABSENT, FREE, ZF;
     Paint "circle-radius": NUMBER, Given::Amount(5_000_000), FROM_0, ZFS_I;
@@ -244,7 +244,7 @@ pub(crate) static CIRCLE: [Entry; 13] = rows! {
 
 pub(crate) static CIRCLE_BY_NAME: [u8; 13] = [4, 3, 5, 9, 8, 2, 1, 11, 12, 10, 6, 7, 0];
 
-pub(crate) static HEATMAP: [Entry; 5] = rows! {
+pub(crate) static HEATMAP: [TableEntry; 5] = rows! {
     Layout "visibility": Want::Enum(Choice::Visibility), Given::Word("visible"), FREE, FIXED;
     Paint "heatmap-radius": NUMBER, Given::Amount(30_000_000), FROM_1, ZFS_I;
     Paint "heatmap-weight": NUMBER, Given::Amount(1_000_000), FROM_0, ZFS_I;
@@ -254,7 +254,7 @@ pub(crate) static HEATMAP: [Entry; 5] = rows! {
 
 pub(crate) static HEATMAP_BY_NAME: [u8; 5] = [3, 4, 1, 2, 0];
 
-pub(crate) static FILL_EXTRUSION: [Entry; 9] = rows! {
+pub(crate) static FILL_EXTRUSION: [TableEntry; 9] = rows! {
     Layout "visibility": Want::Enum(Choice::Visibility), Given::Word("visible"), FREE, FIXED;
     Paint "fill-extrusion-opacity": NUMBER, Given::Amount(1_000_000), FROM_0_TO_1, Z_I;
     Paint "fill-extrusion-color": COLOR, Given::Word("#000000"), FREE, ZFS_I;
@@ -268,7 +268,7 @@ pub(crate) static FILL_EXTRUSION: [Entry; 9] = rows! {
 
 pub(crate) static FILL_EXTRUSION_BY_NAME: [u8; 9] = [7, 2, 6, 1, 5, 3, 4, 8, 0];
 
-pub(crate) static RASTER: [Entry; 9] = rows! {
+pub(crate) static RASTER: [TableEntry; 9] = rows! {
     Layout "visibility": Want::Enum(Choice::Visibility), Given::Word("visible"), FREE, FIXED;
     Paint "raster-opacity": NUMBER, Given::Amount(1_000_000), FROM_0_TO_1, Z_I;
     Paint "raster-hue-rotate": NUMBER, Given::Amount(0), FREE, Z_I;
@@ -282,13 +282,13 @@ pub(crate) static RASTER: [Entry; 9] = rows! {
 
 pub(crate) static RASTER_BY_NAME: [u8; 9] = [4, 3, 6, 8, 2, 1, 7, 5, 0];
 
-pub(crate) static HILLSHADE: [Entry; 1] = rows! {
+pub(crate) static HILLSHADE: [TableEntry; 1] = rows! {
     Layout "visibility": Want::Enum(Choice::Visibility), Given::Word("visible"), FREE, FIXED;
 };
 
 pub(crate) static HILLSHADE_BY_NAME: [u8; 1] = [0];
 
-pub(crate) static COLOR_RELIEF: [Entry; 1] = rows! {
+pub(crate) static COLOR_RELIEF: [TableEntry; 1] = rows! {
     Layout "visibility": Want::Enum(Choice::Visibility), Given::Word("visible"), FREE, FIXED;
 };
 

@@ -4,11 +4,11 @@ ghost use Rattle.std.specs.Prelude.{◌≡◌, true, MatchOption};
 ghost use Rattle.property_tables.specs.NameIndex.{is_index, IsPlaceOf, IsNowhere};
 ghost use Rattle.property_tables.specs.RowView.{names_of};
 
-use crate::entry::Entry;
+use crate::entry::TableEntry;
 use std::cmp::Ordering;
 
 /// The place of the entry of a name. `order` has the places of all entries in the order of their names.
-pub(crate) fn place_named(entries: &[Entry], order: &[u8], name: &str) -> Option<usize>
+pub(crate) fn place_named(entries: &[TableEntry], order: &[u8], name: &str) -> Option<usize>
     requires { is_index (names_of entries.now) order.now ≡ true }
     ensures { MatchOption result (IsNowhere (names_of entries.now) name.now) (IsPlaceOf (names_of entries.now) name.now) }
 {

@@ -6,7 +6,7 @@ use Rattle.std.proofs.Math.Nat.{mul-le-mul_left, pow-le-pow_right}
 use Rattle.std.specs.Borrow.{Bor}
 use Rattle.proto_wire.specs.declared.wire.WireKind.{WireKind}
 use Rattle.proto_wire.specs.declared.wire.WireKind.TheVariants.{Varint, Truncated}
-use Rattle.proto_wire.specs.View.{Gives}
+use Rattle.proto_wire.specs.View.{GivesWire}
 use Rattle.proto_wire.specs.Varint.{above_digit, number_of, within_64_bits, varint_at, onto}
 
 abbrev pub Read : Type 0
@@ -74,14 +74,14 @@ unfolding varint_at
 fails b k e = ap within_64_bits e
 
 -- what the tenth byte makes of nine digits is the varint
-pub tenth : (b : List ℕ) (v w i : ℕ) (rest : List ℕ) (read : Result (ℕ × Bor (List ℕ)) WireKind) → i ≡ 9 → w ≡ 2 ^ (7 * i) → onto v w (number_of (10 - i) rest) ≡ number_of 10 b → Gives (λ r. (r.0, r.1.now)) read (within_64_bits (onto v (2 ^ 63) (number_of 1 rest))) → Gives (λ r. (r.0, r.1.now)) read (varint_at b)
+pub tenth : (b : List ℕ) (v w i : ℕ) (rest : List ℕ) (read : Result (ℕ × Bor (List ℕ)) WireKind) → i ≡ 9 → w ≡ 2 ^ (7 * i) → onto v w (number_of (10 - i) rest) ≡ number_of 10 b → GivesWire (λ r. (r.0, r.1.now)) read (within_64_bits (onto v (2 ^ 63) (number_of 1 rest))) → GivesWire (λ r. (r.0, r.1.now)) read (varint_at b)
 unfolding varint_at
 tenth b v w i rest read last weight e gives =
     let top : w ≡ 2 ^ 63 = weight ∙ ap (λ k. 2 ^ (7 * k)) last in
     let one : 10 - i ≡ 1 = omega arith in
     let same : within_64_bits (onto v (2 ^ 63) (number_of 1 rest)) ≡ within_64_bits (number_of 10 b) =
     ap within_64_bits (ap (λ x. onto v x (number_of 1 rest)) (sym top) ∙ ap (λ k. onto v w (number_of k rest)) (sym one) ∙ e) in
-    subst (Gives {X = ℕ × Bor (List ℕ)} {Y = ℕ × List ℕ} (λ r. (r.0, r.1.now)) read) same gives
+    subst (GivesWire {X = ℕ × Bor (List ℕ)} {Y = ℕ × List ℕ} (λ r. (r.0, r.1.now)) read) same gives
 
 -- a number of one byte
 pub one_byte : (c : ℕ) (b : List ℕ) → c < 128 → varint_at (c ∷ b) ≡ Ok (c, b)

@@ -88,6 +88,6 @@ AreFields at b (field ∷ fields) fault = (rest : List ℕ) × (field_at at b �
 
 -- Reading these fields in order leads from bytes at an offset to the bytes that are left, and their offset:
 -- what a reader has read so far.
-abbrev pub LeadsTo : ℕ → List ℕ → List WireField → ℕ → List ℕ → Type 0
-LeadsTo at b [] left_at left = (left_at ≡ at) × (left ≡ b)
-LeadsTo at b (field ∷ fields) left_at left = (rest : List ℕ) × (field_at at b ≡ Ok (field, rest)) × LeadsTo field.end rest fields left_at left
+abbrev pub ReadsFields : ℕ → List ℕ → List WireField → ℕ → List ℕ → Type 0
+ReadsFields at b [] left_at left = (left_at ≡ at) × (left ≡ b)
+ReadsFields at b (field ∷ fields) left_at left = (rest : List ℕ) × (field_at at b ≡ Ok (field, rest)) × ReadsFields field.end rest fields left_at left

@@ -6,18 +6,18 @@ use Rattle.proto_wire.specs.Message.{field_at}
 use Rattle.proto_wire.specs.View.{field_seen}
 
 -- the bytes that are left, the offset at which they are, and whether a fault came
-pub record Reading : Type 0 where
+pub record ReaderState : Type 0 where
   pub at : ℕ
   pub bytes : List ℕ
   pub failed : Bool
 
 -- nothing is left to read, or a fault came before
-abbrev pub IsOver : Reading → Type 0
+abbrev pub IsOver : ReaderState → Type 0
 IsOver reading = (reading.failed ≡ true) ⊎ (reading.bytes ≡ [])
 
 -- The next field or fault is the one at the front of what is left. A field is taken; a fault takes nothing,
 -- and is the last answer.
-abbrev pub NextGives : Reading → Option (Result Field WireFault) → Reading → Type 0
+abbrev pub NextGives : ReaderState → Option (Result Field WireFault) → ReaderState → Type 0
 NextGives old None new = (new ≡ old) × IsOver old
 NextGives old (Some (Ok field)) new =
     (old.failed ≡ false) × (field_at old.at old.bytes ≡ Ok (field_seen field new.at, new.bytes))

@@ -22,6 +22,6 @@ abbrev pub content_length : Wire → ℕ
 content_length wire = length (content_of (payload_seen wire))
 
 -- what a reader returned, as the definitions see it, is what the bytes begin with
-abbrev pub Gives : {X Y : Type 0} → (X → Y) → Result X WireKind → Result Y WireKind → Type 0
-Gives seen (Ok x) read = read ≡ Ok (seen x)
-Gives seen (Err kind) read = read ≡ Err kind
+abbrev pub GivesWire : {X Y : Type 0} → (X → Y) → Result X WireKind → Result Y WireKind → Type 0
+GivesWire seen (Ok x) read = read ≡ Ok (seen x)
+GivesWire seen (Err kind) read = read ≡ Err kind

@@ -1,7 +1,7 @@
 ghost use Rattle.std.specs.Prelude.{◌≡◌, ◌+◌, ◌-◌, ◌<◌, ◌≤◌, length, IfOk, Result, Ok, Err};
 ghost use Rattle.proto_wire.specs.Varint.{varint_at};
 ghost use Rattle.proto_wire.specs.Message.{front_of, wire_type_of, tag_of, tag_at, payload_at, field_at};
-ghost use Rattle.proto_wire.specs.View.{Gives, payload_seen, content_length, field_seen};
+ghost use Rattle.proto_wire.specs.View.{GivesWire, payload_seen, content_length, field_seen};
 
 use crate::wire::{WireKind, varint};
 
@@ -48,7 +48,7 @@ enum WireType {
 /// The field at the front of bytes that are at the offset `at`, and the bytes after it.
 #[tactic(auto, unfolding(crate::specs::Message::field_at))]
 pub(crate) fn read_field(bytes: &[u8], at: usize) -> Result<(Field<'_>, &[u8]), WireKind>
-    ensures field { Gives (λ read. (field_seen read.0 (at + (length bytes.now - length read.1.now)), read.1.now))
+    ensures field { GivesWire (λ read. (field_seen read.0 (at + (length bytes.now - length read.1.now)), read.1.now))
         result (field_at at bytes.now) }
     ensures taken { IfOk result (λ read. content_length read.0.wire + length read.1.now < length bytes.now) }
 {
@@ -60,7 +60,7 @@ pub(crate) fn read_field(bytes: &[u8], at: usize) -> Result<(Field<'_>, &[u8]), 
 // The field number and the wire type at the front.
 #[tactic(auto, unfolding(crate::specs::Message::tag_at))]
 fn tag(bytes: &[u8]) -> Result<((u32, WireType), &[u8]), WireKind>
-    ensures tag { Gives (λ read. ((read.0.0, read.0.1), read.1.now)) result (tag_at bytes.now) }
+    ensures tag { GivesWire (λ read. ((read.0.0, read.0.1), read.1.now)) result (tag_at bytes.now) }
     ensures taken { IfOk result (λ read. length read.1.now < length bytes.now) }
 {
     let (tag, rest) = number(bytes)?;
@@ -89,7 +89,7 @@ fn wire_type(code: u32) -> Result<WireType, WireKind>
 // What a field of this wire type holds, at the front.
 #[tactic(auto, unfolding(crate::specs::Message::payload_at))]
 fn payload(wire_type: WireType, bytes: &[u8]) -> Result<(Wire<'_>, &[u8]), WireKind>
-    ensures payload { Gives (λ read. (payload_seen read.0, read.1.now)) result (payload_at wire_type bytes.now) }
+    ensures payload { GivesWire (λ read. (payload_seen read.0, read.1.now)) result (payload_at wire_type bytes.now) }
     ensures taken { IfOk result (λ read. content_length read.0 + length read.1.now ≤ length bytes.now) }
 {
     match wire_type {
@@ -119,7 +119,7 @@ fn payload(wire_type: WireType, bytes: &[u8]) -> Result<(Wire<'_>, &[u8]), WireK
 
 // The number at the front, and the bytes after it.
 fn number(bytes: &[u8]) -> Result<(u64, &[u8]), WireKind>
-    ensures number { Gives (λ read. (read.0, read.1.now)) result (varint_at bytes.now) }
+    ensures number { GivesWire (λ read. (read.0, read.1.now)) result (varint_at bytes.now) }
     ensures taken { IfOk result (λ read. length read.1.now < length bytes.now) }
 {
     let mut rest = bytes;
@@ -129,7 +129,7 @@ fn number(bytes: &[u8]) -> Result<(u64, &[u8]), WireKind>
 
 // The first `count` bytes, and those after them.
 fn front(bytes: &[u8], count: u64) -> Result<(&[u8], &[u8]), WireKind>
-    ensures front { Gives (λ read. (read.0.now, read.1.now)) result (front_of count bytes.now) }
+    ensures front { GivesWire (λ read. (read.0.now, read.1.now)) result (front_of count bytes.now) }
     ensures length { IfOk result (λ read. length read.0.now ≡ count) }
     ensures taken { IfOk result (λ read. length read.0.now + length read.1.now ≡ length bytes.now) }
 {

@@ -18,9 +18,9 @@ pub struct Fields<'a> {
 
 impl<'a> Model for Fields<'a> {
     ghost use Rattle.std.specs.Prelude.{◌+◌, ◌^◌, ◌<◌, length};
-    ghost use Rattle.proto_wire.specs.Reading.{Reading};
+    ghost use Rattle.proto_wire.specs.Reading.{ReaderState};
 
-    ghost Value = { Reading };
+    ghost Value = { ReaderState };
 
     ghost view = { λ fields. record { at = fields.offset; bytes = fields.rest.now; failed = fields.over } };
 

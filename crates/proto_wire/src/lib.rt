@@ -14,7 +14,7 @@
 //! where the encoding has one, with its kind and place, and nothing is read after a fault. No call takes
 //! memory, each takes time linear in what it reads, and contents are borrowed and not copied.
 //!
-//! Contracts speak in the words of `specs/Message.antt`: `field_at` for one field, `LeadsTo` for the fields
+//! Contracts speak in the words of `specs/Message.antt`: `field_at` for one field, `ReadsFields` for the fields
 //! that a loop has read so far, `AreFields` for all of them with the fault or none. `proofs/Walks.antt` joins
 //! the three.
 //!

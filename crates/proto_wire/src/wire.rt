@@ -1,6 +1,6 @@
 ghost use Rattle.std.specs.Prelude.{◌≡◌, ◌<◌, ◌^◌, length, OnOk, OnErr, IfOk, IfErr, Ok, Err};
 ghost use Rattle.proto_wire.specs.Varint.{varint_at, number_of, within_64_bits, onto};
-ghost use Rattle.proto_wire.specs.View.{Gives};
+ghost use Rattle.proto_wire.specs.View.{GivesWire};
 
 /// What is wrong with the bytes of a field.
 #[derive(Clone, Copy, Debug, PartialEq, Eq)]
@@ -41,7 +41,7 @@ pub fn varint(bytes: &mut &[u8]) -> Result<u64, WireKind>
 
 // The number at the front in whatever spelling, and the bytes after it. Nine digits fit 63 bits.
 fn digits(bytes: &[u8]) -> Result<(u64, &[u8]), WireKind>
-    ensures number { Gives (λ read. (read.0, read.1.now)) result (varint_at bytes.now) }
+    ensures number { GivesWire (λ read. (read.0, read.1.now)) result (varint_at bytes.now) }
     ensures taken { IfOk result (λ read. length read.1.now < length bytes.now) }
 {
     let mut value = 0u64;
@@ -64,7 +64,7 @@ fn digits(bytes: &[u8]) -> Result<(u64, &[u8]), WireKind>
 // The number whose first nine digits are `value`, of which the tenth is the highest bit of 64.
 fn tenth_digit(value: u64, bytes: &[u8]) -> Result<(u64, &[u8]), WireKind>
     requires { value < 2 ^ 63 }
-    ensures number { Gives (λ read. (read.0, read.1.now)) result (within_64_bits (onto value (2 ^ 63) (number_of 1 bytes.now))) }
+    ensures number { GivesWire (λ read. (read.0, read.1.now)) result (within_64_bits (onto value (2 ^ 63) (number_of 1 bytes.now))) }
     ensures taken { IfOk result (λ read. length read.1.now < length bytes.now) }
 {
     match bytes.split_first() {

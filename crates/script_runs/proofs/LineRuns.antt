@@ -5,14 +5,14 @@ use Rattle.edit_script.specs.Edit.{Edit}
 use Rattle.edit_script.specs.Line.{AnswersLine}
 use Rattle.edit_script.specs.declared.command.LineFault.{LineFault}
 use Rattle.edit_session.specs.Applied.{Reply, applied}
-use Rattle.edit_session.specs.Presentation.{Presentation}
-use Rattle.program_runs.specs.Outcome.{Outcome}
+use Rattle.edit_session.specs.SessionState.{SessionState}
+use Rattle.program_runs.specs.Outcome.{RunOutcome}
 use Rattle.program_runs.specs.Runs.{Run, HasOutcome}
 use Rattle.script_runs.specs.AnswerTexts.{fault_name, refused_line, reply_text, is_refused}
 use Rattle.script_runs.specs.ScriptRun.{LineOut, line_out, lines_run, replied}
 use Rattle.style_layout.specs.Shown.{SourceTile}
 
-module _ (files : List ℕ → Option (List ℕ)) (tiles : List SourceTile) (scripts : List ℕ → Bool) (can_change : Bool) (number : ℕ) (p : Presentation) (out : List ℕ) (any : Bool) (lines : List (List ℕ)) (o : Outcome) where
+module _ (files : List ℕ → Option (List ℕ)) (tiles : List SourceTile) (scripts : List ℕ → Bool) (can_change : Bool) (number : ℕ) (p : SessionState) (out : List ℕ) (any : Bool) (lines : List (List ℕ)) (o : RunOutcome) where
   -- the run after a line
   abbrev next_run : LineOut → Run
   next_run l = lines_run tiles scripts can_change (number + 1) l.after (out ++ l.text) (any || l.is_refused) lines
@@ -23,21 +23,21 @@ module _ (files : List ℕ → Option (List ℕ)) (tiles : List SourceTile) (scr
   behind_line line read (inr (none, e)) made = inr (none, subst (λ r. HasOutcome files (next_run (line_out tiles scripts can_change number p r)) o) e made)
 
   -- what is written and refused, as the code has it
-  as_written : (after : Presentation) (text new : List ℕ) (said refused : Bool) → new ≡ out ++ text → refused ≡ said
+  as_written : (after : SessionState) (text new : List ℕ) (said refused : Bool) → new ≡ out ++ text → refused ≡ said
       → HasOutcome files (lines_run tiles scripts can_change (number + 1) after new (any || refused) lines) o
       → HasOutcome files (lines_run tiles scripts can_change (number + 1) after (out ++ text) (any || said) lines) o
   as_written after text new said refused written is made =
       subst (λ x. HasOutcome files (lines_run tiles scripts can_change (number + 1) after x (any || said) lines) o) written
       (subst (λ b. HasOutcome files (lines_run tiles scripts can_change (number + 1) after new (any || b) lines) o) is made)
 
-  pub leads_command : (line : List ℕ) (read : Result Edit LineFault) (edit : Edit) (after : Presentation) (reply : Reply) (new : List ℕ) (refused : Bool)
+  pub leads_command : (line : List ℕ) (read : Result Edit LineFault) (edit : Edit) (after : SessionState) (reply : Reply) (new : List ℕ) (refused : Bool)
       → AnswersLine line read → read ≡ Ok edit → (after, reply) ≡ applied tiles scripts can_change p edit → new ≡ out ++ reply_text number reply → refused ≡ is_refused reply
       → HasOutcome files (lines_run tiles scripts can_change (number + 1) after new (any || refused) lines) o
       → HasOutcome files (lines_run tiles scripts can_change number p out any (line ∷ lines)) o
   leads_command line read edit after reply new refused answers is applies written says made =
       behind_line line read answers
       (subst (λ r. HasOutcome files (next_run (line_out tiles scripts can_change number p r)) o) (sym is)
-      (subst (λ (a : Presentation × Reply). HasOutcome files (next_run (replied number a)) o) applies
+      (subst (λ (a : SessionState × Reply). HasOutcome files (next_run (replied number a)) o) applies
       (as_written after (reply_text number reply) new (is_refused reply) refused written says made)))
 
   pub leads_fault : (line : List ℕ) (read : Result Edit LineFault) (fault : LineFault) (new : List ℕ)

@@ -6,7 +6,7 @@ use Rattle.edit_script.specs.Edit.{Edit}
 use Rattle.edit_script.specs.declared.command.LineFault.{LineFault}
 use Rattle.edit_script.specs.declared.command.LineFault.TheVariants.{Json}
 use Rattle.edit_session.specs.Applied.{Reply, applied}
-use Rattle.edit_session.specs.Presentation.{Presentation}
+use Rattle.edit_session.specs.SessionState.{SessionState}
 use Rattle.program_runs.specs.declared.status.Ending.{Ending}
 use Rattle.program_runs.specs.declared.status.Ending.TheVariants.{Fine, Found}
 use Rattle.program_runs.specs.Outcome.{said}
@@ -22,11 +22,11 @@ line_command None = Err Json
 
 -- what a line gives: what is shown after it, the text that is written, and whether it is refused
 pub record LineOut : Type 0 where
-  pub after : Presentation
+  pub after : SessionState
   pub text : List ℕ
   pub is_refused : Bool
 
-abbrev pub replied : ℕ → Presentation × Reply → LineOut
+abbrev pub replied : ℕ → SessionState × Reply → LineOut
 replied number a = record { after = a.0; text = reply_text number a.1; is_refused = is_refused a.1 }
 
 -- how a run ends, by whether a line was refused
@@ -37,13 +37,13 @@ ending_by any = if any then Found else Fine
 -- change
 module _ (tiles : List SourceTile) (scripts : List ℕ → Bool) (can_change : Bool) where
   -- a line that is no command changes nothing
-  abbrev pub line_out : ℕ → Presentation → Result Edit LineFault → LineOut
+  abbrev pub line_out : ℕ → SessionState → Result Edit LineFault → LineOut
   line_out number p (Ok edit) = replied number (applied tiles scripts can_change p edit)
   line_out number p (Err fault) = record { after = p; text = refused_line number (fault_name fault); is_refused = true }
 
   -- The run of lines from this number on, after the text that is written already; `any` says whether a line
   -- before them was refused.
-  abbrev pub lines_run : (number : ℕ) → Presentation → (out : List ℕ) → (any : Bool) → List (List ℕ) → Run
+  abbrev pub lines_run : (number : ℕ) → SessionState → (out : List ℕ) → (any : Bool) → List (List ℕ) → Run
   lines_run number p out any [] = ends (said out (ending_by any))
   lines_run number p out any (l ∷ ls) =
       may_parse l (λ t.
@@ -51,5 +51,5 @@ module _ (tiles : List SourceTile) (scripts : List ℕ → Bool) (can_change : B
       (out ++ (line_out number p (line_command t)).text) (any || (line_out number p (line_command t)).is_refused) ls)
 
   -- The run of a script.
-  abbrev pub script_run : Presentation → List ℕ → Run
+  abbrev pub script_run : SessionState → List ℕ → Run
   script_run p script = lines_run 1 p [] false (script_lines script)

@@ -1,8 +1,8 @@
 //! The run of a script.
 
 ghost use Rattle.std.specs.Prelude.{◌≡◌, ◌+◌, ◌<◌, ◌∷◌, ℕ, List, Bool, Option, OnOk, IfOk, ◌||◌};
-ghost use Rattle.edit_session.specs.View.{presented, tiles_of, IsSound};
-ghost use Rattle.program_runs.specs.Outcome.{Outcome};
+ghost use Rattle.edit_session.specs.View.{session_state, tiles_of, IsSoundSession};
+ghost use Rattle.program_runs.specs.Outcome.{RunOutcome};
 ghost use Rattle.program_runs.specs.Progress.{outcome_of};
 ghost use Rattle.program_runs.specs.Runs.{HasOutcome};
 ghost use Rattle.script_runs.specs.ScriptRun.{lines_run, script_run, ending_by};
@@ -12,7 +12,7 @@ use crate::lines::next_line;
 use edit_script::read_line;
 use edit_session::Session;
 use host_ops::HostOp;
-use program_runs::{Answer, Ending, answer_out};
+use program_runs::{Ending, RunOutput, answer_out};
 use std::alloc::{AllocError, Global};
 
 /// A line of a script, with its number counted from 1.
@@ -29,10 +29,10 @@ pub fn answer_script(
     script: &[u8],
     images: &mut dyn HostOp,
     scripts: &dyn HostOp,
-) -> Result<Answer, AllocError>
-    requires { IsSound session.old }
+) -> Result<RunOutput, AllocError>
+    requires { IsSoundSession session.old }
     ensures { (files : List ℕ → Option (List ℕ)) → IfOk result (λ answer. HasOutcome files
-        (script_run (tiles_of session.old) (test scripts.now) (changes images.old) (presented session.old (test images.old)) script.now)
+        (script_run (tiles_of session.old) (test scripts.now) (changes images.old) (session_state session.old (test images.old)) script.now)
         (outcome_of answer)) }
 {
     let mut out = Vec::new(alloc);
@@ -67,15 +67,15 @@ fn answer_line(
     scripts: &dyn HostOp,
     out: &mut Vec<u8>,
 ) -> Result<bool, AllocError>
-    requires { IsSound session.old }
-    ensures sound { IsSound session.new }
+    requires { IsSoundSession session.old }
+    ensures sound { IsSoundSession session.new }
     ensures tiles { tiles_of session.new ≡ tiles_of session.old }
     ensures changes { changes images.new ≡ changes images.old }
-    ensures leads { (files : List ℕ → Option (List ℕ)) (any : Bool) (lines : List (List ℕ)) (o : Outcome) → IfOk result (λ refused.
+    ensures leads { (files : List ℕ → Option (List ℕ)) (any : Bool) (lines : List (List ℕ)) (o : RunOutcome) → IfOk result (λ refused.
         HasOutcome files (lines_run (tiles_of session.old) (test scripts.now) (changes images.old) (line.now.number + 1)
-        (presented session.new (test images.new)) out.new.items (any || refused) lines) o →
+        (session_state session.new (test images.new)) out.new.items (any || refused) lines) o →
         HasOutcome files (lines_run (tiles_of session.old) (test scripts.now) (changes images.old) line.now.number
-        (presented session.old (test images.old)) out.old.items any (line.now.bytes.now ∷ lines)) o) }
+        (session_state session.old (test images.old)) out.old.items any (line.now.bytes.now ∷ lines)) o) }
 {
     match read_line(alloc, line.bytes)? {
         Ok(command) => {

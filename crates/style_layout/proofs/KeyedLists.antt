@@ -7,7 +7,7 @@ use Rattle.style_layout.specs.CodeView.{feature_seen, keyed_before, keyed_seen}
 use Rattle.style_layout.specs.Forms.{Scene, Property}
 use Rattle.style_layout.specs.Shown.{LayerFeature, goes_before}
 use Rattle.style_layout.specs.Walk.{with_key, with_keys}
-use Rattle.style_layout.specs.declared.sorted.Keyed.{Keyed}
+use Rattle.style_layout.specs.declared.sorted.SortedFeature.{SortedFeature}
 
 -- what is made of each of a list in order is in the order that agrees
 module _ {X Y : Type 0} (f : X → Y) (a : X → X → Bool) (b : Y → Y → Bool) (agree : (x y : X) → a x y ≡ b (f x) (f y)) where
@@ -31,7 +31,7 @@ KeyedFeature = Option ℤ × LayerFeature
 abbrev before : KeyedFeature → KeyedFeature → Bool
 before a b = key_before a.0 b.0
 
-without_key : (ks : List Keyed) → map (λ (k : Keyed). feature_seen k.feature) ks ≡ map (λ (q : KeyedFeature). q.1) (map keyed_seen ks)
+without_key : (ks : List SortedFeature) → map (λ (k : SortedFeature). feature_seen k.feature) ks ≡ map (λ (q : KeyedFeature). q.1) (map keyed_seen ks)
 without_key [] = refl
 without_key (k ∷ ks) = ap (λ fs. feature_seen k.feature ∷ fs) (without_key ks)
 
@@ -41,8 +41,8 @@ module _ (scene : Scene) (p : Property) where
   again (f ∷ fs) = ap (λ later. f ∷ later) (again fs)
 
   -- the features of a list that was sorted by keys
-  pub in_key_order : (ks : List Keyed) (fs : List LayerFeature) → map keyed_seen ks ≡ with_keys scene p fs
-      → map (λ (k : Keyed). feature_seen k.feature) (in_order keyed_before ks) ≡ in_order (goes_before scene p) fs
+  pub in_key_order : (ks : List SortedFeature) (fs : List LayerFeature) → map keyed_seen ks ≡ with_keys scene p fs
+      → map (λ (k : SortedFeature). feature_seen k.feature) (in_order keyed_before ks) ≡ in_order (goes_before scene p) fs
   in_key_order ks fs keyed =
       without_key (in_order keyed_before ks)
       ∙ (ap (map (λ (q : KeyedFeature). q.1)) (map_in_order keyed_seen keyed_before before (λ x y. refl) ks

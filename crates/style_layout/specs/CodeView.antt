@@ -22,7 +22,7 @@ use Rattle.style_layout.specs.declared.prepared.PreparedStyle.{PreparedStyle}
 use Rattle.style_layout.specs.Tests.{Tests}
 use Rattle.style_layout.specs.declared.scene.Scene.{Scene}
 use Rattle.style_layout.specs.declared.scene.SourceTile.{SourceTile}
-use Rattle.style_layout.specs.declared.sorted.Keyed.{Keyed}
+use Rattle.style_layout.specs.declared.sorted.SortedFeature.{SortedFeature}
 
 abbrev pub value_seen : PropertyValue → forms.PropertyValue
 value_seen (values.Literal v) = forms.literal (data_of v)
@@ -76,8 +76,8 @@ scene_seen tests s = record {
 abbrev pub feature_seen : LayerFeature → shown.LayerFeature
 feature_seen f = record { number = f.number; feature = f.feature.now; state = world.state_of f.state }
 
-abbrev pub keyed_seen : Keyed → Option ℤ × shown.LayerFeature
+abbrev pub keyed_seen : SortedFeature → Option ℤ × shown.LayerFeature
 keyed_seen k = (k.key, feature_seen k.feature)
 
-abbrev pub keyed_before : Keyed → Keyed → Bool
+abbrev pub keyed_before : SortedFeature → SortedFeature → Bool
 keyed_before a b = key_before a.key b.key

@@ -156,7 +156,7 @@ condition_of (Ok (Some t)) = condition t
 condition_of (Ok None) = outside_filter
 condition_of (Err fault) = outside_filter
 
-abbrev pub legacy_of : filters.Read → LayerFilter
+abbrev pub legacy_of : filters.FilterRead → LayerFilter
 legacy_of (Ok f) = legacy_filter f
 legacy_of (Err fault) = outside_filter
 

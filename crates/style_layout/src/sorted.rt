@@ -19,7 +19,7 @@ use std::alloc::{AllocError, Global};
 
 /// A feature that passes, with its sort key.
 #[derive(Clone, Copy)]
-pub(crate) struct Keyed<'a> {
+pub(crate) struct SortedFeature<'a> {
     /// In millionths.
     pub(crate) key: Option<i128>,
     pub(crate) feature: LayerFeature<'a>,
@@ -51,7 +51,7 @@ fn keyed_features<'a, E: Evaluator>(
     property: &Property,
     scene: &'a Scene<'_, E>,
     tiles: &'a [SourceTile<'a>],
-) -> Result<Vec<Keyed<'a>>, AllocError>
+) -> Result<Vec<SortedFeature<'a>>, AllocError>
     requires { length (layer_features (map tile_seen tiles.now) (layer_seen layer.now)) < 2 ^ 32 }
     ensures { IfOk result (λ keyed. map keyed_seen keyed.items
         ≡ with_keys (scene_seen E.tests scene.now) (property_seen property.now)
@@ -61,7 +61,7 @@ fn keyed_features<'a, E: Evaluator>(
     let mut features = LayerFeatures::new(layer, tiles);
     while let Some(feature) = features.next_shown(alloc, layer, scene)? {
         let key = sort_key(alloc, property, scene, &feature)?;
-        keyed.push(Keyed { key, feature })?;
+        keyed.push(SortedFeature { key, feature })?;
     }
     Ok(keyed)
 }
@@ -98,7 +98,7 @@ fn number_of(value: &Value) -> Option<i128>
     }
 }
 
-fn put_in_order(keyed: &mut Vec<Keyed<'_>>) -> Result<(), AllocError>
+fn put_in_order(keyed: &mut Vec<SortedFeature<'_>>) -> Result<(), AllocError>
     ensures { OnOk result (keyed.new.items ≡ in_order keyed_before keyed.old.items) }
 {
     keyed.sort_by_key(|one| one.key)?;
@@ -109,11 +109,11 @@ fn write_keyed<E: Evaluator>(
     alloc: Global,
     layer: &StyleLayer,
     scene: &Scene<'_, E>,
-    keyed: &[Keyed<'_>],
+    keyed: &[SortedFeature<'_>],
     out: &mut Vec<u8>,
 ) -> Result<(), AllocError>
     ensures { OnOk result (out.new.items ≡ out.old.items
-        ++ lines_of (scene_seen E.tests scene.now) (layer_seen layer.now) (map (λ (k : Keyed). feature_seen k.feature) keyed.now)) }
+        ++ lines_of (scene_seen E.tests scene.now) (layer_seen layer.now) (map (λ (k : SortedFeature). feature_seen k.feature) keyed.now)) }
 {
     for one in keyed {
         write_feature(alloc, layer, scene, &one.feature, out)?;

@@ -2,10 +2,10 @@
 use Rattle.std.specs.Prelude.{◌≡◌, ℕ, List, codes, Bool, Option}
 use Rattle.std.proofs.Common.{subst}
 use Rattle.expr_syntax.specs.Reading.{reading}
-use Rattle.program_runs.specs.Outcome.{Outcome}
+use Rattle.program_runs.specs.Outcome.{RunOutcome}
 use Rattle.program_runs.specs.Progress.{HaltsAt}
 use Rattle.program_runs.specs.Runs.{Run, HasOutcome, ends, parses}
-use Rattle.program_runs.specs.declared.halt.Halt.{Halt}
+use Rattle.program_runs.specs.declared.halt.RunHalt.{RunHalt}
 use Rattle.style_program.specs.ValueRun.{value_run, expression_outcome}
 
 -- the bytes that were parsed are those of the word
@@ -13,8 +13,8 @@ module _ (files : List ℕ → Option (List ℕ)) (images scripts : List ℕ →
   abbrev run_over : List ℕ → Run
   run_over b = parses (codes "expr") b (λ t. ends (expression_outcome images scripts (reading t)))
 
-  pub of_text : (o : Outcome) → bytes ≡ text → HasOutcome files (run_over bytes) o → HasOutcome files (value_run images scripts text) o
+  pub of_text : (o : RunOutcome) → bytes ≡ text → HasOutcome files (run_over bytes) o → HasOutcome files (value_run images scripts text) o
   of_text o same = subst (λ b. HasOutcome files (run_over b) o) same
 
-  pub halt_of_text : (count : ℕ) (failed : Option (List ℕ)) (h : Halt) → bytes ≡ text → HaltsAt files (run_over bytes) count count failed failed h → HaltsAt files (value_run images scripts text) count count failed failed h
+  pub halt_of_text : (count : ℕ) (failed : Option (List ℕ)) (h : RunHalt) → bytes ≡ text → HaltsAt files (run_over bytes) count count failed failed h → HaltsAt files (value_run images scripts text) count count failed failed h
   halt_of_text count failed h same = subst (λ b. HaltsAt files (run_over b) count count failed failed h) same

@@ -3,31 +3,31 @@ use Rattle.std.proofs.Common.{◌≡◌, ℕ, List, [], ◌++◌, Bool, ap, ap�
 use Rattle.std.specs.Prelude.{Option, None, Result, Ok, Err, IfOk}
 use Rattle.edit_session.specs.Applied.{listing_of}
 use Rattle.edit_session.specs.Opening.{tiles_fault}
-use Rattle.edit_session.specs.Presentation.{Presentation, opened}
-use Rattle.program_runs.specs.Outcome.{Outcome, said}
+use Rattle.edit_session.specs.SessionState.{SessionState, opened}
+use Rattle.program_runs.specs.Outcome.{RunOutcome, said}
 use Rattle.program_runs.specs.Progress.{outcome_of}
 use Rattle.program_runs.specs.Runs.{HasOutcome, ends}
-use Rattle.program_runs.specs.declared.answer.Answer.{Answer}
+use Rattle.program_runs.specs.declared.answer.RunOutput.{RunOutput}
 use Rattle.program_runs.specs.declared.status.Ending.TheVariants.{Fine}
 use Rattle.script_runs.specs.ScriptRun.{script_run}
 use Rattle.style_layout.specs.Shown.{SourceTile}
 use Rattle.style_program.specs.EvalRun.{listed_outcome, listed_run, opened_or_refused}
 use Rattle.style_program.specs.ReplayRun.{edited_run}
-use Rattle.style_program.specs.ShownRun.{ShownStyle}
+use Rattle.style_program.specs.ShownRun.{LoadedStyle}
 use Rattle.style_program.specs.Words.{EvalWords, ReplayWords}
 
 -- what holds of any value that was answered holds of this
 pub of_ok : {T E : Type 0} (P : T → Type 0) (r : Result T E) (t : T) → r ≡ Ok t → IfOk r P → P t
 of_ok P r t is h = subst (λ x. IfOk x P) is h
 
-module _ (files : List ℕ → Option (List ℕ)) (images scripts : List ℕ → Bool) (shown : ShownStyle) (p : Presentation) (tiles : List SourceTile) (over : tiles ≡ shown.1) where
-  pub listed_at_first : (w : EvalWords) (before text : List ℕ) (o : Outcome) → None ≡ tiles_fault shown.0 shown.1 w.zoom → p ≡ opened shown.0 w.zoom images
+module _ (files : List ℕ → Option (List ℕ)) (images scripts : List ℕ → Bool) (shown : LoadedStyle) (p : SessionState) (tiles : List SourceTile) (over : tiles ≡ shown.1) where
+  pub listed_at_first : (w : EvalWords) (before text : List ℕ) (o : RunOutcome) → None ≡ tiles_fault shown.0 shown.1 w.zoom → p ≡ opened shown.0 w.zoom images
       → before ≡ [] → text ≡ before ++ listing_of tiles scripts p → o ≡ said text Fine → HasOutcome files (listed_run w images scripts shown) o
   listed_at_first w before text o none first empty written made =
       subst (λ f. HasOutcome files (opened_or_refused f (ends (listed_outcome w images scripts shown))) o) none
       (made ∙ ap (λ x. said x Fine) (written ∙ (ap (λ b. b ++ listing_of tiles scripts p) empty ∙ ap₂ (λ q ts. listing_of ts scripts q) first over)))
 
-  pub script_at_first : {E : Type 0} (can_change : Bool) (w : ReplayWords) (script : List ℕ) (r : Result Answer E) → None ≡ tiles_fault shown.0 shown.1 w.shown.zoom → p ≡ opened shown.0 w.shown.zoom images
+  pub script_at_first : {E : Type 0} (can_change : Bool) (w : ReplayWords) (script : List ℕ) (r : Result RunOutput E) → None ≡ tiles_fault shown.0 shown.1 w.shown.zoom → p ≡ opened shown.0 w.shown.zoom images
       → IfOk r (λ a. HasOutcome files (script_run tiles scripts can_change p script) (outcome_of a))
       → IfOk r (λ a. HasOutcome files (edited_run w images scripts can_change shown script) (outcome_of a))
   script_at_first can_change w script (Err none_made) none first made = tt

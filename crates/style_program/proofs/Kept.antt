@@ -4,7 +4,7 @@ use Rattle.std.specs.Prelude.{◌≢◌, Option, Some, None, ◌⊎◌}
 use Rattle.std.proofs.lemmas.List.{append-nil}
 use Rattle.outside_io.specs.Counts.{raised, Still}
 use Rattle.outside_io.specs.Writing.{Gains, GainsPrefix}
-use Rattle.program_runs.specs.declared.answer.Answer.{Answer}
+use Rattle.program_runs.specs.declared.answer.RunOutput.{RunOutput}
 use Rattle.program_runs.specs.declared.status.Ending.{Ending}
 use Rattle.program_runs.specs.declared.status.Ending.TheVariants as endings
 use Rattle.program_runs.specs.declared.status.Status.{Status}
@@ -47,7 +47,7 @@ module _ (files : List ℕ → Option (List ℕ)) (run : Run) (FilesStay : Type 
   Keeps status =
       KeepsPromises files run status (outside reads₀ unread₀ out₀ outs₀ err₀ errs₀) (outside reads₁ unread₁ out₁ outs₁ err₁ errs₁) FilesStay
 
-  module _ (made : Answer) (defined : HasOutcome files run (outcome_of made)) (none : NoneFailed reads₀ reads₁ unread₀ unread₁)
+  module _ (made : RunOutput) (defined : HasOutcome files run (outcome_of made)) (none : NoneFailed reads₀ reads₁ unread₀ unread₁)
       (out : GainsPrefix out₀ out₁ made.out.items) (err : GainsPrefix err₀ err₁ made.err.items) where
     -- both texts were written
     pub written : Gains out₀ out₁ made.out.items × Gains err₀ err₁ made.err.items → (outs₁ ≡ outs₀) × (errs₁ ≡ errs₀)

@@ -17,7 +17,7 @@ use Rattle.typing_laws.specs.TypingLaws.{EveryFaultIsListed}
 use Rattle.program_runs.specs.declared.status.Status.{Status}
 use Rattle.program_runs.specs.declared.status.Status.TheVariants as status
 use Rattle.program_runs.specs.Ending.{status_of}
-use Rattle.program_runs.specs.Outcome.{Outcome}
+use Rattle.program_runs.specs.Outcome.{RunOutcome}
 use Rattle.program_runs.specs.Runs.{HasOutcome}
 use Rattle.style_program.specs.Commands.{asked_run}
 use Rattle.style_program.specs.ListedFaults.{GivesListedFault, ListsItsFault}
@@ -25,7 +25,7 @@ use Rattle.style_program.specs.ValueRun.{value_world, value_outcome, typed_outco
 use Rattle.style_program.specs.Words as words
 
 -- an outcome that ends in Found
-abbrev EndsFound : Outcome → Type 0
+abbrev EndsFound : RunOutcome → Type 0
 EndsFound o = status_of o.ending ≡ status.Found
 
 module _ (every_fault_is_listed : EveryFaultIsListed) (images scripts : List ℕ → Bool) (expression : List ℕ) (t : Tree) (spelled : Spells all_rules expression t) where
@@ -53,7 +53,7 @@ module _ (every_fault_is_listed : EveryFaultIsListed) (images scripts : List ℕ
   found_reading (Err fault) read ends = absurd (cc)
 
 module _ (law : EveryFaultIsListed) (files : List ℕ → Option (List ℕ)) (images scripts : List ℕ → Bool) (can_change : Bool) where
-  found_asked : (ask : words.Asked) (o : Outcome) → HasOutcome files (asked_run images scripts can_change ask) o → EndsFound o → ListsItsFault images scripts ask
+  found_asked : (ask : words.Asked) (o : RunOutcome) → HasOutcome files (asked_run images scripts can_change ask) o → EndsFound o → ListsItsFault images scripts ask
   found_asked (words.Value expression) o (inl (t, spelled, is)) ends = found_reading law images scripts expression t spelled (reading t) refl (sym (ap (λ p. status_of p.ending) is) ∙ ends)
   found_asked (words.Value expression) o (inr (kind, at, none, place, cause, is)) ends = absurd (let refused = ap (λ p. status_of p.ending) is in cc)
   found_asked (words.Validate style) o defined ends = tt
@@ -65,5 +65,5 @@ module _ (law : EveryFaultIsListed) (files : List ℕ → Option (List ℕ)) (im
   found_asked words.Wrong o defined ends = tt
 
   -- of an answer to what the words ask for
-  pub found_is_listed : (ws : List (List ℕ)) (ask : words.Asked) (o : Outcome) (answer : Status) → ask ≡ words.asked ws → HasOutcome files (asked_run images scripts can_change ask) o → answer ≡ status_of o.ending → answer ≡ status.Found → ListsItsFault images scripts (words.asked ws)
+  pub found_is_listed : (ws : List (List ℕ)) (ask : words.Asked) (o : RunOutcome) (answer : Status) → ask ≡ words.asked ws → HasOutcome files (asked_run images scripts can_change ask) o → answer ≡ status_of o.ending → answer ≡ status.Found → ListsItsFault images scripts (words.asked ws)
   found_is_listed ws ask o answer of_words defined is ends = subst (λ a. ListsItsFault images scripts a) of_words (found_asked ask o defined (sym is ∙ ends))

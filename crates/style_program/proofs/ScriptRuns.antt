@@ -2,29 +2,29 @@
 use Rattle.std.proofs.Common.{◌≡◌, ℕ, List, sym, subst}
 use Rattle.std.specs.Prelude.{Option, Bool}
 use Rattle.program_runs.specs.FailedReads.{NoneFailed}
-use Rattle.program_runs.specs.Outcome.{Outcome}
-use Rattle.program_runs.specs.Progress.{LeadsTo, HaltsAt, GoesOn, Halts}
+use Rattle.program_runs.specs.Outcome.{RunOutcome}
+use Rattle.program_runs.specs.Progress.{ComesTo, HaltsAt, GoesOn, Halts}
 use Rattle.program_runs.specs.Runs.{Run, HasOutcome}
-use Rattle.program_runs.specs.declared.halt.Halt.{Halt}
+use Rattle.program_runs.specs.declared.halt.RunHalt.{RunHalt}
 use Rattle.program_runs.proofs.Going.{leads_on, halts_on}
 use Rattle.style_program.specs.ReplayRun.{replay_run, script_part, edited_run}
-use Rattle.style_program.specs.ShownRun.{ShownStyle, shown_part}
+use Rattle.style_program.specs.ShownRun.{LoadedStyle, load_part}
 use Rattle.style_program.specs.Words.{ReplayWords}
 
-module _ (files : List ℕ → Option (List ℕ)) (w : ReplayWords) (images scripts : List ℕ → Bool) (can_change : Bool) (shown : ShownStyle) (goes : GoesOn files (shown_part w.shown) shown) where
-  abbrev behind_shown : ShownStyle → Run
+module _ (files : List ℕ → Option (List ℕ)) (w : ReplayWords) (images scripts : List ℕ → Bool) (can_change : Bool) (shown : LoadedStyle) (goes : GoesOn files (load_part w.shown) shown) where
+  abbrev behind_shown : LoadedStyle → Run
   behind_shown s = script_part w.script (edited_run w images scripts can_change s)
 
   module _ (then_files : List ℕ → Option (List ℕ)) (same : then_files ≡ files) where
     pub outcome_of_script : (script lent : List ℕ) → lent ≡ script → GoesOn then_files (script_part w.script) script
-        → (o : Outcome) → HasOutcome files (edited_run w images scripts can_change shown lent) o → HasOutcome files (replay_run w images scripts can_change) o
+        → (o : RunOutcome) → HasOutcome files (edited_run w images scripts can_change shown lent) o → HasOutcome files (replay_run w images scripts can_change) o
     outcome_of_script script lent is read o made =
-        let next : LeadsTo files (behind_shown shown) (edited_run w images scripts can_change shown script) =
-        (subst (λ f. LeadsTo f (behind_shown shown) (edited_run w images scripts can_change shown script)) same (read (edited_run w images scripts can_change shown))) in
+        let next : ComesTo files (behind_shown shown) (edited_run w images scripts can_change shown script) =
+        (subst (λ f. ComesTo f (behind_shown shown) (edited_run w images scripts can_change shown script)) same (read (edited_run w images scripts can_change shown))) in
         (leads_on files (replay_run w images scripts can_change) (behind_shown shown) (edited_run w images scripts can_change shown script) (goes behind_shown) next).outcomes o
         (subst (λ s. HasOutcome files (edited_run w images scripts can_change shown s) o) is made)
 
-    pub script_halts : (old mid new : ℕ) (failed_old failed_mid failed_new : Option (List ℕ)) (h : Halt) → NoneFailed old mid failed_old failed_mid
+    pub script_halts : (old mid new : ℕ) (failed_old failed_mid failed_new : Option (List ℕ)) (h : RunHalt) → NoneFailed old mid failed_old failed_mid
         → Halts then_files (script_part w.script) mid new failed_mid failed_new h
         → HaltsAt files (replay_run w images scripts can_change) old new failed_old failed_new h
     script_halts old mid new failed_old failed_mid failed_new h before halts =

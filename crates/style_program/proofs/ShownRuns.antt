@@ -3,40 +3,40 @@ use Rattle.std.proofs.Common.{◌≡◌, ℕ, List, [], subst}
 use Rattle.std.specs.Prelude.{Option}
 use Rattle.decimal_json.specs.Tree.{Tree}
 use Rattle.program_runs.specs.FailedReads.{NoneFailed}
-use Rattle.program_runs.specs.Progress.{LeadsTo, HaltsAt, GoesOn, Halts}
+use Rattle.program_runs.specs.Progress.{ComesTo, HaltsAt, GoesOn, Halts}
 use Rattle.program_runs.specs.Runs.{Run}
-use Rattle.program_runs.specs.declared.halt.Halt.{Halt}
+use Rattle.program_runs.specs.declared.halt.RunHalt.{RunHalt}
 use Rattle.program_runs.proofs.Going.{leads_on, halts_on}
 use Rattle.style_layout.specs.Shown.{SourceTile}
-use Rattle.style_program.specs.ShownRun.{ShownStyle, shown_part, sound_or_broken, tiles_part}
+use Rattle.style_program.specs.ShownRun.{LoadedStyle, load_part, sound_or_broken, tiles_part}
 use Rattle.style_program.specs.StyleFile.{style_part}
 use Rattle.style_program.specs.Words.{EvalWords}
 use Rattle.style_rules.specs.Findings.{findings}
 
 -- what comes after the style
-abbrev pub behind_style : EvalWords → (ShownStyle → Run) → Tree → Run
+abbrev pub behind_style : EvalWords → (LoadedStyle → Run) → Tree → Run
 behind_style w k document = sound_or_broken (findings document) (tiles_part w.tiles (λ tiles. k (document, tiles)))
 
 module _ (files : List ℕ → Option (List ℕ)) (w : EvalWords) (document : Tree) (goes : GoesOn files (style_part w.style) document) where
-  pub broken_halts : (old mid : ℕ) (failed_old failed_mid : Option (List ℕ)) (h : Halt) → NoneFailed old mid failed_old failed_mid
+  pub broken_halts : (old mid : ℕ) (failed_old failed_mid : Option (List ℕ)) (h : RunHalt) → NoneFailed old mid failed_old failed_mid
       → ((next : Run) → HaltsAt files (sound_or_broken (findings document) next) mid mid failed_mid failed_mid h)
-      → Halts files (shown_part w) old mid failed_old failed_mid h
+      → Halts files (load_part w) old mid failed_old failed_mid h
   broken_halts old mid failed_old failed_mid h before halts =
-      λ k. halts_on files (shown_part w k) (behind_style w k document) old mid mid failed_old failed_mid failed_mid h (goes (behind_style w k)) before
+      λ k. halts_on files (load_part w k) (behind_style w k document) old mid mid failed_old failed_mid failed_mid h (goes (behind_style w k)) before
       (halts (tiles_part w.tiles (λ tiles. k (document, tiles))))
 
   module _ (sound : findings document ≡ []) (then_files : List ℕ → Option (List ℕ)) (same : then_files ≡ files) where
-    tiles_next : (k : ShownStyle → Run) → LeadsTo files (shown_part w k) (tiles_part w.tiles (λ tiles. k (document, tiles)))
+    tiles_next : (k : LoadedStyle → Run) → ComesTo files (load_part w k) (tiles_part w.tiles (λ tiles. k (document, tiles)))
     tiles_next k =
-        subst (λ f. LeadsTo files (shown_part w k) (sound_or_broken f (tiles_part w.tiles (λ tiles. k (document, tiles))))) sound (goes (behind_style w k))
+        subst (λ f. ComesTo files (load_part w k) (sound_or_broken f (tiles_part w.tiles (λ tiles. k (document, tiles))))) sound (goes (behind_style w k))
 
-    pub shown_goes : (tiles : List SourceTile) → GoesOn then_files (tiles_part w.tiles) tiles → GoesOn files (shown_part w) (document, tiles)
+    pub shown_goes : (tiles : List SourceTile) → GoesOn then_files (tiles_part w.tiles) tiles → GoesOn files (load_part w) (document, tiles)
     shown_goes tiles read =
-        λ k. leads_on files (shown_part w k) (tiles_part w.tiles (λ ts. k (document, ts))) (k (document, tiles)) (tiles_next k)
-        (subst (λ f. LeadsTo f (tiles_part w.tiles (λ ts. k (document, ts))) (k (document, tiles))) same (read (λ ts. k (document, ts))))
+        λ k. leads_on files (load_part w k) (tiles_part w.tiles (λ ts. k (document, ts))) (k (document, tiles)) (tiles_next k)
+        (subst (λ f. ComesTo f (tiles_part w.tiles (λ ts. k (document, ts))) (k (document, tiles))) same (read (λ ts. k (document, ts))))
 
-    pub tiles_halt : (old mid new : ℕ) (failed_old failed_mid failed_new : Option (List ℕ)) (h : Halt) → NoneFailed old mid failed_old failed_mid
-        → Halts then_files (tiles_part w.tiles) mid new failed_mid failed_new h → Halts files (shown_part w) old new failed_old failed_new h
+    pub tiles_halt : (old mid new : ℕ) (failed_old failed_mid failed_new : Option (List ℕ)) (h : RunHalt) → NoneFailed old mid failed_old failed_mid
+        → Halts then_files (tiles_part w.tiles) mid new failed_mid failed_new h → Halts files (load_part w) old new failed_old failed_new h
     tiles_halt old mid new failed_old failed_mid failed_new h before halts =
-        λ k. halts_on files (shown_part w k) (tiles_part w.tiles (λ ts. k (document, ts))) old mid new failed_old failed_mid failed_new h (tiles_next k) before
+        λ k. halts_on files (load_part w k) (tiles_part w.tiles (λ ts. k (document, ts))) old mid new failed_old failed_mid failed_new h (tiles_next k) before
         (subst (λ f. HaltsAt f (tiles_part w.tiles (λ ts. k (document, ts))) mid new failed_mid failed_new h) same (halts (λ ts. k (document, ts))))

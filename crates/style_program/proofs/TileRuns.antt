@@ -2,8 +2,8 @@
 use Rattle.std.proofs.Common.{◌≡◌, ◌∙◌, ℕ, ◌+◌, ◌-◌, ◌<◌, List, [], ◌∷◌, ◌++◌, length, get_or, take, drop, map, min, sym, ap, subst}
 use Rattle.std.specs.Prelude.{Option}
 use Rattle.std.proofs.lemmas.List.{drop_more}
-use Rattle.program_runs.specs.declared.halt.Halt.{Halt}
-use Rattle.program_runs.specs.Progress.{LeadsTo, HaltsAt, GoesOn, Halts}
+use Rattle.program_runs.specs.declared.halt.RunHalt.{RunHalt}
+use Rattle.program_runs.specs.Progress.{ComesTo, HaltsAt, GoesOn, Halts}
 use Rattle.program_runs.specs.Runs.{Run}
 use Rattle.style_layout.specs.Shown.{SourceTile}
 use Rattle.tile_reader.specs.declared.tile.TileLayer.{TileLayer}
@@ -38,14 +38,14 @@ module _ (ws : List TileWord) (i : ℕ) (other : TileWord) (below : i < length w
 
   pub leads_turn : (files : List ℕ → Option (List ℕ)) (read : ℕ × List TileLayer) (new : List SourceTile) (rest : ℕ)
       → GoesOn files (tile_part number limit t) read → new ≡ got ++ (t.0, read.1) ∷ [] → rest ≡ left - read.0 → (k : List SourceTile → Run)
-      → LeadsTo files (tiles_from i ws got left k) (tiles_from (i + 1) ws new rest k)
+      → ComesTo files (tiles_from i ws got left k) (tiles_from (i + 1) ws new rest k)
   leads_turn files read new rest goes pushed counted k =
       let at : tiles_from (i + 1) ws new rest k ≡ after k read =
       (ap (λ ts. tiles_from (i + 1) ws ts rest k) pushed ∙ ap (λ n. tiles_from (i + 1) ws (got ++ (t.0, read.1) ∷ []) n k) counted) in
-      subst (λ r. LeadsTo files r (tiles_from (i + 1) ws new rest k)) (sym (turn k))
-      (subst (λ r. LeadsTo files (tile_part number limit t (after k)) r) (sym at) (goes (after k)))
+      subst (λ r. ComesTo files r (tiles_from (i + 1) ws new rest k)) (sym (turn k))
+      (subst (λ r. ComesTo files (tile_part number limit t (after k)) r) (sym at) (goes (after k)))
 
-  pub halts_turn : (files : List ℕ → Option (List ℕ)) (old new : ℕ) (failed_old failed_new : Option (List ℕ)) (h : Halt)
+  pub halts_turn : (files : List ℕ → Option (List ℕ)) (old new : ℕ) (failed_old failed_new : Option (List ℕ)) (h : RunHalt)
       → Halts files (tile_part number limit t) old new failed_old failed_new h → Halts files (tiles_from i ws got left) old new failed_old failed_new h
   halts_turn files old new failed_old failed_new h halts k =
       subst (λ r. HaltsAt files r old new failed_old failed_new h) (sym (turn k)) (halts (after k))

@@ -2,12 +2,12 @@
 use Rattle.std.specs.Prelude.{ℕ, List, Bool, Option, Some, None}
 use Rattle.edit_session.specs.Applied.{listing_of}
 use Rattle.edit_session.specs.Opening.{Fault, tiles_fault}
-use Rattle.edit_session.specs.Presentation.{Presentation, opened}
+use Rattle.edit_session.specs.SessionState.{SessionState, opened}
 use Rattle.program_runs.specs.declared.status.Ending.TheVariants.{Fine}
-use Rattle.program_runs.specs.Outcome.{Outcome, said}
+use Rattle.program_runs.specs.Outcome.{RunOutcome, said}
 use Rattle.program_runs.specs.Runs.{Run, ends}
 use Rattle.style_program.specs.Refusals.{not_opened}
-use Rattle.style_program.specs.ShownRun.{ShownStyle, shown_part}
+use Rattle.style_program.specs.ShownRun.{LoadedStyle, load_part}
 use Rattle.style_program.specs.Words.{EvalWords}
 
 -- a style that cannot be opened over tiles is refused
@@ -17,15 +17,15 @@ opened_or_refused (Some fault) next = ends (not_opened fault)
 
 module _ (w : EvalWords) (images scripts : List ℕ → Bool) where
   -- what is shown before any edit
-  abbrev pub shown_at_first : ShownStyle → Presentation
+  abbrev pub shown_at_first : LoadedStyle → SessionState
   shown_at_first shown = opened shown.0 w.zoom images
 
-  abbrev pub listed_outcome : ShownStyle → Outcome
+  abbrev pub listed_outcome : LoadedStyle → RunOutcome
   listed_outcome shown = said (listing_of shown.1 scripts (shown_at_first shown)) Fine
 
   -- the listing of the style
-  abbrev pub listed_run : ShownStyle → Run
+  abbrev pub listed_run : LoadedStyle → Run
   listed_run shown = opened_or_refused (tiles_fault shown.0 shown.1 w.zoom) (ends (listed_outcome shown))
 
   abbrev pub eval_run : Run
-  eval_run = shown_part w listed_run
+  eval_run = load_part w listed_run

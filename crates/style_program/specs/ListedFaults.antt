@@ -9,7 +9,7 @@ use Rattle.prop_values.specs.declared.kinds.Want.TheVariants.{Any}
 use Rattle.expr_syntax.specs.Reading.{reading}
 use Rattle.expr_syntax.specs.Term.{Term}
 use Rattle.expr_types.specs.Checked.{checked_free}
-use Rattle.expr_types.specs.Typing.{Found}
+use Rattle.expr_types.specs.Typing.{TypedNodes}
 use Rattle.eval_face.specs.Meaning.{mean}
 use Rattle.style_program.specs.ValueRun.{value_world}
 use Rattle.style_program.specs.Words as words
@@ -21,7 +21,7 @@ pub record GivesListedFault (images scripts : List ℕ → Bool) (expression : L
   pub spelled : Spells all_rules expression tree
   pub term : Term
   pub read : reading tree ≡ Ok (Some term)
-  pub found : Found
+  pub found : TypedNodes
   pub typed : checked_free term ≡ Ok found
   pub fault : EvalFault
   pub given : mean term Any [] (value_world images scripts) ≡ Err fault

@@ -1,11 +1,11 @@
 -- No words have two outcomes.
 use Rattle.std.specs.Prelude.{◌≡◌, ℕ, List, Bool, Option}
-use Rattle.program_runs.specs.Outcome.{Outcome}
+use Rattle.program_runs.specs.Outcome.{RunOutcome}
 use Rattle.program_runs.specs.Runs.{HasOutcome, AreTold}
 use Rattle.style_program.specs.Commands.{run_of}
 
 -- Two outcomes of the same words are equal, where the contents of the files that their run comes to read are
 -- known.
 abbrev pub EachHasOneOutcome : Type 0
-EachHasOneOutcome = (files : List ℕ → Option (List ℕ)) (images scripts : List ℕ → Bool) (can_change : Bool) (ws : List (List ℕ)) (o p : Outcome) →
+EachHasOneOutcome = (files : List ℕ → Option (List ℕ)) (images scripts : List ℕ → Bool) (can_change : Bool) (ws : List (List ℕ)) (o p : RunOutcome) →
     AreTold files (run_of images scripts can_change ws) → HasOutcome files (run_of images scripts can_change ws) o → HasOutcome files (run_of images scripts can_change ws) p → o ≡ p

@@ -11,19 +11,19 @@ use Rattle.proto_wire.specs.declared.wire.WireKind.TheVariants as wire
 use Rattle.tile_reader.specs.declared.fault.TileFault.{TileFault}
 use Rattle.tile_reader.specs.declared.fault.TileKind.{TileKind}
 use Rattle.tile_reader.specs.declared.fault.TileKind.TheVariants as tiles
-use Rattle.program_runs.specs.Outcome.{Outcome, refused}
+use Rattle.program_runs.specs.Outcome.{RunOutcome, refused}
 use Rattle.program_runs.specs.Refusals.{tile_text, tile_number}
 
 -- an expression with a node that is outside of what is evaluated
-abbrev pub outside : Outcome
+abbrev pub outside : RunOutcome
 outside = refused (codes "expr Outside")
 
 -- no expression: the code of its first fault, and the path of its node
-abbrev pub no_expression : SynFault → Outcome
+abbrev pub no_expression : SynFault → RunOutcome
 no_expression fault = refused (codes "expr " ++ (code_name fault.code ++ (codes " " ++ path_json fault.path)))
 
 -- an expression that is not well typed: the code of its first fault, and the path of its node
-abbrev pub no_type : TypeFault → Outcome
+abbrev pub no_type : TypeFault → RunOutcome
 no_type fault = refused (codes "expr " ++ (type_name fault.code ++ (codes " " ++ path_json fault.path)))
 
 -- the kinds of faults of tiles
@@ -45,7 +45,7 @@ tile_kind_name tiles.FieldType = codes "FieldType"
 tile_kind_name tiles.GeometryType = codes "GeometryType"
 
 -- the tile of a source is none: the kind of the fault, its place, and which of the source's tiles it is
-abbrev pub no_tile : (source : List ℕ) (number : ℕ) → TileFault → Outcome
+abbrev pub no_tile : (source : List ℕ) (number : ℕ) → TileFault → RunOutcome
 no_tile source number fault =
     refused (tile_text source ++ (codes " " ++ (tile_kind_name fault.kind ++ (codes " " ++ (decimal fault.at ++ tile_number number)))))
 
@@ -59,5 +59,5 @@ open_fault_text (not_vector source) = codes "NotVector " ++ text_json source
 open_fault_text (too_many_cells count) = codes "CellLimit " ++ decimal count
 open_fault_text zoom_range = codes "ZoomRange"
 
-abbrev pub not_opened : Fault → Outcome
+abbrev pub not_opened : Fault → RunOutcome
 not_opened fault = refused (codes "open " ++ open_fault_text fault)

@@ -5,7 +5,7 @@ use Rattle.program_runs.specs.Refusals.{too_long}
 use Rattle.program_runs.specs.Runs.{Run, reads}
 use Rattle.script_runs.specs.ScriptRun.{script_run}
 use Rattle.style_program.specs.EvalRun.{opened_or_refused, shown_at_first}
-use Rattle.style_program.specs.ShownRun.{ShownStyle, shown_part}
+use Rattle.style_program.specs.ShownRun.{LoadedStyle, load_part}
 use Rattle.style_program.specs.Words.{ReplayWords}
 
 -- in bytes
@@ -18,10 +18,10 @@ script_part name after = reads (too_long (codes "script") []) name script_limit 
 
 module _ (w : ReplayWords) (images scripts : List ℕ → Bool) (can_change : Bool) where
   -- the style is opened, and answers the script
-  abbrev pub edited_run : ShownStyle → List ℕ → Run
+  abbrev pub edited_run : LoadedStyle → List ℕ → Run
   edited_run shown script =
       opened_or_refused (tiles_fault shown.0 shown.1 w.shown.zoom)
       (script_run shown.1 scripts can_change (shown_at_first w.shown images scripts shown) script)
 
   abbrev pub replay_run : Run
-  replay_run = shown_part w.shown (λ shown. script_part w.script (edited_run shown))
+  replay_run = load_part w.shown (λ shown. script_part w.script (edited_run shown))

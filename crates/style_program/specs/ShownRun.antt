@@ -56,10 +56,10 @@ sound_or_broken [] next = next
 sound_or_broken (f ∷ found) next = ends (said (broken_text (f ∷ found)) Found)
 
 -- a document without findings, and tiles
-abbrev pub ShownStyle : Type 0
-ShownStyle = Tree × List SourceTile
+abbrev pub LoadedStyle : Type 0
+LoadedStyle = Tree × List SourceTile
 
-abbrev pub shown_part : EvalWords → (ShownStyle → Run) → Run
-shown_part w after =
+abbrev pub load_part : EvalWords → (LoadedStyle → Run) → Run
+load_part w after =
     style_part w.style (λ document.
     sound_or_broken (findings document) (tiles_part w.tiles (λ tiles. after (document, tiles))))

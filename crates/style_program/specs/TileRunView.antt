@@ -7,11 +7,11 @@ use Rattle.style_layout.specs.Shown.{SourceTile}
 use Rattle.style_program.specs.ShownRun.{tiles_after}
 use Rattle.style_program.specs.ShownRun as shown
 use Rattle.style_program.specs.WordsView.{tile_word}
-use Rattle.style_program.specs.declared.shown_style.ShownStyle.{ShownStyle}
+use Rattle.style_program.specs.declared.loading.LoadedStyle.{LoadedStyle}
 use Rattle.style_program.specs.declared.words.TileWord.{TileWord}
 
 -- a style and its tiles
-abbrev pub shown_seen : ShownStyle → shown.ShownStyle
+abbrev pub shown_seen : LoadedStyle → shown.LoadedStyle
 shown_seen s = (tree_of s.style, map tile_seen s.tiles.items)
 
 -- the words before it were read as these tiles, and `left` bytes are left

@@ -7,7 +7,7 @@ use Rattle.prop_values.specs.Faults.{fault_name, holds}
 use Rattle.prop_values.specs.declared.fault.EvalFault.{EvalFault}
 use Rattle.prop_values.specs.declared.fault.FaultSet.{FaultSet}
 use Rattle.program_runs.specs.declared.status.Ending.TheVariants.{Fine, Found}
-use Rattle.program_runs.specs.Outcome.{Outcome, line, said}
+use Rattle.program_runs.specs.Outcome.{RunOutcome, line, said}
 use Rattle.program_runs.specs.Runs.{Run, ends}
 use Rattle.style_program.specs.StyleFile.{style_part}
 use Rattle.style_rules.specs.Findings.{findings, notes, may_lines, every_fault}
@@ -36,11 +36,11 @@ broken_text found = flat_map finding_line found ++ line (codes "invalid")
 abbrev pub sound_text : List (List PathPart) → List (List PathPart × FaultSet) → List ℕ
 sound_text outside may = flat_map note_line outside ++ (flat_map may_line may ++ line (codes "valid"))
 
-abbrev pub outcome_by : List (List PathPart × ℕ) → List (List PathPart) → List (List PathPart × FaultSet) → Outcome
+abbrev pub outcome_by : List (List PathPart × ℕ) → List (List PathPart) → List (List PathPart × FaultSet) → RunOutcome
 outcome_by [] outside may = said (sound_text outside may) Fine
 outcome_by (f ∷ found) outside may = said (broken_text (f ∷ found)) Found
 
-abbrev pub validate_outcome : Tree → Outcome
+abbrev pub validate_outcome : Tree → RunOutcome
 validate_outcome t = outcome_by (findings t) (notes t) (may_lines t)
 
 abbrev pub validate_run : List ℕ → Run

@@ -14,11 +14,11 @@ use Rattle.expr_types.specs.declared.fault.TypeFault.{TypeFault}
 use Rattle.eval_face.specs.Meaning.{mean}
 use Rattle.eval_face.specs.World.{World, feature_world, no_feature}
 use Rattle.program_runs.specs.declared.status.Ending.TheVariants.{Fine, Found}
-use Rattle.program_runs.specs.Outcome.{Outcome, line, said}
+use Rattle.program_runs.specs.Outcome.{RunOutcome, line, said}
 use Rattle.program_runs.specs.Runs.{Run, ends, parses}
 use Rattle.style_program.specs.Refusals.{outside, no_expression, no_type}
 
-abbrev pub value_outcome : Result Data EvalFault → Outcome
+abbrev pub value_outcome : Result Data EvalFault → RunOutcome
 value_outcome (Ok d) = said (line (listed_text d)) Fine
 value_outcome (Err fault) = said (line (codes "error " ++ fault_name fault)) Found
 
@@ -28,11 +28,11 @@ module _ (images scripts : List ℕ → Bool) where
   value_world = feature_world (pos 0) no_feature [] images scripts
 
   -- a type fault comes before what the expression gives
-  abbrev pub typed_outcome : Term → Typed → Outcome
+  abbrev pub typed_outcome : Term → Typed → RunOutcome
   typed_outcome t (Ok found) = value_outcome (mean t Any [] value_world)
   typed_outcome t (Err fault) = no_type fault
 
-  abbrev pub expression_outcome : Reading → Outcome
+  abbrev pub expression_outcome : Reading → RunOutcome
   expression_outcome (Ok (Some t)) = typed_outcome t (checked_free t)
   expression_outcome (Ok None) = outside
   expression_outcome (Err fault) = no_expression fault
@@ -42,6 +42,6 @@ module _ (images scripts : List ℕ → Bool) where
   value_run text = parses (codes "expr") text (λ t. ends (expression_outcome (reading t)))
 
   -- ---- for proofs: the same, by what the check answers
-  abbrev pub judged_outcome : Term → Result Judged TypeFault → Outcome
+  abbrev pub judged_outcome : Term → Result Judged TypeFault → RunOutcome
   judged_outcome t (Ok pair) = value_outcome (mean t Any [] value_world)
   judged_outcome t (Err fault) = no_type fault

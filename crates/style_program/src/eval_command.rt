@@ -10,13 +10,13 @@ ghost use Rattle.style_program.specs.TileRunView.{shown_seen};
 ghost use Rattle.style_program.specs.WordsView.{eval_words};
 ghost use Rattle.style_rules.specs.Findings.{findings};
 
+use crate::loading::{LoadedStyle, read_shown};
 use crate::refusals::not_opened;
-use crate::shown_style::{ShownStyle, read_shown};
 use crate::words::EvalRequest;
 use edit_session::Session;
 use host_ops::HostOp;
 use outside_io::Files;
-use program_runs::{Answer, Ending, Halt, answer_out};
+use program_runs::{Ending, RunHalt, RunOutput, answer_out};
 use std::alloc::{AllocError, Global};
 
 pub fn answer_eval<'a, F: Files>(
@@ -25,7 +25,7 @@ pub fn answer_eval<'a, F: Files>(
     files: &mut F,
     images: &dyn HostOp,
     scripts: &dyn HostOp,
-) -> Result<Answer, Halt<'a>>
+) -> Result<RunOutput, RunHalt<'a>>
     ensures told { F.told files.new ≡ F.told files.old }
     ensures failed { OnOk result (NoneFailed (F.faults files.old) (F.faults files.new) (F.failed files.old) (F.failed files.new)) }
     ensures answer { IfOk result (λ answer. HasOutcome (F.told files.old)
@@ -41,10 +41,10 @@ pub fn answer_eval<'a, F: Files>(
 fn answer_shown<'a>(
     alloc: Global,
     request: &EvalRequest<'a>,
-    shown: ShownStyle<'a>,
+    shown: LoadedStyle<'a>,
     images: &dyn HostOp,
     scripts: &dyn HostOp,
-) -> Result<Answer, AllocError>
+) -> Result<RunOutput, AllocError>
     requires { findings (tree_of shown.style) ≡ [] }
     ensures { (files : List ℕ → Option (List ℕ)) → IfOk result (λ answer. HasOutcome files
         (listed_run (eval_words request.now) (test images.now) (test scripts.now) (shown_seen shown.entry)) (outcome_of answer)) }

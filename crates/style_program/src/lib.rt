@@ -18,11 +18,11 @@
 
 mod eval_command;
 mod laws;
+mod loading;
 mod migrate_command;
 mod refusals;
 mod replay_command;
 mod reply;
-mod shown_style;
 mod style_file;
 mod top;
 mod validate_command;

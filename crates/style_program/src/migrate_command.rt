@@ -15,7 +15,7 @@ use crate::style_file::STYLE_LIMIT;
 use crate::validate_command::answer_broken;
 use decimal_json::{Json, write};
 use outside_io::Files;
-use program_runs::{Answer, Ending, Halt, Subject, answer_out, read_json};
+use program_runs::{Ending, RunHalt, RunOutput, Subject, answer_out, read_json};
 use std::alloc::{AllocError, Global};
 use style_migrate::migrate;
 use style_rules::{Finding, findings};
@@ -24,7 +24,7 @@ pub fn answer_migrate<'a, F: Files>(
     alloc: Global,
     name: &'a str,
     files: &mut F,
-) -> Result<Answer, Halt<'a>>
+) -> Result<RunOutput, RunHalt<'a>>
     ensures told { F.told files.new ≡ F.told files.old }
     ensures failed { OnOk result (NoneFailed (F.faults files.old) (F.faults files.new) (F.failed files.old) (F.failed files.new)) }
     ensures answer { IfOk result (λ answer. HasOutcome (F.told files.old) (migrate_run name.now) (outcome_of answer)) }
@@ -35,14 +35,14 @@ pub fn answer_migrate<'a, F: Files>(
     Ok(answer_style(alloc, &style)?)
 }
 
-fn answer_style(alloc: Global, style: &Json) -> Result<Answer, AllocError>
+fn answer_style(alloc: Global, style: &Json) -> Result<RunOutput, AllocError>
     ensures { IfOk result (λ answer. outcome_of answer ≡ migrate_outcome (tree_of style.now)) }
 {
     let found = findings(alloc, style)?;
     answer_found(alloc, style, found.as_slice())
 }
 
-fn answer_found(alloc: Global, style: &Json, found: &[Finding]) -> Result<Answer, AllocError>
+fn answer_found(alloc: Global, style: &Json, found: &[Finding]) -> Result<RunOutput, AllocError>
     ensures { IfOk result (λ answer. outcome_of answer ≡ migrated_or_broken (map finding_seen found.now) (tree_of style.now)) }
 {
     match found {
@@ -51,7 +51,7 @@ fn answer_found(alloc: Global, style: &Json, found: &[Finding]) -> Result<Answer
     }
 }
 
-fn answer_migrated(alloc: Global, style: &Json) -> Result<Answer, AllocError>
+fn answer_migrated(alloc: Global, style: &Json) -> Result<RunOutput, AllocError>
     ensures { IfOk result (λ answer. outcome_of answer ≡ said (line (json_text (migrated (tree_of style.now)))) Ending.Fine) }
 {
     let migrated = migrate(alloc, style)?;

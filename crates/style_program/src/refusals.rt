@@ -10,13 +10,15 @@ use edit_session::OpenFault;
 use expr_syntax::SynFault;
 use expr_types::TypeFault;
 use itoa::Buffer;
-use program_runs::{Answer, Subject, answer_refused, begin_refusal, write_number, write_subject};
+use program_runs::{
+    RunOutput, Subject, answer_refused, begin_refusal, write_number, write_subject,
+};
 use proto_wire::WireKind;
 use std::alloc::{AllocError, Global};
 use tile_reader::{TileFault, TileKind};
 
 /// An expression with a node that is outside of what is evaluated.
-pub fn outside(alloc: Global) -> Result<Answer, AllocError>
+pub fn outside(alloc: Global) -> Result<RunOutput, AllocError>
     ensures { IfOk result (λ answer. outcome_of answer ≡ outside) }
 {
     let mut line = begin_refusal(alloc)?;
@@ -25,7 +27,7 @@ pub fn outside(alloc: Global) -> Result<Answer, AllocError>
 }
 
 /// No expression: the code of its first fault, and the path of its node.
-pub fn no_expression(alloc: Global, fault: &SynFault) -> Result<Answer, AllocError>
+pub fn no_expression(alloc: Global, fault: &SynFault) -> Result<RunOutput, AllocError>
     ensures { IfOk result (λ answer. outcome_of answer ≡ no_expression fault.now) }
 {
     let mut line = begin_refusal(alloc)?;
@@ -37,7 +39,7 @@ pub fn no_expression(alloc: Global, fault: &SynFault) -> Result<Answer, AllocErr
 }
 
 /// An expression that is not well typed: the code of its first fault, and the path of its node.
-pub fn no_type(alloc: Global, fault: &TypeFault) -> Result<Answer, AllocError>
+pub fn no_type(alloc: Global, fault: &TypeFault) -> Result<RunOutput, AllocError>
     ensures { IfOk result (λ answer. outcome_of answer ≡ no_type fault.now) }
 {
     let mut line = begin_refusal(alloc)?;
@@ -54,7 +56,7 @@ pub fn no_tile(
     source: &str,
     number: usize,
     fault: TileFault,
-) -> Result<Answer, AllocError>
+) -> Result<RunOutput, AllocError>
     ensures { IfOk result (λ answer. outcome_of answer ≡ no_tile source.now number fault) }
 {
     let what = Subject::Tile(source, number);
@@ -70,7 +72,7 @@ pub fn no_tile(
 }
 
 /// A style that cannot be opened over tiles.
-pub fn not_opened(alloc: Global, fault: &OpenFault<'_>) -> Result<Answer, AllocError>
+pub fn not_opened(alloc: Global, fault: &OpenFault<'_>) -> Result<RunOutput, AllocError>
     ensures { IfOk result (λ answer. outcome_of answer ≡ not_opened (fault_seen fault.now)) }
 {
     let mut line = begin_refusal(alloc)?;

@@ -10,13 +10,13 @@ ghost use Rattle.style_program.specs.TileRunView.{shown_seen};
 ghost use Rattle.style_program.specs.WordsView.{replay_words};
 ghost use Rattle.style_rules.specs.Findings.{findings};
 
+use crate::loading::{LoadedStyle, read_shown};
 use crate::refusals::not_opened;
-use crate::shown_style::{ShownStyle, read_shown};
 use crate::words::ReplayRequest;
 use edit_session::Session;
 use host_ops::HostOp;
 use outside_io::Files;
-use program_runs::{Answer, Halt, Subject, read_file};
+use program_runs::{RunHalt, RunOutput, Subject, read_file};
 use script_runs::answer_script;
 use std::alloc::{AllocError, Global};
 
@@ -30,7 +30,7 @@ pub fn answer_replay<'a, F: Files>(
     files: &mut F,
     images: &mut dyn HostOp,
     scripts: &dyn HostOp,
-) -> Result<Answer, Halt<'a>>
+) -> Result<RunOutput, RunHalt<'a>>
     ensures told { F.told files.new ≡ F.told files.old }
     ensures failed { OnOk result (NoneFailed (F.faults files.old) (F.faults files.new) (F.failed files.old) (F.failed files.new)) }
     ensures answer { IfOk result (λ answer. HasOutcome (F.told files.old)
@@ -47,11 +47,11 @@ pub fn answer_replay<'a, F: Files>(
 fn answer_edited<'a>(
     alloc: Global,
     request: &ReplayRequest<'a>,
-    shown: ShownStyle<'a>,
+    shown: LoadedStyle<'a>,
     script: &[u8],
     images: &mut dyn HostOp,
     scripts: &dyn HostOp,
-) -> Result<Answer, AllocError>
+) -> Result<RunOutput, AllocError>
     requires { findings (tree_of shown.style) ≡ [] }
     ensures { (files : List ℕ → Option (List ℕ)) → IfOk result (λ answer. HasOutcome files
         (edited_run (replay_words request.now) (test images.old) (test scripts.now) (changes images.old) (shown_seen shown.entry) script.now)

@@ -13,7 +13,7 @@ use crate::value_command::answer_value;
 use crate::words::Request;
 use host_ops::HostOp;
 use outside_io::Files;
-use program_runs::{Answer, Halt, answer_said, answer_usage};
+use program_runs::{RunHalt, RunOutput, answer_said, answer_usage};
 use std::alloc::Global;
 
 const HELP: &[u8] =
@@ -63,7 +63,7 @@ pub fn answer_to<'a, F: Files>(
     files: &mut F,
     images: &mut dyn HostOp,
     scripts: &dyn HostOp,
-) -> Result<Answer, Halt<'a>>
+) -> Result<RunOutput, RunHalt<'a>>
     ensures told { F.told files.new ≡ F.told files.old }
     ensures failed { OnOk result (NoneFailed (F.faults files.old) (F.faults files.new) (F.failed files.old) (F.failed files.new)) }
     ensures fileless { IsFileless (asked_run (test images.old) (test scripts.now) (changes images.old) (asked_by request.now)) → files.new ≡ files.old }

@@ -11,7 +11,7 @@ use crate::reply::answer_to;
 use crate::words::request_of;
 use host_ops::HostOp;
 use outside_io::{Files, Sink, Steps};
-use program_runs::{Answer, Halt, Status, Stop, write_answer, write_unread};
+use program_runs::{RunHalt, RunOutput, RunStop, Status, write_answer, write_unread};
 use std::alloc::Global;
 use std::sync::ledger::Ledger;
 use typing_laws::faults_are_listed;
@@ -52,8 +52,8 @@ pub fn run_style<F: Files, O: Sink, E: Sink, L: Ledger>(
             Ok(()) => answer.ending.status(),
             Err(_) => Status::WriteFault,
         },
-        Err(Stop::NoMemory) => Status::NoMemory,
-        Err(Stop::Unread(name)) => write_unread(alloc, name, err),
+        Err(RunStop::NoMemory) => Status::NoMemory,
+        Err(RunStop::Unread(name)) => write_unread(alloc, name, err),
     }
 }
 
@@ -64,7 +64,7 @@ fn settled<'a, F: Files>(
     files: &mut F,
     images: &mut dyn HostOp,
     scripts: &dyn HostOp,
-) -> Result<Answer, Stop<'a>>
+) -> Result<RunOutput, RunStop<'a>>
     ensures told { F.told files.new ≡ F.told files.old }
     ensures failed { OnOk result (NoneFailed (F.faults files.old) (F.faults files.new) (F.failed files.old) (F.failed files.new)) }
     ensures fileless { IsFileless (run_of (test images.old) (test scripts.now) (changes images.old) (map string_bytes words.now)) → files.new ≡ files.old }
@@ -75,11 +75,11 @@ fn settled<'a, F: Files>(
         (F.faults files.old) (F.faults files.new) (F.failed files.old) (F.failed files.new) stop) }
 {
     let Ok(request) = request_of(alloc, words) else {
-        return Err(Stop::NoMemory);
+        return Err(RunStop::NoMemory);
     };
     match answer_to(alloc, &request, files, images, scripts) {
         Ok(answer) => Ok(answer),
-        Err(Halt::Refused(answer)) => Ok(answer),
-        Err(Halt::Stopped(stop)) => Err(stop),
+        Err(RunHalt::Refused(answer)) => Ok(answer),
+        Err(RunHalt::Stopped(stop)) => Err(stop),
     }
 }

@@ -13,7 +13,7 @@ use crate::style_file::STYLE_LIMIT;
 use decimal_json::{Json, Path, write_path};
 use itoa::Buffer;
 use outside_io::Files;
-use program_runs::{Answer, Ending, Halt, Subject, answer_out, read_json};
+use program_runs::{Ending, RunHalt, RunOutput, Subject, answer_out, read_json};
 use prop_values::{EvalFault, FaultSet};
 use std::alloc::{AllocError, Global};
 use style_rules::{Finding, MayLine, Report, examined};
@@ -22,7 +22,7 @@ pub fn answer_validate<'a, F: Files>(
     alloc: Global,
     name: &'a str,
     files: &mut F,
-) -> Result<Answer, Halt<'a>>
+) -> Result<RunOutput, RunHalt<'a>>
     ensures told { F.told files.new ≡ F.told files.old }
     ensures failed { OnOk result (NoneFailed (F.faults files.old) (F.faults files.new) (F.failed files.old) (F.failed files.new)) }
     ensures answer { IfOk result (λ answer. HasOutcome (F.told files.old) (validate_run name.now) (outcome_of answer)) }
@@ -33,14 +33,14 @@ pub fn answer_validate<'a, F: Files>(
     Ok(answer_style(alloc, &style)?)
 }
 
-fn answer_style(alloc: Global, style: &Json) -> Result<Answer, AllocError>
+fn answer_style(alloc: Global, style: &Json) -> Result<RunOutput, AllocError>
     ensures { IfOk result (λ answer. outcome_of answer ≡ validate_outcome (tree_of style.now)) }
 {
     let report = examined(alloc, style)?;
     answer_report(alloc, &report)
 }
 
-fn answer_report(alloc: Global, report: &Report) -> Result<Answer, AllocError>
+fn answer_report(alloc: Global, report: &Report) -> Result<RunOutput, AllocError>
     ensures { IfOk result (λ answer. outcome_of answer
         ≡ outcome_by (map finding_seen report.now.findings) report.now.notes (map may_seen report.now.may_lines)) }
 {
@@ -50,7 +50,7 @@ fn answer_report(alloc: Global, report: &Report) -> Result<Answer, AllocError>
     }
 }
 
-pub(crate) fn answer_broken(alloc: Global, findings: &[Finding]) -> Result<Answer, AllocError>
+pub(crate) fn answer_broken(alloc: Global, findings: &[Finding]) -> Result<RunOutput, AllocError>
     ensures { IfOk result (λ answer. outcome_of answer ≡ said (broken_text (map finding_seen findings.now)) Ending.Found) }
 {
     let mut out = Vec::new(alloc);
@@ -63,7 +63,7 @@ fn answer_sound(
     alloc: Global,
     outside: &[Path],
     may_lines: &[MayLine],
-) -> Result<Answer, AllocError>
+) -> Result<RunOutput, AllocError>
     ensures { IfOk result (λ answer. outcome_of answer ≡ said (sound_text outside.now (map may_seen may_lines.now)) Ending.Fine) }
 {
     let mut out = Vec::new(alloc);

@@ -15,7 +15,7 @@ use expr_syntax::{Expr, Reading, SynFault, read_expr};
 use expr_types::{TypeFault, Typed, check_free};
 use fixed_num::Fixed;
 use host_ops::HostOp;
-use program_runs::{Answer, Ending, Halt, Subject, answer_out, parse_json};
+use program_runs::{Ending, RunHalt, RunOutput, Subject, answer_out, parse_json};
 use prop_values::{EvalFault, Value, Want, write_listed};
 use std::alloc::{AllocError, Global};
 
@@ -25,7 +25,7 @@ pub fn answer_value<'a>(
     text: &'a str,
     images: &dyn HostOp,
     scripts: &dyn HostOp,
-) -> Result<Answer, Halt<'a>>
+) -> Result<RunOutput, RunHalt<'a>>
     ensures answer { (files : List ℕ → Option (List ℕ)) → IfOk result (λ answer.
         HasOutcome files (value_run (test images.now) (test scripts.now) text.now) (outcome_of answer)) }
     ensures halt { (files : List ℕ → Option (List ℕ)) (count : ℕ) (failed : Option (List ℕ)) → IfErr result (λ halt.
@@ -42,7 +42,7 @@ fn answer_expression(
     read: Result<Reading, SynFault>,
     images: &dyn HostOp,
     scripts: &dyn HostOp,
-) -> Result<Answer, AllocError>
+) -> Result<RunOutput, AllocError>
     ensures { IfOk result (λ answer. outcome_of answer ≡ expression_outcome (test images.now) (test scripts.now) (reading_of read)) }
 {
     match read {
@@ -62,7 +62,7 @@ fn answer_checked<'a>(
     checked: Result<Typed<'a>, TypeFault>,
     images: &dyn HostOp,
     scripts: &dyn HostOp,
-) -> Result<Answer, AllocError>
+) -> Result<RunOutput, AllocError>
     ensures { IfOk result (λ answer. outcome_of answer ≡ judged_outcome (test images.now) (test scripts.now) (term_of expression.now) checked.entry) }
 {
     match checked {
@@ -91,7 +91,7 @@ fn zero() -> Fixed
 fn answer_evaluated(
     alloc: Global,
     evaluated: &Result<Value, EvalFault>,
-) -> Result<Answer, AllocError>
+) -> Result<RunOutput, AllocError>
     ensures { IfOk result (λ answer. outcome_of answer ≡ value_outcome (evaluated_of evaluated.now)) }
 {
     let mut out = Vec::new(alloc);

@@ -11,10 +11,10 @@ use Rattle.decimal_json.specs.declared.tree.Json.{Json}
 use Rattle.prop_values.specs.Data.{Data}
 use Rattle.style_parts.specs.Parts.{is_id_of}
 use Rattle.style_rules.specs.CodeView.{has_name}
-use Rattle.style_rules.specs.Levels.{layer_told, layers_told}
+use Rattle.style_rules.specs.Levels.{layer_reports, layers_reports}
 use Rattle.style_rules.specs.Places.{used_in}
 use Rattle.style_rules.specs.Rules.{count_of}
-use Rattle.style_rules.specs.declared.told.Told.{Told}
+use Rattle.style_rules.specs.declared.diagnostics.Diagnostic.{Diagnostic}
 
 pub count_is_length : (js : List Json) → count_of (trees js) ≡ length js
 count_is_length [] = refl
@@ -58,14 +58,14 @@ module _ (js : List Json) (i : ℕ) (j : Json) (next : IsNext js i j) where
       noted id ∙ (ap (λ b. has_id id j || b) (before id)
       ∙ (sym (one_more js i j (drop (i + 1) js) id (next_is js i j next)) ∙ ap (λ n. used_in (trees js) n id) (grind arith)))
 
-  pub layers_next : (sources : Option Fields) (path : List PathPart) (used : List (List ℕ × Data)) (told new whole : List Told) → ((id : List ℕ) → has_name used id ≡ used_in (trees js) i id) →
-      new ≡ told ++ layer_told sources (has_name used) (path ++ Index i ∷ []) (tree_of j) → told ++ layers_told sources (used_in (trees js)) path i (trees (drop i js)) ≡ whole →
-      new ++ layers_told sources (used_in (trees js)) path (i + 1) (trees (drop (i + 1) js)) ≡ whole
-  layers_next sources path used told new whole before is kept =
-      let later = layers_told sources (used_in (trees js)) path (i + 1) (trees (drop (i + 1) js)) in
-      let told_here : (List ℕ → Bool) → List Told = λ test. layer_told sources test (path ++ Index i ∷ []) (tree_of j) in
-      let same : told_here (has_name used) ≡ told_here (used_in (trees js) i) = λ k. told_here (λ id. before id k) in
+  pub layers_next : (sources : Option Fields) (path : List PathPart) (used : List (List ℕ × Data)) (reports new whole : List Diagnostic) → ((id : List ℕ) → has_name used id ≡ used_in (trees js) i id) →
+      new ≡ reports ++ layer_reports sources (has_name used) (path ++ Index i ∷ []) (tree_of j) → reports ++ layers_reports sources (used_in (trees js)) path i (trees (drop i js)) ≡ whole →
+      new ++ layers_reports sources (used_in (trees js)) path (i + 1) (trees (drop (i + 1) js)) ≡ whole
+  layers_next sources path used reports new whole before is kept =
+      let later = layers_reports sources (used_in (trees js)) path (i + 1) (trees (drop (i + 1) js)) in
+      let reports_here : (List ℕ → Bool) → List Diagnostic = λ test. layer_reports sources test (path ++ Index i ∷ []) (tree_of j) in
+      let same : reports_here (has_name used) ≡ reports_here (used_in (trees js) i) = λ k. reports_here (λ id. before id k) in
       ap (λ n. n ++ later) is
-      ∙ (append_assoc told (told_here (has_name used)) later
-      ∙ (ap (λ n. told ++ (n ++ later)) same
-      ∙ (ap (λ rest. told ++ layers_told sources (used_in (trees js)) path i (trees rest)) (sym (next_is js i j next)) ∙ kept)))
+      ∙ (append_assoc reports (reports_here (has_name used)) later
+      ∙ (ap (λ n. reports ++ (n ++ later)) same
+      ∙ (ap (λ rest. reports ++ layers_reports sources (used_in (trees js)) path i (trees rest)) (sym (next_is js i j next)) ∙ kept)))

@@ -9,10 +9,10 @@ use Rattle.decimal_json.specs.declared.paths.PathPart.{PathPart}
 use Rattle.decimal_json.specs.declared.paths.PathPart.TheVariants.{Key}
 use Rattle.decimal_json.specs.Accessors.{member, trees_in}
 use Rattle.style_parts.specs.Parts.{layers_of, sources_of}
-use Rattle.style_rules.specs.Findings.{told_or}
-use Rattle.style_rules.specs.Ground.{Ground}
-use Rattle.style_rules.specs.Keys.{root_key, member_key, root_keyed_told, keyed_told}
-use Rattle.style_rules.specs.Levels.{items_or_none, layers_told, member_told, root_member_told}
+use Rattle.style_rules.specs.Findings.{reports_or}
+use Rattle.style_rules.specs.LayerContext.{LayerContext}
+use Rattle.style_rules.specs.Keys.{root_key, member_key, root_keyed_reports, keyed_reports}
+use Rattle.style_rules.specs.Levels.{items_or_none, layers_reports, member_reports, root_member_reports}
 use Rattle.style_rules.specs.Places.{unless_broken, used_in}
 use Rattle.style_rules.specs.Rules.{are_layers}
 
@@ -21,15 +21,15 @@ is_key k key h = sym ((bytes_eq-Decides k key).0 h)
 
 -- ---- a member of a layer
 
-module _ (grounds : Ground) (used : List ℕ → Bool) (path : List PathPart) (t : Tree) where
+module _ (context : LayerContext) (used : List ℕ → Bool) (path : List PathPart) (t : Tree) where
   abbrev Keyed : List ℕ → Type 0
-  Keyed m = keyed_told grounds used (member_key m) (path ++ Key m ∷ []) t ≡ member_told grounds used path m t
+  Keyed m = keyed_reports context used (member_key m) (path ++ Key m ∷ []) t ≡ member_reports context used path m t
 
   -- where the key is this one, and where it is not
   by_key : (m key : List ℕ) → Keyed key → (bytes_eq m key ≡ false → Keyed m) → Keyed m
   by_key m key same other = elim (cases_Bool (bytes_eq m key)) [ inl is ↦ subst Keyed (is_key m key is) same | inr not_ ↦ other not_ ]
 
-  pub member_by_key : (m : List ℕ) → keyed_told grounds used (member_key m) (path ++ Key m ∷ []) t ≡ member_told grounds used path m t
+  pub member_by_key : (m : List ℕ) → keyed_reports context used (member_key m) (path ++ Key m ∷ []) t ≡ member_reports context used path m t
   member_by_key m =
       by_key m (codes "id") refl (λ a.
       by_key m (codes "type") refl (λ b.
@@ -53,7 +53,7 @@ items_are (object fs) = refl
 
 module _ (document : Tree) (t : Tree) where
   abbrev RootKeyed : List ℕ → Type 0
-  RootKeyed k = member k document ≡ Some t → root_keyed_told (sources_of document) (root_key k) (Key k ∷ []) t ≡ root_member_told document k t
+  RootKeyed k = member k document ≡ Some t → root_keyed_reports (sources_of document) (root_key k) (Key k ∷ []) t ≡ root_member_reports document k t
 
   by_root_key : (k key : List ℕ) → RootKeyed key → (bytes_eq k key ≡ false → RootKeyed k) → RootKeyed k
   by_root_key k key same other = elim (cases_Bool (bytes_eq k key)) [ inl is ↦ subst RootKeyed (is_key k key is) same | inr not_ ↦ other not_ ]
@@ -62,9 +62,9 @@ module _ (document : Tree) (t : Tree) where
   layers_keyed found =
       let same : items_or_none t ≡ layers_of document = items_are t ∙ sym (ap trees_in found) in
       let path = Key (codes "layers") ∷ [] in
-      ap (λ ts. told_or (unless_broken 5 (are_layers t)) path (layers_told (sources_of document) (used_in ts) path 0 (items_or_none t))) same
+      ap (λ ts. reports_or (unless_broken 5 (are_layers t)) path (layers_reports (sources_of document) (used_in ts) path 0 (items_or_none t))) same
 
-  pub root_by_key : (k : List ℕ) → member k document ≡ Some t → root_keyed_told (sources_of document) (root_key k) (Key k ∷ []) t ≡ root_member_told document k t
+  pub root_by_key : (k : List ℕ) → member k document ≡ Some t → root_keyed_reports (sources_of document) (root_key k) (Key k ∷ []) t ≡ root_member_reports document k t
   root_by_key k =
       by_root_key k (codes "version") (λ found. refl) (λ a.
       by_root_key k (codes "sources") (λ found. refl) (λ b.

@@ -4,17 +4,17 @@ use Rattle.std.proofs.Common.{refl, sym, ap, ◌∙◌}
 use Rattle.std.proofs.lemmas.List.{append-nil}
 use Rattle.decimal_json.specs.Tree.{Tree, object, Fields}
 use Rattle.decimal_json.specs.declared.paths.PathPart.{PathPart}
-use Rattle.style_rules.specs.CodeView.{Parts}
-use Rattle.style_rules.specs.Findings.{told_or}
-use Rattle.style_rules.specs.Ground.{Ground, ground_of}
-use Rattle.style_rules.specs.LayerParts.{parts_of, ground_by_parts, layer_rule}
-use Rattle.style_rules.specs.Levels.{fields_told, member_told, grounded_told, layer_told}
+use Rattle.style_rules.specs.CodeView.{MemberTrees}
+use Rattle.style_rules.specs.Findings.{reports_or}
+use Rattle.style_rules.specs.LayerContext.{LayerContext, context_of}
+use Rattle.style_rules.specs.LayerParts.{parts_of, context_by_parts, layer_rule}
+use Rattle.style_rules.specs.Levels.{fields_reports, member_reports, context_reports, layer_reports}
 use Rattle.style_rules.specs.Places.{least_broken, layer_mark}
 use Rattle.style_rules.specs.Rules.{is_on_vector}
-use Rattle.style_rules.specs.declared.told.Mark.{Mark}
-use Rattle.style_rules.specs.declared.told.Mark.TheVariants.{Nothing, Broken}
-use Rattle.style_rules.specs.declared.told.Told.{Told}
-use Rattle.style_rules.specs.declared.told.Told.TheVariants.{Finding}
+use Rattle.style_rules.specs.declared.diagnostics.Mark.{Mark}
+use Rattle.style_rules.specs.declared.diagnostics.Mark.TheVariants.{Nothing, Broken}
+use Rattle.style_rules.specs.declared.diagnostics.Diagnostic.{Diagnostic}
+use Rattle.style_rules.specs.declared.diagnostics.Diagnostic.TheVariants.{Finding}
 
 abbrev rule_mark : Option ℕ → Mark
 rule_mark (Some rule) = Broken [] rule
@@ -38,25 +38,25 @@ least (Some i) (Some t) (Some s) None false false true = refl
 least (Some i) (Some t) (Some s) (Some l) false false true = refl
 least (Some i) (Some t) (Some s) source_layer false false false = refl
 
-mark_by_parts : (grounds : Ground) (fs : Fields) → layer_mark grounds (object fs) ≡ rule_mark (layer_rule grounds (parts_of (object fs)))
-mark_by_parts grounds fs =
+mark_by_parts : (context : LayerContext) (fs : Fields) → layer_mark context (object fs) ≡ rule_mark (layer_rule context (parts_of (object fs)))
+mark_by_parts context fs =
     let p = parts_of (object fs) in
-    least p.id p.layer_type p.source p.source_layer p.has_ref (is_some grounds.sources) (is_on_vector grounds)
+    least p.id p.layer_type p.source p.source_layer p.has_ref (is_some context.sources) (is_on_vector context)
 
 module _ (sources : Option Fields) (used : List ℕ → Bool) (path : List PathPart) (fs : Fields) where
-  abbrev by_rule : Ground → Option ℕ → List Told
-  by_rule grounds rule = told_or (rule_mark rule) path (fields_told (member_told grounds used path) fs)
+  abbrev by_rule : LayerContext → Option ℕ → List Diagnostic
+  by_rule context rule = reports_or (rule_mark rule) path (fields_reports (member_reports context used path) fs)
 
   -- of a layer with this grounds and these parts, by the rule that was found
-  told_by_rule : (grounds : Ground) (p : Parts) (rule : Option ℕ) → p ≡ parts_of (object fs) → grounds ≡ ground_by_parts sources p → rule ≡ layer_rule grounds p → by_rule grounds rule ≡ layer_told sources used path (object fs)
-  told_by_rule grounds p rule parts is found =
-      let of_layer : grounds ≡ ground_of sources (object fs) = is ∙ ap (ground_by_parts sources) parts in
-      ap (by_rule grounds) (found ∙ ap (layer_rule grounds) parts)
-      ∙ (ap (λ m. told_or m path (fields_told (member_told grounds used path) fs)) (sym (mark_by_parts grounds fs))
-      ∙ ap (λ g. grounded_told g used path (object fs)) of_layer)
+  reports_by_rule : (context : LayerContext) (p : MemberTrees) (rule : Option ℕ) → p ≡ parts_of (object fs) → context ≡ context_by_parts sources p → rule ≡ layer_rule context p → by_rule context rule ≡ layer_reports sources used path (object fs)
+  reports_by_rule context p rule parts is found =
+      let of_layer : context ≡ context_of sources (object fs) = is ∙ ap (context_by_parts sources) parts in
+      ap (by_rule context) (found ∙ ap (layer_rule context) parts)
+      ∙ (ap (λ m. reports_or m path (fields_reports (member_reports context used path) fs)) (sym (mark_by_parts context fs))
+      ∙ ap (λ g. context_reports g used path (object fs)) of_layer)
 
-  pub broken_layer : (grounds : Ground) (p : Parts) (rule : ℕ) → p ≡ parts_of (object fs) → grounds ≡ ground_by_parts sources p → Some rule ≡ layer_rule grounds p → Finding path rule ∷ [] ≡ layer_told sources used path (object fs)
-  broken_layer grounds p rule parts is found = ap (λ q. Finding q rule ∷ []) (sym (append-nil path)) ∙ told_by_rule grounds p (Some rule) parts is found
+  pub broken_layer : (context : LayerContext) (p : MemberTrees) (rule : ℕ) → p ≡ parts_of (object fs) → context ≡ context_by_parts sources p → Some rule ≡ layer_rule context p → Finding path rule ∷ [] ≡ layer_reports sources used path (object fs)
+  broken_layer context p rule parts is found = ap (λ q. Finding q rule ∷ []) (sym (append-nil path)) ∙ reports_by_rule context p (Some rule) parts is found
 
-  pub sound_layer : (grounds : Ground) (p : Parts) → p ≡ parts_of (object fs) → grounds ≡ ground_by_parts sources p → None ≡ layer_rule grounds p → fields_told (member_told grounds used path) fs ≡ layer_told sources used path (object fs)
-  sound_layer grounds p parts is found = told_by_rule grounds p None parts is found
+  pub sound_layer : (context : LayerContext) (p : MemberTrees) → p ≡ parts_of (object fs) → context ≡ context_by_parts sources p → None ≡ layer_rule context p → fields_reports (member_reports context used path) fs ≡ layer_reports sources used path (object fs)
+  sound_layer context p parts is found = reports_by_rule context p None parts is found

@@ -16,14 +16,14 @@ use Rattle.property_tables.specs.declared.layer_type.LayerType.{LayerType}
 use Rattle.property_tables.specs.declared.property_row.Place.{Place}
 use Rattle.style_parts.specs.Parts.{sources_of, layers_of, is_layers, layer_at}
 use Rattle.value_forms.specs.LayerTypes.{tested_type, place_named}
-use Rattle.style_rules.specs.Findings.{Marks, told, told_or, walk, walk_items, walk_fields}
-use Rattle.style_rules.specs.Ground.{Ground}
-use Rattle.style_rules.specs.Levels.{AreMembers, fields_told, property_told, member_below, member_told, grounded_told, layer_told, layers_told, named_told, root_member_below, root_member_told, document_told, WalksByLevels}
+use Rattle.style_rules.specs.Findings.{Marks, reports, reports_or, walk, walk_items, walk_fields}
+use Rattle.style_rules.specs.LayerContext.{LayerContext}
+use Rattle.style_rules.specs.Levels.{AreMembers, fields_reports, property_reports, member_below, member_reports, context_reports, layer_reports, layers_reports, named_reports, root_member_below, root_member_reports, document_reports, WalksByLevels}
 use Rattle.style_rules.specs.Rules.{has_root_members}
-use Rattle.style_rules.specs.Places.{mark_at, root_mark, root_member_mark, layer_mark, member_mark, property_mark, used_in, ground_at, layer_ground}
+use Rattle.style_rules.specs.Places.{mark_at, root_mark, root_member_mark, layer_mark, member_mark, property_mark, used_in, context_at, layer_context}
 use Rattle.style_rules.proofs.PartLaws.{differs}
-use Rattle.style_rules.specs.declared.told.Mark.TheVariants.{Nothing, Broken}
-use Rattle.style_rules.specs.declared.told.Told.{Told}
+use Rattle.style_rules.specs.declared.diagnostics.Mark.TheVariants.{Nothing, Broken}
+use Rattle.style_rules.specs.declared.diagnostics.Diagnostic.{Diagnostic}
 
 -- ---- where nothing is reported below a place, the walk ends there
 
@@ -43,12 +43,12 @@ module _ (marks : Marks) where
 
   mutual
     silent : (t : Tree) (p : List PathPart) → marks p t ≡ Nothing → IsSilentBelow p → walk t marks p ≡ []
-    silent null p e s = ap (λ m. told_or m p []) e
-    silent (boolean b) p e s = ap (λ m. told_or m p []) e
-    silent (number n) p e s = ap (λ m. told_or m p []) e
-    silent (text c) p e s = ap (λ m. told_or m p []) e
-    silent (list ts) p e s = ap (λ m. told_or m p (walk_items ts marks p 0)) e ∙ silent_items ts p 0 (λ j. s (Index j))
-    silent (object fs) p e s = ap (λ m. told_or m p (walk_fields fs marks p)) e ∙ silent_fields fs p s
+    silent null p e s = ap (λ m. reports_or m p []) e
+    silent (boolean b) p e s = ap (λ m. reports_or m p []) e
+    silent (number n) p e s = ap (λ m. reports_or m p []) e
+    silent (text c) p e s = ap (λ m. reports_or m p []) e
+    silent (list ts) p e s = ap (λ m. reports_or m p (walk_items ts marks p 0)) e ∙ silent_items ts p 0 (λ j. s (Index j))
+    silent (object fs) p e s = ap (λ m. reports_or m p (walk_fields fs marks p)) e ∙ silent_fields fs p s
 
     silent_items : (ts : Trees) (p : List PathPart) (i : ℕ) → HasSilentItems p → walk_items ts marks p i ≡ []
     silent_items no_trees p i s = refl
@@ -60,18 +60,18 @@ module _ (marks : Marks) where
     silent_fields (field k t fs) p s =
         ap (λ w. w ++ walk_fields fs marks p) (silent t (p ++ Key k ∷ []) (s (Key k) [] t) (deeper p (Key k) s)) ∙ silent_fields fs p s
 
-  leaf : (t : Tree) (p : List PathPart) → IsSilentBelow p → walk t marks p ≡ told_or (marks p t) p []
+  leaf : (t : Tree) (p : List PathPart) → IsSilentBelow p → walk t marks p ≡ reports_or (marks p t) p []
   leaf null p s = refl
   leaf (boolean b) p s = refl
   leaf (number n) p s = refl
   leaf (text c) p s = refl
-  leaf (list ts) p s = ap (told_or (marks p (list ts)) p) (silent_items ts p 0 (λ j. s (Index j)))
-  leaf (object fs) p s = ap (told_or (marks p (object fs)) p) (silent_fields fs p s)
+  leaf (list ts) p s = ap (reports_or (marks p (list ts)) p) (silent_items ts p 0 (λ j. s (Index j)))
+  leaf (object fs) p s = ap (reports_or (marks p (object fs)) p) (silent_fields fs p s)
 
-  fields_walk : (fs : Fields) (p : List PathPart) (tell : List ℕ → Tree → List Told) → ((k : List ℕ) (t : Tree) → walk t marks (p ++ Key k ∷ []) ≡ tell k t) → walk_fields fs marks p ≡ fields_told tell fs
-  fields_walk no_fields p tell each = refl
-  fields_walk (field k t fs) p tell each =
-      ap (λ w. w ++ walk_fields fs marks p) (each k t) ∙ ap (λ w. tell k t ++ w) (fields_walk fs p tell each)
+  fields_walk : (fs : Fields) (p : List PathPart) (report : List ℕ → Tree → List Diagnostic) → ((k : List ℕ) (t : Tree) → walk t marks (p ++ Key k ∷ []) ≡ report k t) → walk_fields fs marks p ≡ fields_reports report fs
+  fields_walk no_fields p report each = refl
+  fields_walk (field k t fs) p report each =
+      ap (λ w. w ++ walk_fields fs marks p) (each k t) ∙ ap (λ w. report k t ++ w) (fields_walk fs p report each)
 
 -- ---- a property, and the members of a layer
 
@@ -79,13 +79,13 @@ module _ (document : Tree) where
   abbrev marks : Marks
   marks = mark_at document
 
-  named_leaf : (k name : List ℕ) (t : Tree) → walk t marks (Key k ∷ Key name ∷ []) ≡ named_told k (Key k ∷ []) name t
+  named_leaf : (k name : List ℕ) (t : Tree) → walk t marks (Key k ∷ Key name ∷ []) ≡ named_reports k (Key k ∷ []) name t
   named_leaf k name t = leaf marks t (Key k ∷ Key name ∷ []) (λ x q u. refl)
 
   abbrev layers_key : PathPart
   layers_key = Key (codes "layers")
 
-  property_leaf : (i : ℕ) (m name : List ℕ) (t : Tree) → walk t marks (layers_key ∷ Index i ∷ Key m ∷ Key name ∷ []) ≡ property_told (tested_type (ground_at document i).type) (place_named m) (layers_key ∷ Index i ∷ Key m ∷ []) name t
+  property_leaf : (i : ℕ) (m name : List ℕ) (t : Tree) → walk t marks (layers_key ∷ Index i ∷ Key m ∷ Key name ∷ []) ≡ property_reports (tested_type (context_at document i).type) (place_named m) (layers_key ∷ Index i ∷ Key m ∷ []) name t
   property_leaf i m name t = leaf marks t (layers_key ∷ Index i ∷ Key m ∷ Key name ∷ []) (λ x q u. refl)
 
   -- what has no place of properties has nothing below
@@ -94,33 +94,33 @@ module _ (document : Tree) where
   no_place (Some type) name t = refl
 
   below_none : (i : ℕ) (m : List ℕ) → place_named m ≡ None → IsSilentBelow marks (layers_key ∷ Index i ∷ Key m ∷ [])
-  below_none i m e (Key name) [] t = ap (λ p. property_mark (tested_type (ground_at document i).type) p name t) e ∙ no_place (tested_type (ground_at document i).type) name t
+  below_none i m e (Key name) [] t = ap (λ p. property_mark (tested_type (context_at document i).type) p name t) e ∙ no_place (tested_type (context_at document i).type) name t
   below_none i m e (Key name) (y ∷ q) t = refl
   below_none i m e (Index j) q t = refl
 
   abbrev member_path : ℕ → List ℕ → List PathPart
   member_path i m = layers_key ∷ Index i ∷ Key m ∷ []
 
-  abbrev grounds : ℕ → Ground
-  grounds i = ground_at document i
+  abbrev context : ℕ → LayerContext
+  context i = context_at document i
 
   abbrev used : ℕ → List ℕ → Bool
   used i = used_in (layers_of document) i
 
-  -- what `member_told` says, by the place of properties that a member is
+  -- what `member_reports` says, by the place of properties that a member is
   abbrev MemberLevel : ℕ → List ℕ → Tree → Option Place → Type 0
-  MemberLevel i m t place = walk t marks (member_path i m) ≡ told_or (member_mark (grounds i) (used i) m t) (member_path i m) (member_below (grounds i) place (member_path i m) t)
+  MemberLevel i m t place = walk t marks (member_path i m) ≡ reports_or (member_mark (context i) (used i) m t) (member_path i m) (member_below (context i) place (member_path i m) t)
 
   properties_level : (i : ℕ) (m : List ℕ) (t : Tree) (place : Place) → place_named m ≡ Some place → MemberLevel i m t (Some place)
   properties_level i m null place e = refl
   properties_level i m (boolean b) place e = refl
   properties_level i m (number n) place e = refl
   properties_level i m (text c) place e = refl
-  properties_level i m (list ts) place e = ap (told_or (member_mark (grounds i) (used i) m (list ts)) (member_path i m)) (silent_items marks ts (member_path i m) 0 (λ j q t. refl))
+  properties_level i m (list ts) place e = ap (reports_or (member_mark (context i) (used i) m (list ts)) (member_path i m)) (silent_items marks ts (member_path i m) 0 (λ j q t. refl))
   properties_level i m (object fs) place e =
-      ap (told_or (member_mark (grounds i) (used i) m (object fs)) (member_path i m))
-      (fields_walk marks fs (member_path i m) (property_told (tested_type (grounds i).type) (Some place) (member_path i m))
-      (λ name t. property_leaf i m name t ∙ ap (λ p. property_told (tested_type (grounds i).type) p (member_path i m) name t) e))
+      ap (reports_or (member_mark (context i) (used i) m (object fs)) (member_path i m))
+      (fields_walk marks fs (member_path i m) (property_reports (tested_type (context i).type) (Some place) (member_path i m))
+      (λ name t. property_leaf i m name t ∙ ap (λ p. property_reports (tested_type (context i).type) p (member_path i m) name t) e))
 
   member_level : (i : ℕ) (m : List ℕ) (t : Tree) (place : Option Place) → place_named m ≡ place → MemberLevel i m t place
   member_level i m t None e = leaf marks t (member_path i m) (below_none i m e)
@@ -128,34 +128,34 @@ module _ (document : Tree) where
 
   -- ---- a layer
 
-  layer_level : (i : ℕ) (t : Tree) → walk t marks (layers_key ∷ Index i ∷ []) ≡ grounded_told (grounds i) (used i) (layers_key ∷ Index i ∷ []) t
+  layer_level : (i : ℕ) (t : Tree) → walk t marks (layers_key ∷ Index i ∷ []) ≡ context_reports (context i) (used i) (layers_key ∷ Index i ∷ []) t
   layer_level i null = refl
   layer_level i (boolean b) = refl
   layer_level i (number n) = refl
   layer_level i (text c) = refl
-  layer_level i (list ts) = ap (told_or (layer_mark (grounds i) (list ts)) (layers_key ∷ Index i ∷ [])) (silent_items marks ts (layers_key ∷ Index i ∷ []) 0 (λ j q t. refl))
+  layer_level i (list ts) = ap (reports_or (layer_mark (context i) (list ts)) (layers_key ∷ Index i ∷ [])) (silent_items marks ts (layers_key ∷ Index i ∷ []) 0 (λ j q t. refl))
   layer_level i (object fs) =
-      ap (told_or (layer_mark (grounds i) (object fs)) (layers_key ∷ Index i ∷ []))
-      (fields_walk marks fs (layers_key ∷ Index i ∷ []) (member_told (grounds i) (used i) (layers_key ∷ Index i ∷ [])) (λ m t. member_level i m t (place_named m) refl))
+      ap (reports_or (layer_mark (context i) (object fs)) (layers_key ∷ Index i ∷ []))
+      (fields_walk marks fs (layers_key ∷ Index i ∷ []) (member_reports (context i) (used i) (layers_key ∷ Index i ∷ [])) (λ m t. member_level i m t (place_named m) refl))
 
   -- the layers from the number i on
   abbrev AreFrom : ℕ → Trees → Type 0
   AreFrom i ts = (j : ℕ) → layer_at j ts ≡ layer_at (j + i) (layers_of document)
 
-  layers_level : (ts : Trees) (i : ℕ) → AreFrom i ts → walk_items ts marks (layers_key ∷ []) i ≡ layers_told (sources_of document) used (layers_key ∷ []) i ts
+  layers_level : (ts : Trees) (i : ℕ) → AreFrom i ts → walk_items ts marks (layers_key ∷ []) i ≡ layers_reports (sources_of document) used (layers_key ∷ []) i ts
   layers_level no_trees i from = refl
   layers_level (tree t ts) i from =
       let here : layer_at i (layers_of document) ≡ Some t = ap (λ n. layer_at n (layers_of document)) (sym (zero-add i)) ∙ sym (from 0) in
       let path = layers_key ∷ Index i ∷ [] in
-      let first : walk t marks path ≡ layer_told (sources_of document) (used i) path t =
-      layer_level i t ∙ ap (λ found. grounded_told (layer_ground document found) (used i) path t) here in
+      let first : walk t marks path ≡ layer_reports (sources_of document) (used i) path t =
+      layer_level i t ∙ ap (λ found. context_reports (layer_context document found) (used i) path t) here in
       let later : AreFrom (i + 1) ts = λ j. from (suc j) ∙ ap (λ n. layer_at n (layers_of document)) (grind arith) in
-      ap (λ w. w ++ walk_items ts marks (layers_key ∷ []) (i + 1)) first ∙ ap (λ w. layer_told (sources_of document) (used i) path t ++ w) (layers_level ts (i + 1) later)
+      ap (λ w. w ++ walk_items ts marks (layers_key ∷ []) (i + 1)) first ∙ ap (λ w. layer_reports (sources_of document) (used i) path t ++ w) (layers_level ts (i + 1) later)
 
   -- ---- a member of the root
 
   abbrev RootLevel : List ℕ → Tree → Type 0
-  RootLevel k t = walk t marks (Key k ∷ []) ≡ root_member_told document k t
+  RootLevel k t = walk t marks (Key k ∷ []) ≡ root_member_reports document k t
 
   layers_member : (t : Tree) → member (codes "layers") document ≡ Some t → RootLevel (codes "layers") t
   layers_member null e = refl
@@ -165,7 +165,7 @@ module _ (document : Tree) where
   layers_member (object fs) e = refl
   layers_member (list ts) e =
       let same : ts ≡ layers_of document = sym (ap trees_in e) in
-      ap (told_or (root_member_mark (codes "layers") (list ts)) (layers_key ∷ [])) (layers_level ts 0 (λ j. ap (λ us. layer_at j us) same ∙ ap (λ n. layer_at n (layers_of document)) (sym (add-zero j))))
+      ap (reports_or (root_member_mark (codes "layers") (list ts)) (layers_key ∷ [])) (layers_level ts 0 (λ j. ap (λ us. layer_at j us) same ∙ ap (λ n. layer_at n (layers_of document)) (sym (add-zero j))))
 
   sources_member : (t : Tree) → RootLevel (codes "sources") t
   sources_member null = refl
@@ -174,8 +174,8 @@ module _ (document : Tree) where
   sources_member (text c) = refl
   sources_member (list ts) = refl
   sources_member (object fs) =
-      ap (told_or (root_member_mark (codes "sources") (object fs)) (Key (codes "sources") ∷ []))
-      (fields_walk marks fs (Key (codes "sources") ∷ []) (named_told (codes "sources") (Key (codes "sources") ∷ [])) (λ name t. named_leaf (codes "sources") name t))
+      ap (reports_or (root_member_mark (codes "sources") (object fs)) (Key (codes "sources") ∷ []))
+      (fields_walk marks fs (Key (codes "sources") ∷ []) (named_reports (codes "sources") (Key (codes "sources") ∷ [])) (λ name t. named_leaf (codes "sources") name t))
 
   state_member : (t : Tree) → RootLevel (codes "state") t
   state_member null = refl
@@ -184,8 +184,8 @@ module _ (document : Tree) where
   state_member (text c) = refl
   state_member (list ts) = refl
   state_member (object fs) =
-      ap (told_or (root_member_mark (codes "state") (object fs)) (Key (codes "state") ∷ []))
-      (fields_walk marks fs (Key (codes "state") ∷ []) (named_told (codes "state") (Key (codes "state") ∷ [])) (λ name t. named_leaf (codes "state") name t))
+      ap (reports_or (root_member_mark (codes "state") (object fs)) (Key (codes "state") ∷ []))
+      (fields_walk marks fs (Key (codes "state") ∷ []) (named_reports (codes "state") (Key (codes "state") ∷ [])) (λ name t. named_leaf (codes "state") name t))
 
   -- another member has nothing below
   below_other : (k : List ℕ) → is_layers k ≡ false → bytes_eq k (codes "sources") ≡ false → bytes_eq k (codes "state") ≡ false → IsSilentBelow marks (Key k ∷ [])
@@ -202,7 +202,7 @@ module _ (document : Tree) where
   nothing_below k t l s g = rw (l, s, g) refl
 
   other_member : (k : List ℕ) (t : Tree) → is_layers k ≡ false → bytes_eq k (codes "sources") ≡ false → bytes_eq k (codes "state") ≡ false → RootLevel k t
-  other_member k t l s g = leaf marks t (Key k ∷ []) (below_other k l s g) ∙ ap (told_or (root_member_mark k t) (Key k ∷ [])) (sym (nothing_below k t l s g))
+  other_member k t l s g = leaf marks t (Key k ∷ []) (below_other k l s g) ∙ ap (reports_or (root_member_mark k t) (Key k ∷ [])) (sym (nothing_below k t l s g))
 
   is_key : (k key : List ℕ) → bytes_eq k key ≡ true → k ≡ key
   is_key k key h = (bytes_eq-Decides k key).0 h
@@ -219,11 +219,11 @@ module _ (document : Tree) where
     ]
   ]
 
-  root_walk : (ms : List (List ℕ × Tree)) → AreMembers document ms → walk_fields (fields_of ms) marks [] ≡ fields_told (root_member_told document) (fields_of ms)
+  root_walk : (ms : List (List ℕ × Tree)) → AreMembers document ms → walk_fields (fields_of ms) marks [] ≡ fields_reports (root_member_reports document) (fields_of ms)
   root_walk [] all = refl
   root_walk (m ∷ ms) all =
       ap (λ w. w ++ walk_fields (fields_of ms) marks []) (root_member_level m.0 m.1 all.0)
-      ∙ ap (λ w. root_member_told document m.0 m.1 ++ w) (root_walk ms all.1)
+      ∙ ap (λ w. root_member_reports document m.0 m.1 ++ w) (root_walk ms all.1)
 
 -- ---- each member is found at its key
 
@@ -240,15 +240,15 @@ each_is_found (m ∷ ms) distinct =
 pub walks_by_levels : WalksByLevels
 walks_by_levels ms distinct =
     let document = object (fields_of ms) in
-    ap (told_or (root_mark document) []) (root_walk document ms (each_is_found ms distinct))
+    ap (reports_or (root_mark document) []) (root_walk document ms (each_is_found ms distinct))
 
 -- the reports of the members of a document that has the members it needs are all that is reported of it
-pub root_told : (root : List (List ℕ × Tree)) (members : List Member) (old new : List Told) → members_view members ≡ root → HasDistinctKeys root →
-    has_root_members (object (fields_of root)) ≡ true → old ≡ [] → new ≡ old ++ fields_told (root_member_told (object (fields_of root))) (fields members) →
-    new ≡ told (object (fields_of root))
-root_told root members old new seen distinct sound none is =
+pub root_reports : (root : List (List ℕ × Tree)) (members : List Member) (old new : List Diagnostic) → members_view members ≡ root → HasDistinctKeys root →
+    has_root_members (object (fields_of root)) ≡ true → old ≡ [] → new ≡ old ++ fields_reports (root_member_reports (object (fields_of root))) (fields members) →
+    new ≡ reports (object (fields_of root))
+root_reports root members old new seen distinct sound none is =
     let document = object (fields_of root) in
-    let below : List Told = fields_told (root_member_told document) (fields_of root) in
-    let at_root : new ≡ below = is ∙ (ap (λ ts. ts ++ fields_told (root_member_told document) (fields members)) none ∙ ap (λ ms. fields_told (root_member_told document) (fields_of ms)) seen) in
-    let marked : below ≡ document_told document = ap (λ b. told_or (if b then Nothing else Broken [] 2) [] below) (sym sound) in
+    let below : List Diagnostic = fields_reports (root_member_reports document) (fields_of root) in
+    let at_root : new ≡ below = is ∙ (ap (λ ts. ts ++ fields_reports (root_member_reports document) (fields members)) none ∙ ap (λ ms. fields_reports (root_member_reports document) (fields_of ms)) seen) in
+    let marked : below ≡ document_reports document = ap (λ b. reports_or (if b then Nothing else Broken [] 2) [] below) (sym sound) in
     at_root ∙ (marked ∙ sym (walks_by_levels root distinct))

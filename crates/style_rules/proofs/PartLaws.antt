@@ -5,15 +5,15 @@ use Rattle.std.proofs.Common.{refl, sym, ap, subst, ◌∙◌, inl, inr}
 use Rattle.std.proofs.lemmas.Bool.{cases_Bool}
 use Rattle.std.proofs.lemmas.Slice.Eq.{bytes_eq-Decides}
 use Rattle.decimal_json.specs.Tree.{Tree, object, fields_of, field_at, LacksKey, HasDistinctKeys}
-use Rattle.style_rules.specs.CodeView.{Parts}
+use Rattle.style_rules.specs.CodeView.{MemberTrees}
 use Rattle.style_rules.specs.LayerParts.{parts_of, with_member}
 
 -- with all of these, one after the other
-abbrev pub with_members : Parts → List (List ℕ × Tree) → Parts
+abbrev pub with_members : MemberTrees → List (List ℕ × Tree) → MemberTrees
 with_members p [] = p
 with_members p (m ∷ ms) = with_members (with_member p m.0 m.1) ms
 
-abbrev pub no_parts : Parts
+abbrev pub no_parts : MemberTrees
 no_parts = record { id = None; layer_type = None; source = None; source_layer = None; has_ref = false }
 
 -- what was found last, else what was found before
@@ -22,7 +22,7 @@ or_before (Some t) before = Some t
 or_before None before = before
 
 -- the members that come with what was found before
-abbrev joined : Parts → Parts → Parts
+abbrev joined : MemberTrees → MemberTrees → MemberTrees
 joined later p = record {
   id = or_before later.id p.id;
   layer_type = or_before later.layer_type p.layer_type;
@@ -39,7 +39,7 @@ or_false : (b : Bool) → (b || false) ≡ b
 or_false true = refl
 or_false false = refl
 
-joined_none : (p : Parts) → joined p no_parts ≡ p
+joined_none : (p : MemberTrees) → joined p no_parts ≡ p
 joined_none p = rw (or_none p.id, or_none p.layer_type, or_none p.source, or_none p.source_layer, or_false p.has_ref) refl
 
 pub differs : (a b : List ℕ) → (a ≢ b) → bytes_eq a b ≡ false
@@ -50,31 +50,31 @@ lacking key [] lacks = refl
 lacking key (m ∷ ms) lacks = ap (λ b. if b then Some m.1 else field_at key (fields_of ms)) (differs m.0 key lacks.0) ∙ lacking key ms lacks.1
 
 -- one member before others
-abbrev Moves : List ℕ → Parts → Tree → List (List ℕ × Tree) → Type 0
+abbrev Moves : List ℕ → MemberTrees → Tree → List (List ℕ × Tree) → Type 0
 Moves k p t ms = LacksKey k ms → joined (parts_of (object (fields_of ms))) (with_member p k t) ≡ joined (parts_of (object (fields_of ((k, t) ∷ ms)))) p
 
-moves_id : (p : Parts) (t : Tree) (ms : List (List ℕ × Tree)) → Moves (codes "id") p t ms
+moves_id : (p : MemberTrees) (t : Tree) (ms : List (List ℕ × Tree)) → Moves (codes "id") p t ms
 moves_id p t ms lacks = rw (lacking (codes "id") ms lacks) refl
 
-moves_type : (p : Parts) (t : Tree) (ms : List (List ℕ × Tree)) → Moves (codes "type") p t ms
+moves_type : (p : MemberTrees) (t : Tree) (ms : List (List ℕ × Tree)) → Moves (codes "type") p t ms
 moves_type p t ms lacks = rw (lacking (codes "type") ms lacks) refl
 
-moves_source : (p : Parts) (t : Tree) (ms : List (List ℕ × Tree)) → Moves (codes "source") p t ms
+moves_source : (p : MemberTrees) (t : Tree) (ms : List (List ℕ × Tree)) → Moves (codes "source") p t ms
 moves_source p t ms lacks = rw (lacking (codes "source") ms lacks) refl
 
-moves_source_layer : (p : Parts) (t : Tree) (ms : List (List ℕ × Tree)) → Moves (codes "source-layer") p t ms
+moves_source_layer : (p : MemberTrees) (t : Tree) (ms : List (List ℕ × Tree)) → Moves (codes "source-layer") p t ms
 moves_source_layer p t ms lacks = rw (lacking (codes "source-layer") ms lacks) refl
 
-moves_ref : (p : Parts) (t : Tree) (ms : List (List ℕ × Tree)) → Moves (codes "ref") p t ms
+moves_ref : (p : MemberTrees) (t : Tree) (ms : List (List ℕ × Tree)) → Moves (codes "ref") p t ms
 moves_ref p t ms lacks = rw (lacking (codes "ref") ms lacks) refl
 
-moves_other : (k : List ℕ) (p : Parts) (t : Tree) (ms : List (List ℕ × Tree)) → bytes_eq k (codes "id") ≡ false → bytes_eq k (codes "type") ≡ false → bytes_eq k (codes "source") ≡ false → bytes_eq k (codes "source-layer") ≡ false → bytes_eq k (codes "ref") ≡ false → Moves k p t ms
+moves_other : (k : List ℕ) (p : MemberTrees) (t : Tree) (ms : List (List ℕ × Tree)) → bytes_eq k (codes "id") ≡ false → bytes_eq k (codes "type") ≡ false → bytes_eq k (codes "source") ≡ false → bytes_eq k (codes "source-layer") ≡ false → bytes_eq k (codes "ref") ≡ false → Moves k p t ms
 moves_other k p t ms a b c d e lacks = rw (a, b, c, d, e) refl
 
 is_key : (k key : List ℕ) → bytes_eq k key ≡ true → key ≡ k
 is_key k key h = sym ((bytes_eq-Decides k key).0 h)
 
-moves : (k : List ℕ) (p : Parts) (t : Tree) (ms : List (List ℕ × Tree)) → Moves k p t ms
+moves : (k : List ℕ) (p : MemberTrees) (t : Tree) (ms : List (List ℕ × Tree)) → Moves k p t ms
 moves k p t ms = elim (cases_Bool (bytes_eq k (codes "id"))) [
   | inl is ↦ subst (λ q. Moves q p t ms) (is_key k (codes "id") is) (moves_id p t ms)
   | inr a ↦ elim (cases_Bool (bytes_eq k (codes "type"))) [
@@ -92,7 +92,7 @@ moves k p t ms = elim (cases_Bool (bytes_eq k (codes "id"))) [
   ]
 ]
 
-with_all : (ms : List (List ℕ × Tree)) (p : Parts) → HasDistinctKeys ms → with_members p ms ≡ joined (parts_of (object (fields_of ms))) p
+with_all : (ms : List (List ℕ × Tree)) (p : MemberTrees) → HasDistinctKeys ms → with_members p ms ≡ joined (parts_of (object (fields_of ms))) p
 with_all [] p distinct = refl
 with_all (m ∷ ms) p distinct = with_all ms (with_member p m.0 m.1) distinct.1 ∙ moves m.0 p m.1 ms distinct.0
 

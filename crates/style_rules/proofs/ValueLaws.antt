@@ -8,15 +8,15 @@ use Rattle.expr_syntax.specs.Term.{Term}
 use Rattle.expr_types.specs.Allowed.{allowed_by, first_unread, stray_zoom_by}
 use Rattle.expr_types.specs.Checked.{unless_at, allowed, checked}
 use Rattle.expr_types.specs.Judged.{Judged, judged, may_of, found_may}
-use Rattle.expr_types.specs.Typing.{Found, Typed, typed}
+use Rattle.expr_types.specs.Typing.{TypedNodes, Typed, typed}
 use Rattle.expr_types.specs.Visits.{Visit, visits}
 use Rattle.expr_types.specs.declared.fault.TypeCode.TheVariants as types
 use Rattle.expr_types.specs.declared.standing.Standing.TheVariants.{Reached}
 use Rattle.style_rules.specs.CodeView.{judged_mark}
 use Rattle.style_rules.specs.Values.{typed_mark}
-use Rattle.style_rules.specs.declared.told.Mark.TheVariants.{Sound}
+use Rattle.style_rules.specs.declared.diagnostics.Mark.TheVariants.{Sound}
 
-allowed_found : (a b : Option (List PathPart)) (found : Found) (pair : Judged) → may_of pair ≡ found.node.may →
+allowed_found : (a b : Option (List PathPart)) (found : TypedNodes) (pair : Judged) → may_of pair ≡ found.node.may →
     judged_mark (judged pair (unless_at a types.Input (unless_at b types.ZoomPlace (Ok found)))) ≡ typed_mark (unless_at a types.Input (unless_at b types.ZoomPlace (Ok found)))
 allowed_found (Some path) b found pair same = refl
 allowed_found None (Some path) found pair same = refl

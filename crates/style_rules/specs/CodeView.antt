@@ -7,11 +7,11 @@ use Rattle.decimal_json.specs.declared.paths.PathPart.{PathPart}
 use Rattle.prop_values.specs.Data.{Data, pairs_of}
 use Rattle.prop_values.specs.Equality.{at_key}
 use Rattle.prop_values.specs.declared.fault.FaultSet.{FaultSet}
-use Rattle.style_rules.specs.Ground.{Ground as Base}
-use Rattle.style_rules.specs.declared.grounds.Ground.{Ground}
-use Rattle.style_rules.specs.declared.grounds.LayerParts.{LayerParts}
-use Rattle.style_rules.specs.declared.told.Mark.{Mark}
-use Rattle.style_rules.specs.declared.told.Mark.TheVariants.{Sound, Broken}
+use Rattle.style_rules.specs.LayerContext.{LayerContext as Base}
+use Rattle.style_rules.specs.declared.layer_context.LayerContext.{LayerContext}
+use Rattle.style_rules.specs.declared.layer_context.LayerMembers.{LayerMembers}
+use Rattle.style_rules.specs.declared.diagnostics.Mark.{Mark}
+use Rattle.style_rules.specs.declared.diagnostics.Mark.TheVariants.{Sound, Broken}
 use Rattle.style_rules.specs.Values.{rule_of}
 use Rattle.expr_types.specs.Judged.{Judged, may_of}
 use Rattle.expr_types.specs.declared.fault.TypeFault.{TypeFault}
@@ -25,18 +25,18 @@ fields_at = option_map (λ (members : Bor (List (List ℕ × Tree))). fields_of 
 abbrev pub text_at : Option (Bor (List ℕ)) → Option (List ℕ)
 text_at = option_map (λ (name : Bor (List ℕ)). name.now)
 
-abbrev pub ground_seen : Ground → Base
-ground_seen g = record { type = g.layer_type; sources = fields_at g.sources; source_type = text_at g.source_type }
+abbrev pub context_seen : LayerContext → Base
+context_seen g = record { type = g.layer_type; sources = fields_at g.sources; source_type = text_at g.source_type }
 
 -- the members of a layer that rules on other members read
-pub record Parts : Type 0 where
+pub record MemberTrees : Type 0 where
   pub id : Option Tree
   pub layer_type : Option Tree
   pub source : Option Tree
   pub source_layer : Option Tree
   pub has_ref : Bool
 
-abbrev pub parts_seen : LayerParts → Parts
+abbrev pub parts_seen : LayerMembers → MemberTrees
 parts_seen p = record {
   id = tree_at p.id;
   layer_type = tree_at p.layer_type;

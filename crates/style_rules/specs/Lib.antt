@@ -1,5 +1,5 @@
 -- To be believed.
-pub mod Ground
+pub mod LayerContext
 pub mod Rules
 pub mod Values
 pub mod Places

@@ -12,11 +12,11 @@ use Rattle.property_tables.specs.declared.property_row.Place.{Place}
 use Rattle.property_tables.specs.declared.property_row.Place.TheVariants.{Layout, Paint}
 use Rattle.style_parts.specs.Parts.{sources_of, layers_of, layer_at, is_layers, is_id_of}
 use Rattle.value_forms.specs.LayerTypes.{tested_type, place_named}
-use Rattle.style_rules.specs.Ground.{Ground, ground_of, is_source}
+use Rattle.style_rules.specs.LayerContext.{LayerContext, context_of, is_source}
 use Rattle.style_rules.specs.Rules
 use Rattle.style_rules.specs.Values.{value_mark, filter_mark}
-use Rattle.style_rules.specs.declared.told.Mark.{Mark}
-use Rattle.style_rules.specs.declared.told.Mark.TheVariants.{Nothing, Broken}
+use Rattle.style_rules.specs.declared.diagnostics.Mark.{Mark}
+use Rattle.style_rules.specs.declared.diagnostics.Mark.TheVariants.{Nothing, Broken}
 
 -- the least rule whose test fails
 abbrev pub least_broken : List (ℕ × Bool) → Mark
@@ -48,13 +48,13 @@ named_mark key t =
 
 -- ---- layers
 
-abbrev pub layer_mark : Ground → Tree → Mark
-layer_mark grounds layer = least_broken (
+abbrev pub layer_mark : LayerContext → Tree → Mark
+layer_mark context layer = least_broken (
     (6, Rules.is_layer layer) ∷
     (7, Rules.has_id layer) ∷
     (9, Rules.has_type layer) ∷
-    (10, Rules.has_source grounds layer) ∷
-    (12, Rules.has_source_layer grounds layer) ∷ [])
+    (10, Rules.has_source context layer) ∷
+    (12, Rules.has_source_layer context layer) ∷ [])
 
 -- `layout` and `paint`, of a layer whose type is tested
 abbrev pub properties_mark : Option LayerType → Tree → Mark
@@ -62,14 +62,14 @@ properties_mark (Some type) t = unless_broken 14 (Rules.are_properties t)
 properties_mark None t = Nothing
 
 -- a member of a layer, by the ids of the layers before
-abbrev pub member_mark : Ground → (List ℕ → Bool) → List ℕ → Tree → Mark
-member_mark grounds used key t =
+abbrev pub member_mark : LayerContext → (List ℕ → Bool) → List ℕ → Tree → Mark
+member_mark context used key t =
     if bytes_eq key (codes "id") then least_broken ((7, Rules.is_id t) ∷ (8, Rules.is_new_id used t) ∷ []) else
     if bytes_eq key (codes "type") then unless_broken 9 (Rules.is_type t) else
-    if bytes_eq key (codes "source") then least_broken ((10, Rules.is_source_name grounds t) ∷ (11, Rules.has_such_source grounds) ∷ []) else
-    if bytes_eq key (codes "source-layer") then unless_broken 12 (Rules.is_source_layer grounds t) else
+    if bytes_eq key (codes "source") then least_broken ((10, Rules.is_source_name context t) ∷ (11, Rules.has_such_source context) ∷ []) else
+    if bytes_eq key (codes "source-layer") then unless_broken 12 (Rules.is_source_layer context t) else
     if bytes_eq key (codes "minzoom") || bytes_eq key (codes "maxzoom") then unless_broken 13 (Rules.is_zoom_limit t) else
-    if bytes_eq key (codes "layout") || bytes_eq key (codes "paint") then properties_mark (tested_type grounds.type) t else
+    if bytes_eq key (codes "layout") || bytes_eq key (codes "paint") then properties_mark (tested_type context.type) t else
     if bytes_eq key (codes "filter") then filter_mark t else
     Nothing
 
@@ -113,12 +113,12 @@ used_in (tree t ts) (suc i) id = is_id_of id t || used_in ts i id
 
 -- ---- the grounds of a layer, by its number
 
-abbrev pub layer_ground : Tree → Option Tree → Ground
-layer_ground document (Some layer) = ground_of (sources_of document) layer
-layer_ground document None = record { type = None; sources = None; source_type = None }
+abbrev pub layer_context : Tree → Option Tree → LayerContext
+layer_context document (Some layer) = context_of (sources_of document) layer
+layer_context document None = record { type = None; sources = None; source_type = None }
 
-abbrev pub ground_at : Tree → ℕ → Ground
-ground_at document i = layer_ground document (layer_at i (layers_of document))
+abbrev pub context_at : Tree → ℕ → LayerContext
+context_at document i = layer_context document (layer_at i (layers_of document))
 
 -- ---- what is reported of the place of a path
 
@@ -126,9 +126,9 @@ abbrev pub mark_at : Tree → List PathPart → Tree → Mark
 mark_at document [] t = root_mark t
 mark_at document (Key k ∷ []) t = root_member_mark k t
 mark_at document (Key k ∷ Key name ∷ []) t = named_mark k t
-mark_at document (Key k ∷ Index i ∷ []) t = if is_layers k then layer_mark (ground_at document i) t else Nothing
+mark_at document (Key k ∷ Index i ∷ []) t = if is_layers k then layer_mark (context_at document i) t else Nothing
 mark_at document (Key k ∷ Index i ∷ Key m ∷ []) t =
-    if is_layers k then member_mark (ground_at document i) (used_in (layers_of document) i) m t else Nothing
+    if is_layers k then member_mark (context_at document i) (used_in (layers_of document) i) m t else Nothing
 mark_at document (Key k ∷ Index i ∷ Key m ∷ Key name ∷ []) t =
-    if is_layers k then property_mark (tested_type (ground_at document i).type) (place_named m) name t else Nothing
+    if is_layers k then property_mark (tested_type (context_at document i).type) (place_named m) name t else Nothing
 mark_at document _ t = Nothing

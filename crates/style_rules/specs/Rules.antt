@@ -11,7 +11,7 @@ use Rattle.property_tables.specs.declared.layer_type.LayerType.TheVariants.{Rast
 use Rattle.style_parts.specs.Parts.{is_among}
 use Rattle.style_parts.specs.Numbers.{number_in, is_equal, is_zoom}
 use Rattle.value_forms.specs.LayerTypes.{type_in}
-use Rattle.style_rules.specs.Ground.{Ground}
+use Rattle.style_rules.specs.LayerContext.{LayerContext}
 
 -- V1: the document is an object
 abbrev pub is_document : Tree → Bool
@@ -65,16 +65,16 @@ abbrev pub is_type : Tree → Bool
 is_type t = is_some (type_in t)
 
 -- V10: a layer other than background has a `source`, a text that names a member of `sources`
-abbrev pub has_source : Ground → Tree → Bool
-has_source grounds layer = not (is_some grounds.sources) || has (codes "source") layer
+abbrev pub has_source : LayerContext → Tree → Bool
+has_source context layer = not (is_some context.sources) || has (codes "source") layer
 
 abbrev pub is_named_among : Option Fields → Option (List ℕ) → Bool
 is_named_among None name = true
 is_named_among (Some sources) (Some name) = is_some (field_at name sources)
 is_named_among (Some sources) None = false
 
-abbrev pub is_source_name : Ground → Tree → Bool
-is_source_name grounds t = is_named_among grounds.sources (text_in t)
+abbrev pub is_source_name : LayerContext → Tree → Bool
+is_source_name context t = is_named_among context.sources (text_in t)
 
 -- V11: a raster layer's source is of type raster, image or video; a hillshade or color-relief layer's is
 -- raster-dem; every other's is vector or geojson
@@ -88,18 +88,18 @@ abbrev pub suits : Option LayerType → Option (List ℕ) → Bool
 suits (Some type) (Some source) = is_among (sources_of_type type) (Some source)
 suits _ _ = true
 
-abbrev pub has_such_source : Ground → Bool
-has_such_source grounds = suits grounds.type grounds.source_type
+abbrev pub has_such_source : LayerContext → Bool
+has_such_source context = suits context.type context.source_type
 
 -- V12: a layer other than background on a vector source has a `source-layer`, a text
-abbrev pub is_on_vector : Ground → Bool
-is_on_vector grounds = is_among (codes "vector" ∷ []) grounds.source_type
+abbrev pub is_on_vector : LayerContext → Bool
+is_on_vector context = is_among (codes "vector" ∷ []) context.source_type
 
-abbrev pub has_source_layer : Ground → Tree → Bool
-has_source_layer grounds layer = not (is_on_vector grounds) || has (codes "source-layer") layer
+abbrev pub has_source_layer : LayerContext → Tree → Bool
+has_source_layer context layer = not (is_on_vector context) || has (codes "source-layer") layer
 
-abbrev pub is_source_layer : Ground → Tree → Bool
-is_source_layer grounds t = not (is_on_vector grounds) || is_text t
+abbrev pub is_source_layer : LayerContext → Tree → Bool
+is_source_layer context t = not (is_on_vector context) || is_text t
 
 -- V13: `minzoom` and `maxzoom` are numbers from 0 to 24
 abbrev pub is_zoom_limit : Tree → Bool

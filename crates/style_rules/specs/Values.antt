@@ -21,8 +21,8 @@ use Rattle.legacy_functions.specs.ToExpression.{function_expression}
 use Rattle.value_forms.specs.declared.forms.Form.TheVariants as forms
 use Rattle.value_forms.specs.Forms.{form_of}
 use Rattle.value_forms.specs.declared.forms.Form.{Form}
-use Rattle.style_rules.specs.declared.told.Mark.{Mark}
-use Rattle.style_rules.specs.declared.told.Mark.TheVariants.{Broken, Outside, Sound}
+use Rattle.style_rules.specs.declared.diagnostics.Mark.{Mark}
+use Rattle.style_rules.specs.declared.diagnostics.Mark.TheVariants.{Broken, Outside, Sound}
 
 -- ---- V15: a literal meets its row's kind and range
 
@@ -59,12 +59,12 @@ abbrev pub function_reads : RowData → Function → Bool
 function_reads row f = (row.reads.zoom || not (has_zooms f)) && (row.reads.feature || is_none f.property)
 
 -- the faults that may come are those of its expression
-abbrev pub faults_told : Mark → FaultSet
-faults_told (Sound faults) = faults
-faults_told _ = no_faults
+abbrev pub faults_reports : Mark → FaultSet
+faults_reports (Sound faults) = faults
+faults_reports _ = no_faults
 
 abbrev pub function_faults : RowData → Function → FaultSet
-function_faults row f = faults_told (expression_mark row.want (Some row) (function_expression row f))
+function_faults row f = faults_reports (expression_mark row.want (Some row) (function_expression row f))
 
 abbrev pub function_mark : RowData → Option (Option Function) → Mark
 function_mark row (Some (Some f)) = if function_reads row f then Sound (function_faults row f) else Broken [] 17
@@ -86,7 +86,7 @@ value_mark row t = form_mark (form_of row t) row t
 -- as a truth value, and reads no
 -- feature state.
 
-abbrev pub legacy_mark : filters.Read → Mark
+abbrev pub legacy_mark : filters.FilterRead → Mark
 legacy_mark (Ok f) = Sound no_faults
 legacy_mark (Err fault) = Broken fault.path 20
 

@@ -4,11 +4,11 @@ ghost use Rattle.std.specs.Prelude.{◌≡◌, map, not, OnOk, IfOk};
 ghost use Rattle.decimal_json.specs.View.{tree_of};
 ghost use Rattle.style_rules.specs.CodeView.{finding_seen};
 ghost use Rattle.style_rules.specs.Findings.{findings, has_faults};
-ghost use Rattle.style_rules.specs.Reports.{IsReport, IsReportOf, Notes};
+ghost use Rattle.style_rules.specs.Reports.{IsReport, IsReportOf, AddsReport};
 
+use crate::diagnostics::{Diagnostic, Diagnostics};
 use crate::document::examine;
 use crate::lists::{Finding, Findings, MayLine, MayLines, Paths, Report};
-use crate::told::{Told, ToldList};
 use decimal_json::Json;
 use prop_values::{EvalFault, FaultSet};
 use std::alloc::{AllocError, Global};
@@ -17,31 +17,31 @@ use std::alloc::{AllocError, Global};
 pub fn examined(alloc: Global, document: &Json) -> Result<Report, AllocError>
     ensures { IfOk result (λ report. IsReport (tree_of document.now) report) }
 {
-    let told = examine(alloc, document)?;
-    report_of(alloc, told)
+    let reports = examine(alloc, document)?;
+    report_of(alloc, reports)
 }
 
-fn report_of(alloc: Global, told: ToldList) -> Result<Report, AllocError>
-    ensures { IfOk result (λ report. IsReportOf told report) }
+fn report_of(alloc: Global, reports: Diagnostics) -> Result<Report, AllocError>
+    ensures { IfOk result (λ report. IsReportOf reports report) }
 {
     let mut report = Report {
         findings: Findings::new(alloc),
         notes: Paths::new(alloc),
         may_lines: MayLines::new(alloc),
     };
-    for one in told.all {
+    for one in reports.all {
         note(&mut report, one)?;
     }
     Ok(report)
 }
 
-fn note(report: &mut Report, told: Told) -> Result<(), AllocError>
-    ensures { OnOk result (Notes told report.old report.new) }
+fn note(report: &mut Report, diagnostic: Diagnostic) -> Result<(), AllocError>
+    ensures { OnOk result (AddsReport diagnostic report.old report.new) }
 {
-    match told {
-        Told::Finding(path, rule) => report.findings.push(Finding { path, rule }),
-        Told::Note(path) => report.notes.push(path),
-        Told::May(path, faults) => {
+    match diagnostic {
+        Diagnostic::Finding(path, rule) => report.findings.push(Finding { path, rule }),
+        Diagnostic::Note(path) => report.notes.push(path),
+        Diagnostic::May(path, faults) => {
             if is_empty(faults) {
                 return Ok(());
             }

@@ -4,7 +4,7 @@ ghost use Rattle.std.specs.Prelude.{◌≡◌, IfOk};
 ghost use Rattle.decimal_json.specs.View.{tree_of};
 ghost use Rattle.style_rules.specs.Values.{filter_mark};
 
-use crate::told::Mark;
+use crate::diagnostics::Mark;
 use crate::values::expression_mark;
 use decimal_json::Json;
 use legacy_filters::{is_legacy, read};

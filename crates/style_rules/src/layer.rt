@@ -4,21 +4,21 @@ ghost use Rattle.std.specs.Prelude.{◌≡◌, [], ◌∷◌, ◌++◌, OnOk};
 ghost use Rattle.decimal_json.specs.Place.{path_of};
 ghost use Rattle.decimal_json.specs.Tree.{object, HasDistinctKeys};
 ghost use Rattle.decimal_json.specs.View.{tree_of, fields, members_view};
-ghost use Rattle.style_rules.specs.CodeView.{fields_at, ground_seen, has_name, parts_seen};
-ghost use Rattle.style_rules.specs.Findings.{told_or};
-ghost use Rattle.style_rules.specs.Keys.{keyed_told, placed_told};
+ghost use Rattle.style_rules.specs.CodeView.{fields_at, context_seen, has_name, parts_seen};
+ghost use Rattle.style_rules.specs.Findings.{reports_or};
+ghost use Rattle.style_rules.specs.Keys.{keyed_reports, placed_reports};
 ghost use Rattle.style_rules.specs.LayerParts.{layer_rule};
-ghost use Rattle.style_rules.specs.Levels.{fields_told, layer_told, member_told};
+ghost use Rattle.style_rules.specs.Levels.{fields_reports, layer_reports, member_reports};
 ghost use Rattle.style_rules.specs.Places.{least_broken};
 ghost use Rattle.style_rules.specs.Rules.{is_id, is_type, is_new_id, is_source_name, has_such_source, is_source_layer, is_zoom_limit};
 ghost use Rattle.style_rules.specs.Values.{filter_mark};
 
+use crate::diagnostics::Diagnostics;
 use crate::document::is_new_id;
 use crate::filters::filter_mark;
-use crate::grounds::{Ground, LayerParts, ground_of, parts_of};
 use crate::keys::{MemberKey, member_key};
-use crate::properties::tell_properties;
-use crate::told::ToldList;
+use crate::layer_context::{LayerContext, LayerMembers, context_of, parts_of};
+use crate::properties::report_properties;
 use decimal_json::{Here, Json, Member, Members};
 use prop_values::Entries;
 use property_tables::Place;
@@ -29,69 +29,85 @@ use value_forms::{tested_type, type_in};
 /// What the members of one layer are looked at by.
 #[derive(Clone, Copy)]
 struct MemberContext<'a> {
-    layer: Ground<'a>,
+    layer: LayerContext<'a>,
     /// The ids of the layers before.
     used: &'a Entries,
 }
 
 /// Reports of a layer, by the ids of the layers before.
-pub(crate) fn tell_layer<'x>(
+pub(crate) fn report_layer<'x>(
     alloc: Global,
-    told: &mut ToldList,
+    reports: &mut Diagnostics,
     sources: Option<&'x Members>,
     used: &Entries,
     layer: &'x Json,
     here: &'x Here<'x>,
 ) -> Result<(), AllocError>
-    ensures { OnOk result (told.new ≡ told.old
-        ++ layer_told (fields_at sources.entry) (has_name used.now) (path_of here.now) (tree_of layer.now)) }
+    ensures { OnOk result (reports.new ≡ reports.old
+        ++ layer_reports (fields_at sources.entry) (has_name used.now) (path_of here.now) (tree_of layer.now)) }
 {
     match layer {
-        Json::Object(members) => tell_members(alloc, told, sources, used, members.as_slice(), here),
-        _ => told.tell_broken(alloc, here, 6),
+        Json::Object(members) => report_members(
+            alloc,
+            reports,
+            sources,
+            used,
+            members.as_slice(),
+            here,
+        ),
+        _ => reports.report_broken(alloc, here, 6),
     }
 }
 
-fn tell_members<'x>(
+fn report_members<'x>(
     alloc: Global,
-    told: &mut ToldList,
+    reports: &mut Diagnostics,
     sources: Option<&'x Members>,
     used: &Entries,
     members: &'x [Member],
     here: &'x Here<'x>,
 ) -> Result<(), AllocError>
     requires { HasDistinctKeys (members_view members.now) }
-    ensures { OnOk result (told.new ≡ told.old
-        ++ layer_told (fields_at sources.entry) (has_name used.now) (path_of here.now) (object (fields members.now))) }
+    ensures { OnOk result (reports.new ≡ reports.old
+        ++ layer_reports (fields_at sources.entry) (has_name used.now) (path_of here.now) (object (fields members.now))) }
 {
     let parts = parts_of(members);
-    let grounds = ground_of(sources, &parts);
-    match layer_rule(&grounds, &parts) {
-        Some(rule) => told.tell_broken(alloc, here, rule),
-        None => tell_each_member(alloc, told, &MemberContext { layer: grounds, used }, members, here),
+    let context = context_of(sources, &parts);
+    match layer_rule(&context, &parts) {
+        Some(rule) => reports.report_broken(alloc, here, rule),
+        None => report_each_member(
+            alloc,
+            reports,
+            &MemberContext {
+                layer: context,
+                used,
+            },
+            members,
+            here,
+        ),
     }
 }
 
-fn tell_each_member<'x>(
+fn report_each_member<'x>(
     alloc: Global,
-    told: &mut ToldList,
+    reports: &mut Diagnostics,
     within: &MemberContext<'_>,
     members: &'x [Member],
     here: &'x Here<'x>,
 ) -> Result<(), AllocError>
-    ensures { OnOk result (told.new ≡ told.old
-        ++ fields_told (member_told (ground_seen within.now.layer) (has_name within.now.used.now) (path_of here.now))
+    ensures { OnOk result (reports.new ≡ reports.old
+        ++ fields_reports (member_reports (context_seen within.now.layer) (has_name within.now.used.now) (path_of here.now))
         (fields members.now)) }
 {
     for member in members {
-        tell_member(alloc, told, within, member, here)?;
+        report_member(alloc, reports, within, member, here)?;
     }
     Ok(())
 }
 
 /// The least rule that breaks at the layer itself.
-fn layer_rule(grounds: &Ground<'_>, parts: &LayerParts<'_>) -> Option<u8>
-    ensures { result ≡ layer_rule (ground_seen grounds.now) (parts_seen parts.now) }
+fn layer_rule(context: &LayerContext<'_>, parts: &LayerMembers<'_>) -> Option<u8>
+    ensures { result ≡ layer_rule (context_seen context.now) (parts_seen parts.now) }
 {
     if parts.id.is_none() {
         return Some(7);
@@ -99,56 +115,63 @@ fn layer_rule(grounds: &Ground<'_>, parts: &LayerParts<'_>) -> Option<u8>
     if parts.layer_type.is_none() || parts.has_ref {
         return Some(9);
     }
-    if grounds.sources.is_some() && parts.source.is_none() {
+    if context.sources.is_some() && parts.source.is_none() {
         return Some(10);
     }
-    if grounds.is_on_vector() && parts.source_layer.is_none() {
+    if context.is_on_vector() && parts.source_layer.is_none() {
         return Some(12);
     }
     None
 }
 
 #[tactic(auto, using(crate::proofs::KeyLaws::member_by_key))]
-fn tell_member<'x>(
+fn report_member<'x>(
     alloc: Global,
-    told: &mut ToldList,
+    reports: &mut Diagnostics,
     within: &MemberContext<'_>,
     member: &'x Member,
     layer: &'x Here<'x>,
 ) -> Result<(), AllocError>
-    ensures { OnOk result (told.new ≡ told.old
-        ++ member_told (ground_seen within.now.layer) (has_name within.now.used.now) (path_of layer.now)
+    ensures { OnOk result (reports.new ≡ reports.old
+        ++ member_reports (context_seen within.now.layer) (has_name within.now.used.now) (path_of layer.now)
         member.now.key (tree_of member.now.value)) }
 {
     let name = member.key.as_str();
     let here = Here::Key(name, layer);
-    tell_keyed(alloc, told, within, member_key(name), &member.value, &here)
+    report_keyed(
+        alloc,
+        reports,
+        within,
+        member_key(name),
+        &member.value,
+        &here,
+    )
 }
 
-fn tell_keyed<'x>(
+fn report_keyed<'x>(
     alloc: Global,
-    told: &mut ToldList,
+    reports: &mut Diagnostics,
     within: &MemberContext<'_>,
     key: MemberKey,
     value: &'x Json,
     here: &'x Here<'x>,
 ) -> Result<(), AllocError>
-    ensures { OnOk result (told.new ≡ told.old
-        ++ keyed_told (ground_seen within.now.layer) (has_name within.now.used.now) key (path_of here.now)
+    ensures { OnOk result (reports.new ≡ reports.old
+        ++ keyed_reports (context_seen within.now.layer) (has_name within.now.used.now) key (path_of here.now)
         (tree_of value.now)) }
 {
-    let grounds = &within.layer;
+    let context = &within.layer;
     match key {
-        MemberKey::Id => tell_id(alloc, told, within.used, value, here),
-        MemberKey::Type => told.tell_unless(alloc, here, 9, is_type(value)),
-        MemberKey::Source => tell_source(alloc, told, grounds, value, here),
+        MemberKey::Id => report_id(alloc, reports, within.used, value, here),
+        MemberKey::Type => reports.report_unless(alloc, here, 9, is_type(value)),
+        MemberKey::Source => report_source(alloc, reports, context, value, here),
         MemberKey::SourceLayer => {
-            told.tell_unless(alloc, here, 12, is_source_layer(grounds, value))
+            reports.report_unless(alloc, here, 12, is_source_layer(context, value))
         }
-        MemberKey::ZoomLimit => told.tell_unless(alloc, here, 13, is_zoom_limit(value)),
-        MemberKey::Layout => tell_placed(alloc, told, grounds, Place::Layout, value, here),
-        MemberKey::Paint => tell_placed(alloc, told, grounds, Place::Paint, value, here),
-        MemberKey::Filter => tell_filter(alloc, told, value, here),
+        MemberKey::ZoomLimit => reports.report_unless(alloc, here, 13, is_zoom_limit(value)),
+        MemberKey::Layout => report_placed(alloc, reports, context, Place::Layout, value, here),
+        MemberKey::Paint => report_placed(alloc, reports, context, Place::Paint, value, here),
+        MemberKey::Filter => report_filter(alloc, reports, value, here),
         MemberKey::Other => Ok(()),
     }
 }
@@ -159,70 +182,70 @@ fn is_type(json: &Json) -> bool
     type_in(json).is_some()
 }
 
-fn tell_placed<'x>(
+fn report_placed<'x>(
     alloc: Global,
-    told: &mut ToldList,
-    grounds: &Ground<'_>,
+    reports: &mut Diagnostics,
+    context: &LayerContext<'_>,
     place: Place,
     properties: &'x Json,
     here: &'x Here<'x>,
 ) -> Result<(), AllocError>
-    ensures { OnOk result (told.new ≡ told.old
-        ++ placed_told (ground_seen grounds.now) place (path_of here.now) (tree_of properties.now)) }
+    ensures { OnOk result (reports.new ≡ reports.old
+        ++ placed_reports (context_seen context.now) place (path_of here.now) (tree_of properties.now)) }
 {
-    let tested = tested_type(grounds.layer_type);
-    tell_properties(alloc, told, tested, place, properties, here)
+    let tested = tested_type(context.layer_type);
+    report_properties(alloc, reports, tested, place, properties, here)
 }
 
-fn tell_filter(
+fn report_filter(
     alloc: Global,
-    told: &mut ToldList,
+    reports: &mut Diagnostics,
     filter: &Json,
     here: &Here<'_>,
 ) -> Result<(), AllocError>
-    ensures { OnOk result (told.new ≡ told.old ++ told_or (filter_mark (tree_of filter.now)) (path_of here.now) []) }
+    ensures { OnOk result (reports.new ≡ reports.old ++ reports_or (filter_mark (tree_of filter.now)) (path_of here.now) []) }
 {
     let mark = filter_mark(alloc, filter)?;
-    told.tell(alloc, here, mark)
+    reports.report(alloc, here, mark)
 }
 
-fn tell_id(
+fn report_id(
     alloc: Global,
-    told: &mut ToldList,
+    reports: &mut Diagnostics,
     used: &Entries,
     id: &Json,
     here: &Here<'_>,
 ) -> Result<(), AllocError>
-    ensures { OnOk result (told.new ≡ told.old ++ told_or (least_broken
+    ensures { OnOk result (reports.new ≡ reports.old ++ reports_or (least_broken
         ((7, is_id (tree_of id.now)) ∷ (8, is_new_id (has_name used.now) (tree_of id.now)) ∷ [])) (path_of here.now) []) }
 {
     if !id.is_text() {
-        return told.tell_broken(alloc, here, 7);
+        return reports.report_broken(alloc, here, 7);
     }
-    told.tell_unless(alloc, here, 8, is_new_id(used, id))
+    reports.report_unless(alloc, here, 8, is_new_id(used, id))
 }
 
-fn tell_source(
+fn report_source(
     alloc: Global,
-    told: &mut ToldList,
-    grounds: &Ground<'_>,
+    reports: &mut Diagnostics,
+    context: &LayerContext<'_>,
     source: &Json,
     here: &Here<'_>,
 ) -> Result<(), AllocError>
-    ensures { OnOk result (told.new ≡ told.old ++ told_or (least_broken
-        ((10, is_source_name (ground_seen grounds.now) (tree_of source.now)) ∷ (11, has_such_source (ground_seen grounds.now)) ∷ []))
+    ensures { OnOk result (reports.new ≡ reports.old ++ reports_or (least_broken
+        ((10, is_source_name (context_seen context.now) (tree_of source.now)) ∷ (11, has_such_source (context_seen context.now)) ∷ []))
         (path_of here.now) []) }
 {
-    if !grounds.is_source_name(source) {
-        return told.tell_broken(alloc, here, 10);
+    if !context.is_source_name(source) {
+        return reports.report_broken(alloc, here, 10);
     }
-    told.tell_unless(alloc, here, 11, grounds.has_such_source())
+    reports.report_unless(alloc, here, 11, context.has_such_source())
 }
 
-fn is_source_layer(grounds: &Ground<'_>, json: &Json) -> bool
-    ensures { result ≡ is_source_layer (ground_seen grounds.now) (tree_of json.now) }
+fn is_source_layer(context: &LayerContext<'_>, json: &Json) -> bool
+    ensures { result ≡ is_source_layer (context_seen context.now) (tree_of json.now) }
 {
-    !grounds.is_on_vector() || json.is_text()
+    !context.is_on_vector() || json.is_text()
 }
 
 fn is_zoom_limit(json: &Json) -> bool

@@ -11,20 +11,20 @@
 //! evaluation may fault, with the faults. Each list is exactly the definition of its name in
 //! `specs/Findings.antt`, and each expression is read and typed once for all three.
 //!
-//! The text to believe is in `specs/`: `Ground`, `Rules`, `Values`, `Places`, `Findings`, `Reports`.
+//! The text to believe is in `specs/`: `LayerContext`, `Rules`, `Values`, `Places`, `Findings`, `Reports`.
 #![tactic(auto)]
 
 mod calls;
+mod diagnostics;
 mod document;
 mod filters;
-mod grounds;
 mod keys;
 mod laws;
 mod layer;
+mod layer_context;
 mod lists;
 mod names;
 mod properties;
-mod told;
 mod values;
 
 pub use calls::{examined, findings};

@@ -3,112 +3,112 @@
 ghost use Rattle.std.specs.Prelude.{◌≡◌, [], ◌++◌, Some, OnOk};
 ghost use Rattle.decimal_json.specs.Place.{path_of};
 ghost use Rattle.decimal_json.specs.View.{tree_of, fields};
-ghost use Rattle.style_rules.specs.Findings.{told_or};
-ghost use Rattle.style_rules.specs.Levels.{fields_told, fields_or_none, property_told};
+ghost use Rattle.style_rules.specs.Findings.{reports_or};
+ghost use Rattle.style_rules.specs.Levels.{fields_reports, fields_or_none, property_reports};
 ghost use Rattle.style_rules.specs.Places.{properties_mark, unnamed_mark};
 
+use crate::diagnostics::Diagnostics;
 use crate::document::is_transition;
 use crate::names::is_transition_name;
-use crate::told::ToldList;
 use crate::values::value_mark;
 use decimal_json::{Here, Json, Member};
 use property_tables::{LayerType, Place, row, unread};
 use std::alloc::{AllocError, Global};
 
 /// Reports of a `layout` or `paint`, where the layer's type is one whose properties are tested.
-pub(crate) fn tell_properties<'x>(
+pub(crate) fn report_properties<'x>(
     alloc: Global,
-    told: &mut ToldList,
+    reports: &mut Diagnostics,
     layer_type: Option<LayerType>,
     place: Place,
     properties: &'x Json,
     here: &'x Here<'x>,
 ) -> Result<(), AllocError>
-    ensures { OnOk result (told.new ≡ told.old ++ told_or (properties_mark layer_type (tree_of properties.now)) (path_of here.now)
-        (fields_told (property_told layer_type (Some place) (path_of here.now)) (fields_or_none (tree_of properties.now)))) }
+    ensures { OnOk result (reports.new ≡ reports.old ++ reports_or (properties_mark layer_type (tree_of properties.now)) (path_of here.now)
+        (fields_reports (property_reports layer_type (Some place) (path_of here.now)) (fields_or_none (tree_of properties.now)))) }
 {
     match layer_type {
-        Some(layer_type) => tell_tested(alloc, told, layer_type, place, properties, here),
+        Some(layer_type) => report_tested(alloc, reports, layer_type, place, properties, here),
         None => Ok(()),
     }
 }
 
-fn tell_tested<'x>(
+fn report_tested<'x>(
     alloc: Global,
-    told: &mut ToldList,
+    reports: &mut Diagnostics,
     layer_type: LayerType,
     place: Place,
     properties: &'x Json,
     here: &'x Here<'x>,
 ) -> Result<(), AllocError>
-    ensures { OnOk result (told.new ≡ told.old ++ told_or (properties_mark (Some layer_type) (tree_of properties.now)) (path_of here.now)
-        (fields_told (property_told (Some layer_type) (Some place) (path_of here.now)) (fields_or_none (tree_of properties.now)))) }
+    ensures { OnOk result (reports.new ≡ reports.old ++ reports_or (properties_mark (Some layer_type) (tree_of properties.now)) (path_of here.now)
+        (fields_reports (property_reports (Some layer_type) (Some place) (path_of here.now)) (fields_or_none (tree_of properties.now)))) }
 {
     match properties {
         Json::Object(members) => {
-            tell_each_property(alloc, told, layer_type, place, members.as_slice(), here)
+            report_each_property(alloc, reports, layer_type, place, members.as_slice(), here)
         }
-        _ => told.tell_broken(alloc, here, 14),
+        _ => reports.report_broken(alloc, here, 14),
     }
 }
 
-fn tell_each_property<'x>(
+fn report_each_property<'x>(
     alloc: Global,
-    told: &mut ToldList,
+    reports: &mut Diagnostics,
     layer_type: LayerType,
     place: Place,
     properties: &'x [Member],
     here: &'x Here<'x>,
 ) -> Result<(), AllocError>
-    ensures { OnOk result (told.new ≡ told.old
-        ++ fields_told (property_told (Some layer_type) (Some place) (path_of here.now)) (fields properties.now)) }
+    ensures { OnOk result (reports.new ≡ reports.old
+        ++ fields_reports (property_reports (Some layer_type) (Some place) (path_of here.now)) (fields properties.now)) }
 {
     for property in properties {
-        tell_property(alloc, told, layer_type, place, property, here)?;
+        report_property(alloc, reports, layer_type, place, property, here)?;
     }
     Ok(())
 }
 
-fn tell_property<'x>(
+fn report_property<'x>(
     alloc: Global,
-    told: &mut ToldList,
+    reports: &mut Diagnostics,
     layer_type: LayerType,
     place: Place,
     property: &'x Member,
     properties: &'x Here<'x>,
 ) -> Result<(), AllocError>
-    ensures { OnOk result (told.new ≡ told.old
-        ++ property_told (Some layer_type) (Some place) (path_of properties.now) property.now.key (tree_of property.now.value)) }
+    ensures { OnOk result (reports.new ≡ reports.old
+        ++ property_reports (Some layer_type) (Some place) (path_of properties.now) property.now.key (tree_of property.now.value)) }
 {
     let name = property.key.as_str();
     let here = Here::Key(name, properties);
     match row(layer_type, place, name) {
         Some(row) => {
             let mark = value_mark(alloc, &row, &property.value)?;
-            told.tell(alloc, &here, mark)
+            reports.report(alloc, &here, mark)
         }
-        None => tell_unnamed(alloc, told, layer_type, place, property, &here),
+        None => report_unnamed(alloc, reports, layer_type, place, property, &here),
     }
 }
 
 /// A name that no row has is an unread one, or that of a transition.
-fn tell_unnamed(
+fn report_unnamed(
     alloc: Global,
-    told: &mut ToldList,
+    reports: &mut Diagnostics,
     layer_type: LayerType,
     place: Place,
     property: &Member,
     here: &Here<'_>,
 ) -> Result<(), AllocError>
-    ensures { OnOk result (told.new ≡ told.old
-        ++ told_or (unnamed_mark layer_type place property.now.key (tree_of property.now.value)) (path_of here.now) []) }
+    ensures { OnOk result (reports.new ≡ reports.old
+        ++ reports_or (unnamed_mark layer_type place property.now.key (tree_of property.now.value)) (path_of here.now) []) }
 {
     let name = property.key.as_str();
     if unread(layer_type, place, name) {
         return Ok(());
     }
     if is_transition_name(layer_type, place, name) {
-        return told.tell_unless(alloc, here, 21, is_transition(&property.value));
+        return reports.report_unless(alloc, here, 21, is_transition(&property.value));
     }
-    told.tell_broken(alloc, here, 14)
+    reports.report_broken(alloc, here, 14)
 }

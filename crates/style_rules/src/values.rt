@@ -6,9 +6,9 @@ ghost use Rattle.property_tables.specs.RowView.{row_seen};
 ghost use Rattle.legacy_functions.specs.Form.{form};
 ghost use Rattle.legacy_functions.specs.View.{function_of, row_of};
 ghost use Rattle.style_rules.specs.CodeView.{judged_mark};
-ghost use Rattle.style_rules.specs.Values.{value_mark, literal_mark, expression_mark, rule_of, function_mark, function_reads, faults_told};
+ghost use Rattle.style_rules.specs.Values.{value_mark, literal_mark, expression_mark, rule_of, function_mark, function_reads, faults_reports};
 
-use crate::told::Mark;
+use crate::diagnostics::Mark;
 use decimal_json::{Json, Path};
 use expr_syntax::{Reading, read_expr};
 use expr_types::{TypeCode, TypeFault, Typed, check};
@@ -103,7 +103,7 @@ fn inside_mark(alloc: Global, row: &Row, function: &Function) -> Result<Mark, Al
     }
     let expression = function.to_expr(alloc)?;
     let mark = expression_mark(alloc, &row.want, Some(row), &expression)?;
-    Ok(Mark::Sound(faults_told(&mark)))
+    Ok(Mark::Sound(faults_reports(&mark)))
 }
 
 fn reads_allowed(row: &Row, function: &Function) -> bool
@@ -112,8 +112,8 @@ fn reads_allowed(row: &Row, function: &Function) -> bool
     (row.zoom || !function.has_zooms()) && (row.feature || !function.has_property())
 }
 
-fn faults_told(mark: &Mark) -> FaultSet
-    ensures { result ≡ faults_told mark.now }
+fn faults_reports(mark: &Mark) -> FaultSet
+    ensures { result ≡ faults_reports mark.now }
 {
     match mark {
         Mark::Sound(faults) => *faults,

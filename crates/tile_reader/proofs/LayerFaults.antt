@@ -16,7 +16,7 @@ use Rattle.tile_reader.specs.Read.{refused, ◌then◌, read_fields, number_in, 
 use Rattle.tile_reader.specs.Value.{value_at}
 use Rattle.tile_reader.specs.Feature.{Tagged, feature_at}
 use Rattle.tile_reader.specs.Properties.{named, with_pairs, feature_of, features_of}
-use Rattle.tile_reader.specs.Layer.{Parts, layer_field, layer_step, no_parts, name_of, version_of, new_name, layer_end, layer_at}
+use Rattle.tile_reader.specs.Layer.{LayerFields, layer_field, layer_step, no_parts, name_of, version_of, new_name, layer_end, layer_at}
 use Rattle.tile_reader.specs.Names.{names}
 use Rattle.tile_reader.specs.Tile.{tile_step, is_compressed, tile_of}
 use Rattle.tile_reader.specs.Format.{Each, ArePairs, last_of}
@@ -36,7 +36,7 @@ text_err field fault e = elim (then_err (bytes_in field.at field.payload) (text_
   | inr later ↦ let bad = utf8_err field.at later.0 fault later.2 in inr (later.0, bytes_ok field.at field.payload later.0 later.1, bad.0, bad.1)
 ]
 
-abbrev LayerNext : Parts → WireField → TileFault → ℕ → Type 0
+abbrev LayerNext : LayerFields → WireField → TileFault → ℕ → Type 0
 LayerNext q field fault n = layer_step q (layer_format.at_number field n) ≡ Err fault → BreaksLayerField (layer_format.at_number field n) fault
 
 no_err : {A B : Type 0} (read : Result A TileFault) (made : A → B) (fault : TileFault) → (read then λ x. Ok (made x)) ≡ Err fault → read ≡ Err fault
@@ -48,11 +48,11 @@ inner_err {A} {B} field read made fault e = elim (then_err (bytes_in field.at fi
   | inr later ↦ ap (λ (r : Result (List ℕ) TileFault). r then read) later.1 ∙ no_err (read later.0) made fault later.2
 ]
 
-layer_other : (q : Parts) (field : WireField) (fault : TileFault) → Other field.number → LayerNext q field fault field.number
+layer_other : (q : LayerFields) (field : WireField) (fault : TileFault) → Other field.number → LayerNext q field fault field.number
 layer_other q field fault other e =
     let passes : layer_step q field ≡ Ok q = ap (λ (m : LayerMember). layer_field m q field) (other_member field.number other) in absurd (cc)
 
-layer_next : (q : Parts) (field : WireField) (fault : TileFault) → layer_step q field ≡ Err fault → BreaksLayerField field fault
+layer_next : (q : LayerFields) (field : WireField) (fault : TileFault) → layer_step q field ≡ Err fault → BreaksLayerField field fault
 layer_next q field fault e =
     by_number (LayerNext q field fault) field.number 1 (λ e. inl (refl, text_err field fault (no_err (text_in field.at field.payload) (λ (s : List ℕ). record q { name = Some s }) fault e))) (λ d1.
     by_number (LayerNext q field fault) field.number 2 (λ e. inr (inl (refl, feature_err field fault (inner_err field (λ b. feature_at field.at (content_start field) b) (λ (x : Tagged). record q { features = q.features ++ x ∷ [] }) fault e)))) (λ d2.

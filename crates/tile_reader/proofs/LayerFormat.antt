@@ -18,7 +18,7 @@ use Rattle.tile_reader.specs.Read.{refused, ◌then◌, along, read_fields, numb
 use Rattle.tile_reader.specs.Value.{value_at}
 use Rattle.tile_reader.specs.Feature.{Tagged, feature_at}
 use Rattle.tile_reader.specs.Properties.{features_of}
-use Rattle.tile_reader.specs.Layer.{Parts, layer_member, layer_field, layer_step, no_parts, name_of, version_of, new_name, layer_end, layer_at}
+use Rattle.tile_reader.specs.Layer.{LayerFields, layer_member, layer_field, layer_step, no_parts, name_of, version_of, new_name, layer_end, layer_at}
 use Rattle.tile_reader.specs.Format.{OneByOne, fields_of_number, last_else, last_of, IsNumber, IsText, IsValue, IsFeature, AreFeatureFields, IsLayer}
 use Rattle.tile_reader.proofs.Parts.{then_ok, then_is, number_ok, number_is, bytes_ok, bytes_is, text_ok, text_is, message_ok, message_is, by_number, each_one, first_one, one_by_one, Reads, passed, unpassed}
 use Rattle.tile_reader.proofs.ValueFormat.{read_value, value_ok, value_is}
@@ -33,7 +33,7 @@ read_text field = text_in field.at field.payload
 abbrev read_number : WireField → Result ℕ TileFault
 read_number field = number_in field.at field.payload
 
-abbrev after : Parts → List (List ℕ) → List ℕ → List (List ℕ) → List Data → List Tagged → Parts
+abbrev after : LayerFields → List (List ℕ) → List ℕ → List (List ℕ) → List Data → List Tagged → LayerFields
 after s names versions keys values features = record {
   name = last_else s.name (map Some names);
   version = last_else s.version (map Some versions);
@@ -43,7 +43,7 @@ after s names versions keys values features = record {
 }
 
 -- a walk over the fields, from one state to another
-record Walk (fields : List WireField) (s q : Parts) : Type 0 where
+record Walk (fields : List WireField) (s q : LayerFields) : Type 0 where
   names : List (List ℕ)
   features : List Tagged
   keys : List (List ℕ)
@@ -58,21 +58,21 @@ record Walk (fields : List WireField) (s q : Parts) : Type 0 where
   version_fields : Reads 15 read_number fields versions
   made : q ≡ after s names versions keys values features
 
-abbrev pub rest_of : Parts → List WireField → Result Parts TileFault
+abbrev pub rest_of : LayerFields → List WireField → Result LayerFields TileFault
 rest_of s fields = along layer_step s fields None
 
 abbrev pub at_number : WireField → ℕ → WireField
 at_number field n = record { number = n; at = field.at; end = field.end; payload = field.payload }
 
-abbrev Later : List WireField → Parts → Type 0
-Later fields q = (next : Parts) → rest_of next fields ≡ Ok q → Walk fields next q
+abbrev Later : List WireField → LayerFields → Type 0
+Later fields q = (next : LayerFields) → rest_of next fields ≡ Ok q → Walk fields next q
 
-abbrev Walked : WireField → List WireField → Parts → Parts → ℕ → Type 0
+abbrev Walked : WireField → List WireField → LayerFields → LayerFields → ℕ → Type 0
 Walked field fields s q n = (layer_step s (at_number field n) then λ next. rest_of next fields) ≡ Ok q → Walk (at_number field n ∷ fields) s q
 
-walked_name : (field : WireField) (fields : List WireField) (s q : Parts) → Later fields q → Walked field fields s q 1
+walked_name : (field : WireField) (fields : List WireField) (s q : LayerFields) → Later fields q → Walked field fields s q 1
 walked_name field fields s q later e =
-    let (next, stepped, onward) = then_ok (layer_step s (at_number field 1)) (λ (next : Parts). rest_of next fields) q e in
+    let (next, stepped, onward) = then_ok (layer_step s (at_number field 1)) (λ (next : LayerFields). rest_of next fields) q e in
     let (x, read, made) = then_ok (read_text field) (λ (x : List ℕ). Ok (record s { name = Some x })) next stepped in
     let w = later next onward in
     let is : next ≡ record s { name = Some x } = cc in
@@ -89,12 +89,12 @@ walked_name field fields s q later e =
       value_fields = w.value_fields;
       extent_fields = w.extent_fields;
       version_fields = w.version_fields;
-      made = w.made ∙ ap (λ (t : Parts). after t w.names w.versions w.keys w.values w.features) is;
+      made = w.made ∙ ap (λ (t : LayerFields). after t w.names w.versions w.keys w.values w.features) is;
     }
 
-walked_feature : (field : WireField) (fields : List WireField) (s q : Parts) → Later fields q → Walked field fields s q 2
+walked_feature : (field : WireField) (fields : List WireField) (s q : LayerFields) → Later fields q → Walked field fields s q 2
 walked_feature field fields s q later e =
-    let (next, stepped, onward) = then_ok (layer_step s (at_number field 2)) (λ (next : Parts). rest_of next fields) q e in
+    let (next, stepped, onward) = then_ok (layer_step s (at_number field 2)) (λ (next : LayerFields). rest_of next fields) q e in
     let (b, content, read_at) = then_ok (bytes_in field.at field.payload) (λ (b : List ℕ). feature_at field.at (content_start field) b then λ x. Ok (record s { features = s.features ++ x ∷ [] })) next stepped in
     let (x, read, made) = then_ok (feature_at field.at (content_start field) b) (λ (x : Tagged). Ok (record s { features = s.features ++ x ∷ [] })) next read_at in
     let w = later next onward in
@@ -112,13 +112,13 @@ walked_feature field fields s q later e =
       value_fields = w.value_fields;
       extent_fields = w.extent_fields;
       version_fields = w.version_fields;
-      made = w.made ∙ ap (λ (t : Parts). after t w.names w.versions w.keys w.values w.features) is
+      made = w.made ∙ ap (λ (t : LayerFields). after t w.names w.versions w.keys w.values w.features) is
           ∙ ap (λ (xs : List Tagged). record (after s w.names w.versions w.keys w.values w.features) { features = xs }) (append_assoc s.features (x ∷ []) w.features);
     }
 
-walked_key : (field : WireField) (fields : List WireField) (s q : Parts) → Later fields q → Walked field fields s q 3
+walked_key : (field : WireField) (fields : List WireField) (s q : LayerFields) → Later fields q → Walked field fields s q 3
 walked_key field fields s q later e =
-    let (next, stepped, onward) = then_ok (layer_step s (at_number field 3)) (λ (next : Parts). rest_of next fields) q e in
+    let (next, stepped, onward) = then_ok (layer_step s (at_number field 3)) (λ (next : LayerFields). rest_of next fields) q e in
     let (x, read, made) = then_ok (read_text field) (λ (x : List ℕ). Ok (record s { keys = s.keys ++ x ∷ [] })) next stepped in
     let w = later next onward in
     let is : next ≡ record s { keys = s.keys ++ x ∷ [] } = cc in
@@ -135,13 +135,13 @@ walked_key field fields s q later e =
       value_fields = w.value_fields;
       extent_fields = w.extent_fields;
       version_fields = w.version_fields;
-      made = w.made ∙ ap (λ (t : Parts). after t w.names w.versions w.keys w.values w.features) is
+      made = w.made ∙ ap (λ (t : LayerFields). after t w.names w.versions w.keys w.values w.features) is
           ∙ ap (λ (xs : List (List ℕ)). record (after s w.names w.versions w.keys w.values w.features) { keys = xs }) (append_assoc s.keys (x ∷ []) w.keys);
     }
 
-walked_value : (field : WireField) (fields : List WireField) (s q : Parts) → Later fields q → Walked field fields s q 4
+walked_value : (field : WireField) (fields : List WireField) (s q : LayerFields) → Later fields q → Walked field fields s q 4
 walked_value field fields s q later e =
-    let (next, stepped, onward) = then_ok (layer_step s (at_number field 4)) (λ (next : Parts). rest_of next fields) q e in
+    let (next, stepped, onward) = then_ok (layer_step s (at_number field 4)) (λ (next : LayerFields). rest_of next fields) q e in
     let (b, content, read_at) = then_ok (bytes_in field.at field.payload) (λ (b : List ℕ). value_at field.at (content_start field) b then λ x. Ok (record s { values = s.values ++ x ∷ [] })) next stepped in
     let (x, read, made) = then_ok (value_at field.at (content_start field) b) (λ (x : Data). Ok (record s { values = s.values ++ x ∷ [] })) next read_at in
     let w = later next onward in
@@ -159,13 +159,13 @@ walked_value field fields s q later e =
       value_fields = (then_is (bytes_in field.at field.payload) (λ (b : List ℕ). value_at field.at (content_start field) b) b x content read, w.value_fields);
       extent_fields = w.extent_fields;
       version_fields = w.version_fields;
-      made = w.made ∙ ap (λ (t : Parts). after t w.names w.versions w.keys w.values w.features) is
+      made = w.made ∙ ap (λ (t : LayerFields). after t w.names w.versions w.keys w.values w.features) is
           ∙ ap (λ (xs : List Data). record (after s w.names w.versions w.keys w.values w.features) { values = xs }) (append_assoc s.values (x ∷ []) w.values);
     }
 
-walked_extent : (field : WireField) (fields : List WireField) (s q : Parts) → Later fields q → Walked field fields s q 5
+walked_extent : (field : WireField) (fields : List WireField) (s q : LayerFields) → Later fields q → Walked field fields s q 5
 walked_extent field fields s q later e =
-    let (next, stepped, onward) = then_ok (layer_step s (at_number field 5)) (λ (next : Parts). rest_of next fields) q e in
+    let (next, stepped, onward) = then_ok (layer_step s (at_number field 5)) (λ (next : LayerFields). rest_of next fields) q e in
     let (n, read, made) = then_ok (read_number field) (λ (_ : ℕ). Ok s) next stepped in
     let w = later next onward in
     let is : next ≡ s = cc in
@@ -182,12 +182,12 @@ walked_extent field fields s q later e =
       value_fields = w.value_fields;
       extent_fields = (read, w.extent_fields);
       version_fields = w.version_fields;
-      made = w.made ∙ ap (λ (t : Parts). after t w.names w.versions w.keys w.values w.features) is;
+      made = w.made ∙ ap (λ (t : LayerFields). after t w.names w.versions w.keys w.values w.features) is;
     }
 
-walked_version : (field : WireField) (fields : List WireField) (s q : Parts) → Later fields q → Walked field fields s q 15
+walked_version : (field : WireField) (fields : List WireField) (s q : LayerFields) → Later fields q → Walked field fields s q 15
 walked_version field fields s q later e =
-    let (next, stepped, onward) = then_ok (layer_step s (at_number field 15)) (λ (next : Parts). rest_of next fields) q e in
+    let (next, stepped, onward) = then_ok (layer_step s (at_number field 15)) (λ (next : LayerFields). rest_of next fields) q e in
     let (n, read, made) = then_ok (read_number field) (λ (n : ℕ). Ok (record s { version = Some n })) next stepped in
     let w = later next onward in
     let is : next ≡ record s { version = Some n } = cc in
@@ -204,7 +204,7 @@ walked_version field fields s q later e =
       value_fields = w.value_fields;
       extent_fields = w.extent_fields;
       version_fields = (read, w.version_fields);
-      made = w.made ∙ ap (λ (t : Parts). after t w.names w.versions w.keys w.values w.features) is;
+      made = w.made ∙ ap (λ (t : LayerFields). after t w.names w.versions w.keys w.values w.features) is;
     }
 
 -- the number of no member
@@ -219,7 +219,7 @@ pub record Other (n : ℕ) : Type 0 where
 pub other_member : (n : ℕ) → Other n → layer_member n ≡ member.Unknown
 other_member n o = rw o.d1 (rw o.d2 (rw o.d3 (rw o.d4 (rw o.d5 (rw o.d15 refl)))))
 
-walked_other : (field : WireField) (fields : List WireField) (s q : Parts) → Later fields q → Other field.number → Walked field fields s q field.number
+walked_other : (field : WireField) (fields : List WireField) (s q : LayerFields) → Later fields q → Other field.number → Walked field fields s q field.number
 walked_other field fields s q later o e =
     let w = later s (sym (ap (λ (m : LayerMember). layer_field m s field then λ next. rest_of next fields) (other_member field.number o)) ∙ e) in
     record {
@@ -238,7 +238,7 @@ walked_other field fields s q later o e =
       made = w.made;
     }
 
-walk_ok : (fields : List WireField) (s q : Parts) → rest_of s fields ≡ Ok q → Walk fields s q
+walk_ok : (fields : List WireField) (s q : LayerFields) → rest_of s fields ≡ Ok q → Walk fields s q
 walk_ok [] s q e =
     let is : q ≡ s = cc in
     record {
@@ -269,17 +269,17 @@ walk_ok (field ∷ fields) s q e =
     walked_other field fields s q later (record { d1 = d1; d2 = d2; d3 = d3; d4 = d4; d5 = d5; d15 = d15 }))))))) e
 
 -- and from the fields to what is read
-abbrev Onward : List WireField → Parts → Type 0
-Onward fields q = (next : Parts) → Walk fields next q → rest_of next fields ≡ Ok q
+abbrev Onward : List WireField → LayerFields → Type 0
+Onward fields q = (next : LayerFields) → Walk fields next q → rest_of next fields ≡ Ok q
 
-abbrev Walks : WireField → List WireField → Parts → Parts → ℕ → Type 0
+abbrev Walks : WireField → List WireField → LayerFields → LayerFields → ℕ → Type 0
 Walks field fields s q n = Walk (at_number field n ∷ fields) s q → (layer_step s (at_number field n) then λ next. rest_of next fields) ≡ Ok q
 
-walks_name : (field : WireField) (fields : List WireField) (s q : Parts) → Onward fields q → Walks field fields s q 1
+walks_name : (field : WireField) (fields : List WireField) (s q : LayerFields) → Onward fields q → Walks field fields s q 1
 walks_name field fields s q onward w =
     let (x, others, are, read, reads) = first_one (λ (f : WireField) (x : List ℕ). read_text f ≡ Ok x) (at_number field 1) (fields_of_number 1 fields) w.names w.name_fields in
-    let next : Parts = record s { name = Some x } in
-    then_is (layer_step s (at_number field 1)) (λ (next : Parts). rest_of next fields) next q (then_is (read_text field) (λ (x : List ℕ). Ok (record s { name = Some x })) x next read refl)
+    let next : LayerFields = record s { name = Some x } in
+    then_is (layer_step s (at_number field 1)) (λ (next : LayerFields). rest_of next fields) next q (then_is (read_text field) (λ (x : List ℕ). Ok (record s { name = Some x })) x next read refl)
     (onward next (record {
       names = others;
       features = w.features;
@@ -296,12 +296,12 @@ walks_name field fields s q onward w =
       made = w.made ∙ ap (λ (xs : List (List ℕ)). after s xs w.versions w.keys w.values w.features) are;
     }))
 
-walks_feature : (field : WireField) (fields : List WireField) (s q : Parts) → Onward fields q → Walks field fields s q 2
+walks_feature : (field : WireField) (fields : List WireField) (s q : LayerFields) → Onward fields q → Walks field fields s q 2
 walks_feature field fields s q onward w =
     let (x, others, are, read, reads) = first_one (λ (f : WireField) (x : Tagged). read_tagged f ≡ Ok x) (at_number field 2) (fields_of_number 2 fields) w.features w.feature_fields in
-    let next : Parts = record s { features = s.features ++ x ∷ [] } in
+    let next : LayerFields = record s { features = s.features ++ x ∷ [] } in
     let (b, content, read_at) = then_ok (bytes_in field.at field.payload) (λ (b : List ℕ). feature_at field.at (content_start field) b) x read in
-    then_is (layer_step s (at_number field 2)) (λ (next : Parts). rest_of next fields) next q
+    then_is (layer_step s (at_number field 2)) (λ (next : LayerFields). rest_of next fields) next q
     (then_is (bytes_in field.at field.payload) (λ (b : List ℕ). feature_at field.at (content_start field) b then λ x. Ok (record s { features = s.features ++ x ∷ [] })) b next content
     (then_is (feature_at field.at (content_start field) b) (λ (x : Tagged). Ok (record s { features = s.features ++ x ∷ [] })) x next read_at refl))
     (onward next (record {
@@ -321,11 +321,11 @@ walks_feature field fields s q onward w =
           ∙ ap (λ (xs : List Tagged). record (after s w.names w.versions w.keys w.values others) { features = xs }) (sym (append_assoc s.features (x ∷ []) others));
     }))
 
-walks_key : (field : WireField) (fields : List WireField) (s q : Parts) → Onward fields q → Walks field fields s q 3
+walks_key : (field : WireField) (fields : List WireField) (s q : LayerFields) → Onward fields q → Walks field fields s q 3
 walks_key field fields s q onward w =
     let (x, others, are, read, reads) = first_one (λ (f : WireField) (x : List ℕ). read_text f ≡ Ok x) (at_number field 3) (fields_of_number 3 fields) w.keys w.key_fields in
-    let next : Parts = record s { keys = s.keys ++ x ∷ [] } in
-    then_is (layer_step s (at_number field 3)) (λ (next : Parts). rest_of next fields) next q (then_is (read_text field) (λ (x : List ℕ). Ok (record s { keys = s.keys ++ x ∷ [] })) x next read refl)
+    let next : LayerFields = record s { keys = s.keys ++ x ∷ [] } in
+    then_is (layer_step s (at_number field 3)) (λ (next : LayerFields). rest_of next fields) next q (then_is (read_text field) (λ (x : List ℕ). Ok (record s { keys = s.keys ++ x ∷ [] })) x next read refl)
     (onward next (record {
       names = w.names;
       features = w.features;
@@ -343,12 +343,12 @@ walks_key field fields s q onward w =
           ∙ ap (λ (xs : List (List ℕ)). record (after s w.names w.versions others w.values w.features) { keys = xs }) (sym (append_assoc s.keys (x ∷ []) others));
     }))
 
-walks_value : (field : WireField) (fields : List WireField) (s q : Parts) → Onward fields q → Walks field fields s q 4
+walks_value : (field : WireField) (fields : List WireField) (s q : LayerFields) → Onward fields q → Walks field fields s q 4
 walks_value field fields s q onward w =
     let (x, others, are, read, reads) = first_one (λ (f : WireField) (x : Data). read_value f ≡ Ok x) (at_number field 4) (fields_of_number 4 fields) w.values w.value_fields in
-    let next : Parts = record s { values = s.values ++ x ∷ [] } in
+    let next : LayerFields = record s { values = s.values ++ x ∷ [] } in
     let (b, content, read_at) = then_ok (bytes_in field.at field.payload) (λ (b : List ℕ). value_at field.at (content_start field) b) x read in
-    then_is (layer_step s (at_number field 4)) (λ (next : Parts). rest_of next fields) next q
+    then_is (layer_step s (at_number field 4)) (λ (next : LayerFields). rest_of next fields) next q
     (then_is (bytes_in field.at field.payload) (λ (b : List ℕ). value_at field.at (content_start field) b then λ x. Ok (record s { values = s.values ++ x ∷ [] })) b next content
     (then_is (value_at field.at (content_start field) b) (λ (x : Data). Ok (record s { values = s.values ++ x ∷ [] })) x next read_at refl))
     (onward next (record {
@@ -368,10 +368,10 @@ walks_value field fields s q onward w =
           ∙ ap (λ (xs : List Data). record (after s w.names w.versions w.keys others w.features) { values = xs }) (sym (append_assoc s.values (x ∷ []) others));
     }))
 
-walks_extent : (field : WireField) (fields : List WireField) (s q : Parts) → Onward fields q → Walks field fields s q 5
+walks_extent : (field : WireField) (fields : List WireField) (s q : LayerFields) → Onward fields q → Walks field fields s q 5
 walks_extent field fields s q onward w =
     let (n, others, are, read, reads) = first_one (λ (f : WireField) (n : ℕ). read_number f ≡ Ok n) (at_number field 5) (fields_of_number 5 fields) w.extents w.extent_fields in
-    then_is (layer_step s (at_number field 5)) (λ (next : Parts). rest_of next fields) s q (then_is (read_number field) (λ (_ : ℕ). Ok s) n s read refl)
+    then_is (layer_step s (at_number field 5)) (λ (next : LayerFields). rest_of next fields) s q (then_is (read_number field) (λ (_ : ℕ). Ok s) n s read refl)
     (onward s (record {
       names = w.names;
       features = w.features;
@@ -388,11 +388,11 @@ walks_extent field fields s q onward w =
       made = w.made;
     }))
 
-walks_version : (field : WireField) (fields : List WireField) (s q : Parts) → Onward fields q → Walks field fields s q 15
+walks_version : (field : WireField) (fields : List WireField) (s q : LayerFields) → Onward fields q → Walks field fields s q 15
 walks_version field fields s q onward w =
     let (n, others, are, read, reads) = first_one (λ (f : WireField) (n : ℕ). read_number f ≡ Ok n) (at_number field 15) (fields_of_number 15 fields) w.versions w.version_fields in
-    let next : Parts = record s { version = Some n } in
-    then_is (layer_step s (at_number field 15)) (λ (next : Parts). rest_of next fields) next q (then_is (read_number field) (λ (n : ℕ). Ok (record s { version = Some n })) n next read refl)
+    let next : LayerFields = record s { version = Some n } in
+    then_is (layer_step s (at_number field 15)) (λ (next : LayerFields). rest_of next fields) next q (then_is (read_number field) (λ (n : ℕ). Ok (record s { version = Some n })) n next read refl)
     (onward next (record {
       names = w.names;
       features = w.features;
@@ -409,7 +409,7 @@ walks_version field fields s q onward w =
       made = w.made ∙ ap (λ (ns : List ℕ). after s w.names ns w.keys w.values w.features) are;
     }))
 
-walks_other : (field : WireField) (fields : List WireField) (s q : Parts) → Onward fields q → Other field.number → Walks field fields s q field.number
+walks_other : (field : WireField) (fields : List WireField) (s q : LayerFields) → Onward fields q → Other field.number → Walks field fields s q field.number
 walks_other field fields s q onward o w =
     ap (λ (m : LayerMember). layer_field m s field then λ next. rest_of next fields) (other_member field.number o)
     ∙ onward s (record {
@@ -432,7 +432,7 @@ nothing_read : {A : Type 0} (number : ℕ) (read : WireField → Result A TileFa
 nothing_read number read [] reads = refl
 nothing_read number read (x ∷ things) reads = absurd reads
 
-walk_is : (fields : List WireField) (s q : Parts) → Walk fields s q → rest_of s fields ≡ Ok q
+walk_is : (fields : List WireField) (s q : LayerFields) → Walk fields s q → rest_of s fields ≡ Ok q
 walk_is [] s q w =
     let names = nothing_read 1 read_text w.names w.name_fields in
     let features = nothing_read 2 read_tagged w.features w.feature_fields in
@@ -520,11 +520,11 @@ layer_ok earlier field layer e =
     let whole : ◌≡◌ {A = TileLayer} (record { name = name; features = features }) layer = cc in
     let name_is : name ≡ layer.name = ap (λ (l : TileLayer). l.name) whole in
     let features_are : same ≡ layer.features = sym is ∙ ap (λ (l : TileLayer). l.features) whole in
-    let keys_are : parts.keys ≡ w.keys = ap (λ (p : Parts). p.keys) w.made in
-    let values_are : parts.values ≡ w.values = ap (λ (p : Parts). p.values) w.made in
-    let tagged_are : parts.features ≡ w.features = ap (λ (p : Parts). p.features) w.made in
+    let keys_are : parts.keys ≡ w.keys = ap (λ (p : LayerFields). p.keys) w.made in
+    let values_are : parts.values ≡ w.values = ap (λ (p : LayerFields). p.values) w.made in
+    let tagged_are : parts.features ≡ w.features = ap (λ (p : LayerFields). p.features) w.made in
     let made_ones : OneByOne (IsOf w.keys w.values) w.features layer.features =
-    subst (λ (p : Parts). OneByOne (IsOf p.keys p.values) p.features layer.features) w.made (subst (λ (fs : List Feature). OneByOne (IsOf parts.keys parts.values) parts.features fs) features_are ones) in (
+    subst (λ (p : LayerFields). OneByOne (IsOf p.keys p.values) p.features layer.features) w.made (subst (λ (fs : List Feature). OneByOne (IsOf parts.keys parts.values) parts.features fs) features_are ones) in (
       (
         fields,
         (content, bytes_ok at field.payload content held, are),
@@ -532,7 +532,7 @@ layer_ok earlier field layer e =
           names = (
             w.names,
             each_one (λ (f : WireField) (x : List ℕ). read_text f ≡ Ok x) IsText (λ f x. text_ok f.at f.payload x) (fields_of_number 1 fields) w.names w.name_fields,
-            sym (ap (λ (p : Parts). p.name) w.made) ∙ name_ok at parts.name name named ∙ ap Some name_is,
+            sym (ap (λ (p : LayerFields). p.name) w.made) ∙ name_ok at parts.name name named ∙ ap Some name_is,
           );
           features = (
             w.keys,
@@ -545,7 +545,7 @@ layer_ok earlier field layer e =
           versions = (
             w.versions,
             each_one (λ (f : WireField) (n : ℕ). read_number f ≡ Ok n) IsNumber (λ f n. number_ok f.at f.payload n) (fields_of_number 15 fields) w.versions w.version_fields,
-            subst IsVersion (ap (λ (p : Parts). p.version) w.made) (version_ok at parts.version v versioned),
+            subst IsVersion (ap (λ (p : LayerFields). p.version) w.made) (version_ok at parts.version v versioned),
           );
         },
       ),
@@ -560,7 +560,7 @@ layer_is earlier field layer (fields, (content, held, are), have) new =
     let (extents, extent_fields) = have.extents in
     let (versions, version_fields, version_last) = have.versions in
     let (tagged, reads, made) = features_split keys values (fields_of_number 2 fields) layer.features feature_fields in
-    let parts : Parts = record { name = last_of names; version = last_of versions; keys = keys; values = values; features = tagged } in
+    let parts : LayerFields = record { name = last_of names; version = last_of versions; keys = keys; values = values; features = tagged } in
     let w : Walk fields no_parts parts = record {
       names = names;
       features = tagged;
@@ -587,7 +587,7 @@ layer_is earlier field layer (fields, (content, held, are), have) new =
     ∙ ap (λ (r : Result (List Feature) TileFault). r then λ fs. Ok (record { name = layer.name; features = fs })) (features_is keys values tagged [] layer.features made)))
 
 -- for the faults: what is before one
-pub so_far_ok : (fields : List WireField) (parts : Parts) → rest_of no_parts fields ≡ Ok parts → (layer : LayerSoFar) × AreLayerSoFar fields layer × (parts ≡ record { name = last_of layer.names; version = last_of layer.versions; keys = layer.keys; values = layer.values; features = layer.features })
+pub so_far_ok : (fields : List WireField) (parts : LayerFields) → rest_of no_parts fields ≡ Ok parts → (layer : LayerSoFar) × AreLayerSoFar fields layer × (parts ≡ record { name = last_of layer.names; version = last_of layer.versions; keys = layer.keys; values = layer.values; features = layer.features })
 so_far_ok fields parts walked =
     let w = walk_ok fields no_parts parts walked in (
       record { names = w.names; features = w.features; keys = w.keys; values = w.values; extents = w.extents; versions = w.versions },

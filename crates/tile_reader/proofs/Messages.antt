@@ -6,7 +6,7 @@ use Rattle.proto_wire.specs.declared.field.Field.{Field}
 use Rattle.proto_wire.specs.declared.field.WireFault.{WireFault}
 use Rattle.proto_wire.specs.Message.{WireField, field_at}
 use Rattle.proto_wire.specs.View.{field_seen}
-use Rattle.proto_wire.specs.Reading.{Reading, NextGives}
+use Rattle.proto_wire.specs.Reading.{ReaderState, NextGives}
 use Rattle.proto_wire.proofs.MessageLaws.{field_takes}
 use Rattle.proto_wire.proofs.Walks.{over_at_end}
 use Rattle.tile_reader.specs.declared.fault.TileFault.{TileFault}
@@ -52,13 +52,13 @@ pub message_fault : (at : ℕ) (b : List ℕ) (kind : WireKind) → 0 < length b
 message_fault at b kind some e = message_front at b some ∙ ap (λ (read : Result (WireField × List ℕ) WireKind). from_front at read (λ f r. message f.end r)) e
 
 -- what `next` gives is the front of what was left
-pub front_end : (old new : Reading) → old.failed ≡ false → NextGives old None new → left_of old ≡ no_fields
+pub front_end : (old new : ReaderState) → old.failed ≡ false → NextGives old None new → left_of old ≡ no_fields
 front_end old new going gives = message_end old.at old.bytes (over_at_end old going gives.1)
 
-pub front_field : (old new : Reading) (field : Field) → NextGives old (Some (Ok field)) new → left_of old ≡ field_before (field_seen field new.at) (left_of new)
+pub front_field : (old new : ReaderState) (field : Field) → NextGives old (Some (Ok field)) new → left_of old ≡ field_before (field_seen field new.at) (left_of new)
 front_field old new field gives = message_field old.at old.bytes (field_seen field new.at) new.bytes gives.1
 
-pub front_fault : (old new : Reading) (fault : WireFault) → NextGives old (Some (Err fault)) new → left_of old ≡ broken_off fault
+pub front_fault : (old new : ReaderState) (fault : WireFault) → NextGives old (Some (Err fault)) new → left_of old ≡ broken_off fault
 front_fault old new fault gives =
     message_fault old.at old.bytes fault.kind gives.1 gives.2 ∙ ap (λ (n : ℕ). broken_off (record { kind = fault.kind; at = n })) (sym gives.3)
 

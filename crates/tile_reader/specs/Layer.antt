@@ -16,7 +16,7 @@ use Rattle.tile_reader.specs.Feature.{Tagged, feature_at}
 use Rattle.tile_reader.specs.Properties.{features_of}
 
 -- what the fields of a layer hold
-pub record Parts : Type 0 where
+pub record LayerFields : Type 0 where
   pub name : Option (List ℕ)
   pub version : Option ℕ
   pub keys : List (List ℕ)
@@ -35,7 +35,7 @@ layer_member number =
     else Unknown
 
 -- what a field adds to a layer; of a name and of a version the last holds, and the extent is not kept
-abbrev pub layer_field : LayerMember → Parts → WireField → Result Parts TileFault
+abbrev pub layer_field : LayerMember → LayerFields → WireField → Result LayerFields TileFault
 layer_field Name parts field = text_in field.at field.payload then λ s. Ok (record parts { name = Some s })
 layer_field Feature parts field = bytes_in field.at field.payload then λ b. feature_at field.at (content_start field) b then λ feature. Ok (record parts { features = parts.features ++ feature ∷ [] })
 layer_field Key parts field = text_in field.at field.payload then λ s. Ok (record parts { keys = parts.keys ++ s ∷ [] })
@@ -45,11 +45,11 @@ layer_field Version parts field = number_in field.at field.payload then λ n. Ok
 layer_field Unknown parts field = Ok parts
 
 -- the same by the field's number
-abbrev pub layer_step : Parts → WireField → Result Parts TileFault
+abbrev pub layer_step : LayerFields → WireField → Result LayerFields TileFault
 layer_step parts field = layer_field (layer_member field.number) parts field
 
 -- a layer before its first field
-abbrev pub no_parts : Parts
+abbrev pub no_parts : LayerFields
 no_parts = record { name = None; version = None; keys = []; values = []; features = [] }
 
 -- a layer has a name
@@ -67,7 +67,7 @@ abbrev pub new_name : ℕ → List (List ℕ) → List ℕ → Result (List ℕ)
 new_name at earlier name = if list_any (bytes_eq name) earlier then refused kind.RepeatedName at else Ok name
 
 -- the layer of these parts, at its end: first what the layer lacks, then its features
-abbrev pub layer_end : ℕ → List (List ℕ) → Parts → Result TileLayer TileFault
+abbrev pub layer_end : ℕ → List (List ℕ) → LayerFields → Result TileLayer TileFault
 layer_end at earlier parts =
     name_of at parts.name then λ name. version_of at parts.version then λ _. new_name at earlier name then λ _.
     features_of parts.keys parts.values [] parts.features then λ features. Ok (record { name = name; features = features })

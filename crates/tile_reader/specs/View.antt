@@ -1,7 +1,7 @@
 -- What the definitions see of the values that the reader makes.
 use Rattle.std.specs.Prelude.{◌≡◌, ℕ, ◌+◌, pos, List, [], ◌∷◌, length, take, drop, map, Option, Some, None, option_map, Result, Ok, Err}
 use Rattle.std.specs.Borrow.{Bor}
-use Rattle.proto_wire.specs.Reading.{Reading}
+use Rattle.proto_wire.specs.Reading.{ReaderState}
 use Rattle.proto_wire.specs.View.{field_seen}
 use Rattle.proto_wire.specs.declared.field.Field.{Field}
 use Rattle.proto_wire.specs.declared.field.WireFault.{WireFault}
@@ -18,12 +18,12 @@ use Rattle.tile_reader.specs.Message.{Message, message, no_fields, broken_off, f
 use Rattle.tile_reader.specs.Read.{broken}
 use Rattle.tile_reader.specs.Value.{whole}
 use Rattle.tile_reader.specs.Feature.{Tagged}
-use Rattle.tile_reader.specs.Layer.{Parts}
+use Rattle.tile_reader.specs.Layer.{LayerFields}
 
 -- what a reader returned, as the definitions see it, is what is read there
-abbrev pub Gives : {X Y : Type 0} → (X → Y) → Result X TileFault → Result Y TileFault → Type 0
-Gives seen (Ok x) read = read ≡ Ok (seen x)
-Gives seen (Err fault) read = read ≡ Err fault
+abbrev pub GivesRead : {X Y : Type 0} → (X → Y) → Result X TileFault → Result Y TileFault → Type 0
+GivesRead seen (Ok x) read = read ≡ Ok (seen x)
+GivesRead seen (Err fault) read = read ≡ Err fault
 
 -- the same of a reader that may fail to allocate
 abbrev pub GivesOrLacks : {X Y : Type 0} → (X → Y) → Result X (Halt TileFault) → Result Y TileFault → Type 0
@@ -38,11 +38,11 @@ Leaves new (Err (Fault fault)) read = read ≡ Err fault
 Leaves new (Err NoMemory) read = Unit {0}
 
 -- the message that a reader of fields has left
-abbrev pub left_of : Reading → Message
+abbrev pub left_of : ReaderState → Message
 left_of reading = message reading.at reading.bytes
 
 -- a field, an end or a fault is the front of what a reader had left
-abbrev pub TakesFront : Reading → Result (Option Field) TileFault → Reading → Type 0
+abbrev pub TakesFront : ReaderState → Result (Option Field) TileFault → ReaderState → Type 0
 TakesFront old (Ok None) new = left_of old ≡ no_fields
 TakesFront old (Ok (Some field)) new = left_of old ≡ field_before (field_seen field new.at) (left_of new)
 TakesFront old (Err fault) new = (wire : WireFault) × (left_of old ≡ broken_off wire) × (fault ≡ broken wire)
@@ -77,7 +77,7 @@ abbrev pub texts_seen : List (Bor (List ℕ)) → List (List ℕ)
 texts_seen = map (λ (s : Bor (List ℕ)). s.now)
 
 -- what was read of a layer
-abbrev pub parts_seen : LayerParts → Parts
+abbrev pub parts_seen : LayerParts → LayerFields
 parts_seen parts = record {
   name = option_map (λ (s : Bor (List ℕ)). s.now) parts.name;
   version = parts.version;

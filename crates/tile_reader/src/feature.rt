@@ -2,7 +2,7 @@ ghost use Rattle.std.specs.Prelude.{◌≡◌, ℕ, ◌+◌, ◌++◌, ◌^◌, 
 ghost use Rattle.proto_wire.specs.View.{field_seen, payload_seen};
 ghost use Rattle.tile_reader.specs.Read.{◌then◌};
 ghost use Rattle.tile_reader.specs.Feature.{feature_member, feature_step, feature_at, packed, placed, tags_in, geometry_in, shape_of};
-ghost use Rattle.tile_reader.specs.View.{Gives, GivesOrLacks, Leaves, tagged_seen};
+ghost use Rattle.tile_reader.specs.View.{GivesRead, GivesOrLacks, Leaves, tagged_seen};
 
 use crate::fault::{TileFault, TileKind};
 use crate::tile::Shape;
@@ -141,7 +141,7 @@ fn add_packed(tags: &mut Vec<u64>, at: usize, content: &[u8]) -> Result<(), Halt
 
 // Geometry is packed or single, and is not read.
 fn geometry_in(at: usize, wire: Wire<'_>) -> Result<(), TileFault>
-    ensures { Gives (λ _. tt) result (geometry_in at (payload_seen wire.entry)) }
+    ensures { GivesRead (λ _. tt) result (geometry_in at (payload_seen wire.entry)) }
 {
     match wire {
         Wire::Varint(_) | Wire::Bytes(_) => Ok(()),

@@ -27,7 +27,7 @@ struct TagTable<'a> {
 /// The pairs of indices that a feature's properties are, and for each key of the layer the place of its pair.
 /// A place counts only where a pair of that key is there, so nothing is cleared between features.
 #[derive(Drop)]
-struct Choice {
+struct ChosenPairs {
     pairs: Vec<(usize, usize)>,
     places: Vec<usize>,
 }
@@ -89,7 +89,7 @@ fn features_with(
     ensures { GivesOrLacks (λ all. all) result (features_of table.now.keys.now (map data_of table.now.values.now) [] (tagged_all tagged.now tags.now)) }
 {
     let mut features = Features::with_capacity(alloc, tagged.len())?;
-    let mut choice = Choice {
+    let mut choice = ChosenPairs {
         pairs: Vec::new(alloc),
         places: vec![in alloc; 0; table.keys.len()]?,
     };
@@ -139,7 +139,7 @@ fn with_properties(
     table: &TagTable<'_>,
     tagged: &TaggedFeature,
     tags: &[u64],
-    choice: &mut Choice,
+    choice: &mut ChosenPairs,
 ) -> Result<Feature, Halt<TileFault>>
     requires firsts { AreFirsts table.now.firsts.now table.now.keys.now }
     requires places { length choice.old.places.items ≡ length table.now.keys.now }
@@ -173,7 +173,7 @@ fn choose(
     values: &[Value],
     firsts: &[usize],
     tags: &[u64],
-    choice: &mut Choice,
+    choice: &mut ChosenPairs,
 ) -> Result<bool, AllocError>
     requires firsts { AreFirsts firsts.now keys.now }
     requires places { length choice.old.places.items ≡ length keys.now }

@@ -5,7 +5,7 @@ ghost use Rattle.tile_reader.specs.Read.{◌then◌, read_fields};
 ghost use Rattle.tile_reader.specs.Layer.{name_of, version_of, new_name, layer_end};
 ghost use Rattle.tile_reader.specs.Names.{names};
 ghost use Rattle.tile_reader.specs.Tile.{tile_step, tile_of, is_compressed};
-ghost use Rattle.tile_reader.specs.View.{Gives, GivesOrLacks, Leaves, HasAllTags, parts_seen};
+ghost use Rattle.tile_reader.specs.View.{GivesRead, GivesOrLacks, Leaves, HasAllTags, parts_seen};
 
 use crate::fault::{TileFault, TileKind};
 use crate::layer::{LayerParts, read_parts};
@@ -113,7 +113,7 @@ fn add_layer(
 }
 
 fn name_of(at: usize, name: Option<&str>) -> Result<&str, TileFault>
-    ensures { Gives (λ s. s.now) result (name_of at (option_map (λ s. s.now) name.entry)) }
+    ensures { GivesRead (λ s. s.now) result (name_of at (option_map (λ s. s.now) name.entry)) }
 {
     match name {
         Some(name) => Ok(name),
@@ -143,7 +143,7 @@ fn version_of(at: usize, version: Option<u64>) -> Result<u64, TileFault>
 
 // The name, where no layer of the tile has it.
 fn new_name<'a>(at: usize, tile: &Tile, name: &'a str) -> Result<&'a str, TileFault>
-    ensures { Gives (λ s. s.now) result (new_name at (names tile.now) name.now) }
+    ensures { GivesRead (λ s. s.now) result (new_name at (names tile.now) name.now) }
 {
     if tile.named(name).is_some() {
         return Err(TileFault {

@@ -1,7 +1,7 @@
 ghost use Rattle.std.specs.Prelude.{◌≡◌, ℕ, ◌+◌, ◌^◌, ◌<◌, length, option_map};
 ghost use Rattle.proto_wire.specs.View.{field_seen};
 ghost use Rattle.tile_reader.specs.Value.{value_member, value_field, value_step, value_at, first_field, from_int, from_zigzag};
-ghost use Rattle.tile_reader.specs.View.{Gives, value_seen};
+ghost use Rattle.tile_reader.specs.View.{GivesRead, value_seen};
 
 use crate::fault::{TileFault, TileKind};
 use crate::wire_parts::{bits32_in, bits64_in, bytes_in, next_field, number_in, text_of};
@@ -32,7 +32,7 @@ enum ValueMember {
 /// The value whose tag is at `at` and whose content begins at `start`.
 pub(crate) fn read_value(content: &[u8], start: usize, at: usize) -> Result<Held<'_>, TileFault>
     requires { start + length content.now < 2 ^ 64 }
-    ensures { Gives value_seen result (value_at at start content.now) }
+    ensures { GivesRead value_seen result (value_at at start content.now) }
 {
     let mut held = None;
     let mut fields = Fields::new(content, start);
@@ -50,7 +50,7 @@ pub(crate) fn read_value(content: &[u8], start: usize, at: usize) -> Result<Held
 
 // The value so far, with what a field adds to it.
 fn add_field<'a>(held: Option<Held<'a>>, field: Field<'a>) -> Result<Option<Held<'a>>, TileFault>
-    ensures { (end : ℕ) → Gives (option_map value_seen) result (value_step (option_map value_seen held.entry) (field_seen field.entry end)) }
+    ensures { (end : ℕ) → GivesRead (option_map value_seen) result (value_step (option_map value_seen held.entry) (field_seen field.entry end)) }
 {
     let Field { number, at, wire } = field;
     match value_member(number) {
@@ -109,7 +109,7 @@ fn value_member(number: u32) -> ValueMember
 
 // The value had no field before.
 fn first_field(at: usize, held: Option<Held<'_>>) -> Result<(), TileFault>
-    ensures { Gives (λ _. tt) result (first_field at (option_map value_seen held.entry)) }
+    ensures { GivesRead (λ _. tt) result (first_field at (option_map value_seen held.entry)) }
 {
     match held {
         None => Ok(()),

@@ -1,7 +1,7 @@
 ghost use Rattle.std.specs.Prelude.{◌≡◌, false, OnOk, IfOk, IfSome, ◌+◌, ◌<◌, ◌^◌, length};
 ghost use Rattle.proto_wire.specs.View.{payload_seen, content_length};
 ghost use Rattle.tile_reader.specs.Read.{number_in, bytes_in, bits64_in, bits32_in, text_of, text_in};
-ghost use Rattle.tile_reader.specs.View.{Gives, TakesFront};
+ghost use Rattle.tile_reader.specs.View.{GivesRead, TakesFront};
 
 use crate::fault::{TileFault, TileKind};
 use proto_wire::{Field, Fields, Wire};
@@ -34,7 +34,7 @@ pub(crate) fn wrong_type(at: usize) -> TileFault
 
 /// The number of a field of wire type 0.
 pub(crate) fn number_in(at: usize, wire: Wire<'_>) -> Result<u64, TileFault>
-    ensures { Gives (λ n. n) result (number_in at (payload_seen wire.entry)) }
+    ensures { GivesRead (λ n. n) result (number_in at (payload_seen wire.entry)) }
 {
     match wire {
         Wire::Varint(number) => Ok(number),
@@ -44,7 +44,7 @@ pub(crate) fn number_in(at: usize, wire: Wire<'_>) -> Result<u64, TileFault>
 
 /// The content of a field of wire type 2.
 pub(crate) fn bytes_in(at: usize, wire: Wire<'_>) -> Result<&[u8], TileFault>
-    ensures content { Gives (λ b. b.now) result (bytes_in at (payload_seen wire.entry)) }
+    ensures content { GivesRead (λ b. b.now) result (bytes_in at (payload_seen wire.entry)) }
     ensures length { IfOk result (λ b. length b.now ≡ content_length wire.entry) }
 {
     match wire {
@@ -55,7 +55,7 @@ pub(crate) fn bytes_in(at: usize, wire: Wire<'_>) -> Result<&[u8], TileFault>
 
 /// The bits of a field of wire type 1.
 pub(crate) fn bits64_in(at: usize, wire: Wire<'_>) -> Result<u64, TileFault>
-    ensures { Gives (λ n. n) result (bits64_in at (payload_seen wire.entry)) }
+    ensures { GivesRead (λ n. n) result (bits64_in at (payload_seen wire.entry)) }
 {
     match wire {
         Wire::Bits64(bits) => Ok(bits),
@@ -65,7 +65,7 @@ pub(crate) fn bits64_in(at: usize, wire: Wire<'_>) -> Result<u64, TileFault>
 
 /// The bits of a field of wire type 5.
 pub(crate) fn bits32_in(at: usize, wire: Wire<'_>) -> Result<u32, TileFault>
-    ensures { Gives (λ n. n) result (bits32_in at (payload_seen wire.entry)) }
+    ensures { GivesRead (λ n. n) result (bits32_in at (payload_seen wire.entry)) }
 {
     match wire {
         Wire::Bits32(bits) => Ok(bits),
@@ -75,7 +75,7 @@ pub(crate) fn bits32_in(at: usize, wire: Wire<'_>) -> Result<u32, TileFault>
 
 /// The text that these bytes are.
 pub(crate) fn text_of(at: usize, bytes: &[u8]) -> Result<&str, TileFault>
-    ensures { Gives (λ s. s.now) result (text_of at bytes.now) }
+    ensures { GivesRead (λ s. s.now) result (text_of at bytes.now) }
 {
     match str::from_utf8(bytes) {
         Ok(text) => Ok(text),
@@ -88,7 +88,7 @@ pub(crate) fn text_of(at: usize, bytes: &[u8]) -> Result<&str, TileFault>
 
 /// The text of a field of wire type 2.
 pub(crate) fn text_in(at: usize, wire: Wire<'_>) -> Result<&str, TileFault>
-    ensures { Gives (λ s. s.now) result (text_in at (payload_seen wire.entry)) }
+    ensures { GivesRead (λ s. s.now) result (text_in at (payload_seen wire.entry)) }
 {
     let bytes = bytes_in(at, wire)?;
     text_of(at, bytes)

@@ -21,7 +21,7 @@ use Rattle.expr_types.specs.ArgumentPaths.{argument_path}
 use Rattle.expr_types.specs.Fits.{wanted_kind}
 use Rattle.expr_types.specs.OwnTable.{own}
 use Rattle.expr_types.specs.Sequences.{sequence_fit}
-use Rattle.expr_types.specs.Typing.{Found, Typed, Scope, Typing, handed, with_below, with_misfit, is_place, is_sequence_of, looked_at as typed_look, argument_typed, and_found, founds_of, kinds_in, may_after, all_may, then_found}
+use Rattle.expr_types.specs.Typing.{TypedNodes, Typed, KindScope, Typing, handed, with_below, with_misfit, is_place, is_sequence_of, looked_at as typed_look, argument_typed, and_found, founds_of, kinds_in, may_after, all_may, then_found}
 use Rattle.expr_types.specs.declared.fault.TypeFault.{TypeFault}
 use Rattle.expr_types.specs.declared.fits.Fit.{Fit}
 use Rattle.expr_types.specs.declared.fits.Fit.TheVariants.{Always, Maybe, Never}
@@ -29,7 +29,7 @@ use Rattle.expr_types.specs.declared.placed.Placed.{Placed}
 use Rattle.expr_types.specs.declared.placed.Kinded.{Kinded}
 use Rattle.operator_values.specs.Evaluated.{Evaluated, then_value}
 use Rattle.eval_face.specs.Meanings.{Meaning, as_sequence, is_sequence, looked_at, argument_of}
-use Rattle.eval_face.specs.Names.{Names}
+use Rattle.eval_face.specs.Names.{BoundOutcomes}
 use Rattle.eval_face.specs.World.{World}
 use Rattle.typing_laws.specs.OfKind.{is_of}
 use Rattle.typing_laws.proofs.Sets.{Within, within_left, within_right}
@@ -43,14 +43,14 @@ FrameOf S [] [] = Unit {0}
 FrameOf S (a ∷ as_) (b ∷ bs) = (a.0 ≡ b.0) × OutcomeOf S wants.Any a.1 b.1 × FrameOf S as_ bs
 FrameOf S _ _ = ⊥
 
-abbrev pub NamesOf : FaultSet → Scope → Names → Type 0
+abbrev pub NamesOf : FaultSet → KindScope → BoundOutcomes → Type 0
 NamesOf S [] [] = Unit {0}
 NamesOf S (as_ ∷ scope) (bs ∷ names) = FrameOf S as_ bs × NamesOf S scope names
 NamesOf S _ _ = ⊥
 
 abbrev pub Agree : FaultSet → Typing → Meaning → Type 0
 Agree S t m =
-    (asked : Bool) (w : Want) (scope : Scope) (path : List PathPart) (names : Names) (world : World) →
+    (asked : Bool) (w : Want) (scope : KindScope) (path : List PathPart) (names : BoundOutcomes) (world : World) →
     NamesOf S scope names →
     ResultOf S w (t asked w scope path) (m w names world)
 
@@ -65,7 +65,7 @@ LiteralIn None w o = Unit {0}
 LiteralIn (Some d) w o = o ≡ fit w d
 
 abbrev pub LiteralMeans : Option Data → Meaning → Type 0
-LiteralMeans l m = (w : Want) (names : Names) (world : World) → LiteralIn l w (m w names world)
+LiteralMeans l m = (w : Want) (names : BoundOutcomes) (world : World) → LiteralIn l w (m w names world)
 
 abbrev pub LiteralsOf : List (Option Data) → List Meaning → Type 0
 LiteralsOf [] [] = Unit {0}
@@ -100,7 +100,7 @@ LookedIn S w asked l (Ok found) o = Within S found.node.may → ArgumentOf S w a
 LookedIn S w asked l (Err e) o = Unit {0}
 
 -- all arguments from place k on, by their kinds and literals
-abbrev pub AreGiven : FaultSet → Operator → ℕ → ℕ → Want → Names → World → List (Option Data) → List Kind →
+abbrev pub AreGiven : FaultSet → Operator → ℕ → ℕ → Want → BoundOutcomes → World → List (Option Data) → List Kind →
     List Meaning → Type 0
 AreGiven S op m k w names world [] [] [] = Unit {0}
 AreGiven S op m k w names world (l ∷ ls) (j ∷ js) (me ∷ ms) =
@@ -116,12 +116,12 @@ AllOf op m k w (l ∷ ls) (j ∷ js) (d ∷ ds) = IsGiven (want_of (wanted_by op
     × AllOf op m (k + 1) w ls js ds
 AllOf op m k w _ _ _ = ⊥
 
-abbrev pub WithinAll : FaultSet → List Found → Type 0
+abbrev pub WithinAll : FaultSet → List TypedNodes → Type 0
 WithinAll S [] = Unit {0}
 WithinAll S (found ∷ founds) = Within S found.node.may × WithinAll S founds
 
-abbrev pub FoundsIn : FaultSet → Operator → ℕ → ℕ → Want → Names → World → List (Option Data) → List Meaning →
-    Result (List Found) TypeFault → Type 0
+abbrev pub FoundsIn : FaultSet → Operator → ℕ → ℕ → Want → BoundOutcomes → World → List (Option Data) → List Meaning →
+    Result (List TypedNodes) TypeFault → Type 0
 FoundsIn S op m k w names world ls ms (Ok founds) = WithinAll S founds → AreGiven S op m k w names world ls
     (kinds_in founds) ms
 FoundsIn S op m k w names world ls ms (Err e) = Unit {0}
@@ -203,7 +203,7 @@ module _ (S : FaultSet) where
 
   argument_by : (x y : Want) → x ≡ y → (a b : Bool) → a ≡ b → (l : Option Data) (t : Typing) (me : Meaning) →
       Agree S t me → LiteralMeans l me →
-      (scope : Scope) (path : List PathPart) (names : Names) (world : World) → NamesOf S scope names →
+      (scope : KindScope) (path : List PathPart) (names : BoundOutcomes) (world : World) → NamesOf S scope names →
       LookedIn S y a l (typed_look a (t a x scope path) path) (looked_at b (me y names world))
   argument_by x y e a b q l t me h g scope path names world n =
       subst (λ c. LookedIn S y a l (typed_look a (t a x scope path) path) (looked_at c (me y names world))) q
@@ -212,7 +212,7 @@ module _ (S : FaultSet) where
       (g x names world)))
 
   pub argument_ok : (op : Operator) (m k : ℕ) (l : Option Data) (t : Typing) (me : Meaning) → Agree S t me →
-      LiteralMeans l me → (w : Want) (scope : Scope) (path : List PathPart) (names : Names) (world : World) →
+      LiteralMeans l me → (w : Want) (scope : KindScope) (path : List PathPart) (names : BoundOutcomes) (world : World) →
       NamesOf S scope names → LookedIn S (want_of (wanted_by op m k) (handed op w)) (is_sequence_of op k) l
       (argument_typed op m k t w scope path) (argument_of op m k me (handed op w) names world)
   argument_ok op m k l t me h g w scope path names world n =
@@ -222,9 +222,9 @@ module _ (S : FaultSet) where
       (same_place (row (operator_name op)).sequence k)
       l t me h g scope (argument_path op m k path) names world n
 
-  found_step : (op : Operator) (m k : ℕ) (w : Want) (names : Names) (world : World) (l : Option Data)
+  found_step : (op : Operator) (m k : ℕ) (w : Want) (names : BoundOutcomes) (world : World) (l : Option Data)
       (ls : List (Option Data)) (me : Meaning) (ms : List Meaning) (r : Typed)
-      (rs : Result (List Found) TypeFault) → LookedIn S (want_of (wanted_by op m k) w) (is_sequence_of op k) l
+      (rs : Result (List TypedNodes) TypeFault) → LookedIn S (want_of (wanted_by op m k) w) (is_sequence_of op k) l
       r (argument_of op m k me w names world) → FoundsIn S op m (k + 1) w names world ls ms rs →
       FoundsIn S op m k w names world (l ∷ ls) (me ∷ ms) (and_found r rs)
   found_step op m k w names world l ls me ms (Ok found) (Ok founds) h g = λ all. (h all.0, g all.1)
@@ -233,7 +233,7 @@ module _ (S : FaultSet) where
 
   pub founds_ok : (op : Operator) (m k : ℕ) (ls : List (Option Data)) (ts : List Typing) (ms : List Meaning) →
       LiteralsOf ls ms → AllAgree S ts ms →
-      (w : Want) (scope : Scope) (path : List PathPart) (names : Names) (world : World) →
+      (w : Want) (scope : KindScope) (path : List PathPart) (names : BoundOutcomes) (world : World) →
       NamesOf S scope names →
       FoundsIn S op m k (handed op w) names world ls ms (founds_of op m k ts w scope path)
   founds_ok op m k [] [] [] g h w scope path names world n = λ all. tt
@@ -248,20 +248,20 @@ module _ (S : FaultSet) where
   founds_ok op m k _ [] (me ∷ ms) g h w scope path names world n = absurd h
 
   -- the faults of all arguments are those of each
-  within_after : (may : FaultSet) (founds : List Found) → Within S (may_after may founds) →
+  within_after : (may : FaultSet) (founds : List TypedNodes) → Within S (may_after may founds) →
       Within S may × WithinAll S founds
   within_after may [] all = (all, tt)
   within_after may (found ∷ founds) all =
       let rest = within_after (union may found.node.may) founds all in
       (within_left S may found.node.may rest.0, (within_right S may found.node.may rest.0, rest.1))
 
-  pub within_all : (founds : List Found) → Within S (all_may founds) → WithinAll S founds
+  pub within_all : (founds : List TypedNodes) → Within S (all_may founds) → WithinAll S founds
   within_all founds all = (within_after no_faults founds all).1
 
-  pub then_ok : (op : Operator) (m k : ℕ) (w v : Want) (names : Names) (world : World)
-      (ls : List (Option Data)) (ms : List Meaning) (rs : Result (List Found) TypeFault)
-      (go : List Found → Typed) (o : Evaluated) → FoundsIn S op m k v names world ls ms rs →
-      ((founds : List Found) → (WithinAll S founds → AreGiven S op m k v names world ls (kinds_in founds) ms)
+  pub then_ok : (op : Operator) (m k : ℕ) (w v : Want) (names : BoundOutcomes) (world : World)
+      (ls : List (Option Data)) (ms : List Meaning) (rs : Result (List TypedNodes) TypeFault)
+      (go : List TypedNodes → Typed) (o : Evaluated) → FoundsIn S op m k v names world ls ms rs →
+      ((founds : List TypedNodes) → (WithinAll S founds → AreGiven S op m k v names world ls (kinds_in founds) ms)
       → ResultOf S w (go founds) o) → ResultOf S w (then_found rs go) o
   then_ok op m k w v names world ls ms (Ok founds) go o h g = g founds h
   then_ok op m k w v names world ls ms (Err e) go o h g = tt

@@ -22,7 +22,7 @@ use Rattle.expr_types.specs.OwnTable.{own, output_kinds}
 use Rattle.operator_values.specs.Evaluated.{Evaluated, then_value}
 use Rattle.eval_face.specs.Branches.{branch, case_of, output_at, match_of, with_number, step_of}
 use Rattle.eval_face.specs.Meanings.{Meaning, argument_of}
-use Rattle.eval_face.specs.Names.{Names}
+use Rattle.eval_face.specs.Names.{BoundOutcomes}
 use Rattle.eval_face.specs.World.{World}
 use Rattle.typing_laws.specs.OfKind.{is_of}
 use Rattle.typing_laws.proofs.KindLaws.{Covers, covers_common}
@@ -129,7 +129,7 @@ module _ (S : FaultSet) where
   one_branch w K j (Err f) output later h a b = h
 
   -- an argument of `case`, where it is an output and where it is a condition
-  output_given : (m k : ℕ) (v : Want) (names : Names) (world : World) (l : Option Data) (j : Kind)
+  output_given : (m k : ℕ) (v : Want) (names : BoundOutcomes) (world : World) (l : Option Data) (j : Kind)
       (me : Meaning) → (is_last m k || not (is_even k)) ≡ true → ArgumentOf S
       (want_of (wanted_by ops.Case m k) v) false l j (argument_of ops.Case m k me v names world) →
       OutcomeOf S v j (me v names world)
@@ -137,7 +137,7 @@ module _ (S : FaultSet) where
       outcome_of v false l j (me v names world) (subst (λ x. ArgumentOf S x false l j (me x names world))
       (want_if_node (is_last m k || not (is_even k)) wants.Boolean v q) h)
 
-  condition_given : (m k : ℕ) (v : Want) (names : Names) (world : World) (l : Option Data) (j : Kind)
+  condition_given : (m k : ℕ) (v : Want) (names : BoundOutcomes) (world : World) (l : Option Data) (j : Kind)
       (me : Meaning) → (is_last m k || not (is_even k)) ≡ false → ArgumentOf S
       (want_of (wanted_by ops.Case m k) v) false l j (argument_of ops.Case m k me v names world) →
       OutcomeOf S wants.Boolean j (me wants.Boolean names world)
@@ -146,7 +146,7 @@ module _ (S : FaultSet) where
       (λ x. ArgumentOf S x false l j (me x names world))
       (want_if_own (is_last m k || not (is_even k)) wants.Boolean v q) h)
 
-  case_given : (K : Kind) (m k : ℕ) (v : Want) (names : Names) (world : World) (ls : List (Option Data))
+  case_given : (K : Kind) (m k : ℕ) (v : Want) (names : BoundOutcomes) (world : World) (ls : List (Option Data))
       (js : List Kind) (ms : List Meaning) → is_even k ≡ true → nat_eq (m % 2) 1 ≡ true → k + length ms ≡ m →
       Covers K (output_kinds m k js) → AreGiven S ops.Case m k v names world ls js ms →
       OutcomeOf S v K (case_of ms v names world)
@@ -185,12 +185,12 @@ module _ (S : FaultSet) where
   -- ---- one output after the input
 
   -- outputs under the want of the node
-  abbrev pub Outputs : Want → Names → World → List Kind → List Meaning → Type 0
+  abbrev pub Outputs : Want → BoundOutcomes → World → List Kind → List Meaning → Type 0
   Outputs v names world [] [] = Unit {0}
   Outputs v names world (j ∷ js) (me ∷ ms) = OutcomeOf S v j (me v names world) × Outputs v names world js ms
   Outputs v names world _ _ = ⊥
 
-  pub outputs_ok : (op : Operator) (m : ℕ) (v : Want) (names : Names) (world : World) → ((k : ℕ)
+  pub outputs_ok : (op : Operator) (m : ℕ) (v : Want) (names : BoundOutcomes) (world : World) → ((k : ℕ)
       (me : Meaning) → argument_of op m k me v names world ≡ me (want_of (wanted_by op m k) v) names world) →
       ((k : ℕ) → 0 < k → want_of (wanted_by op m k) v ≡ v) → (k : ℕ) → 0 < k →
       (ls : List (Option Data)) (js : List Kind) (ms : List Meaning) →
@@ -208,7 +208,7 @@ module _ (S : FaultSet) where
   outputs_ok op m v names world plain same k after (l ∷ ls) [] ms h = absurd h
   outputs_ok op m v names world plain same k after (l ∷ ls) (j ∷ js) [] h = absurd h
 
-  pub output_ok : (K : Kind) (v : Want) (names : Names) (world : World) (js : List Kind) (ms : List Meaning)
+  pub output_ok : (K : Kind) (v : Want) (names : BoundOutcomes) (world : World) (js : List Kind) (ms : List Meaning)
       (i : ℕ) → i < length ms → Covers K js → Outputs v names world js ms →
       OutcomeOf S v K (output_at ms i v names world)
   output_ok K v names world [] [] i within cover h = absurd (omega (arith, within))
@@ -223,7 +223,7 @@ module _ (S : FaultSet) where
   abbrev pub Branches : Operator → Meaning → List Meaning → Type 0
   Branches op meaning ms =
       (bound : List (List ℕ)) → IsSoundNode bound op (length ms) →
-      (w : Want) (names : Names) (world : World) (ls : List (Option Data)) (js : List Kind) →
+      (w : Want) (names : BoundOutcomes) (world : World) (ls : List (Option Data)) (js : List Kind) →
       AreGiven S op (length ms) 0 w names world ls js ms → BranchIn S w (own op w ls js)
       (meaning w names world)
 

@@ -10,7 +10,7 @@ use Rattle.expr_syntax.specs.Term.{Term}
 use Rattle.expr_types.specs.Allowed.{allowed_by, first_unread, stray_zoom_by}
 use Rattle.expr_types.specs.Checked.{unless_at, allowed, checked}
 use Rattle.expr_types.specs.Judged.{Judged, judged, found_kind, found_may}
-use Rattle.expr_types.specs.Typing.{Found, Typed, typed}
+use Rattle.expr_types.specs.Typing.{TypedNodes, Typed, typed}
 use Rattle.expr_types.specs.Visits.{Visit, visits}
 use Rattle.expr_types.specs.declared.fault.TypeCode.{TypeCode}
 use Rattle.expr_types.specs.declared.fault.TypeCode.TheVariants as codes
@@ -21,12 +21,12 @@ use Rattle.typing_laws.proofs.PlaceLaws.{each_node_has_a_place}
 use Rattle.typing_laws.proofs.TermLaws.{every_fault_is_listed, every_value_is_of_its_kind}
 
 -- what is refused for its inputs or for a `zoom` is not accepted
-accepted_at : (path : Option (List PathPart)) (code : TypeCode) (r : Typed) (found : Found) →
+accepted_at : (path : Option (List PathPart)) (code : TypeCode) (r : Typed) (found : TypedNodes) →
     unless_at path code r ≡ Ok found → r ≡ Ok found
 accepted_at (Some path) code r found h = absurd (cc)
 accepted_at None code r found h = h
 
-accepted : (row : Option RowData) (vs : List Visit) (r : Typed) (found : Found) →
+accepted : (row : Option RowData) (vs : List Visit) (r : Typed) (found : TypedNodes) →
     allowed row vs r ≡ Ok found → r ≡ Ok found
 accepted row vs (Ok f) found h =
     accepted_at (stray_zoom_by row vs) codes.ZoomPlace (Ok f) found
@@ -35,7 +35,7 @@ accepted row vs (Ok f) found h =
 accepted row vs (Err f) found h = absurd (cc)
 
 -- the laws, where there is a type
-typed_keeps : (t : Term) (want : Want) (found : Found) → IsRead [] t → typed t want [] [] ≡ Ok found →
+typed_keeps : (t : Term) (want : Want) (found : TypedNodes) → IsRead [] t → typed t want [] [] ≡ Ok found →
     KeepsTheLaws t want (t, want)
 typed_keeps t want found read h = record {
   faults = λ world fault gives. subst (λ may. holds may fault ≡ true) (sym (ap found_may h))
@@ -46,7 +46,7 @@ typed_keeps t want found read h = record {
 }
 
 judged_keeps : (t : Term) (want : Want) (r : Typed) (j : Judged) →
-    ((found : Found) → r ≡ Ok found → KeepsTheLaws t want (t, want)) → judged (t, want) r ≡ Ok j →
+    ((found : TypedNodes) → r ≡ Ok found → KeepsTheLaws t want (t, want)) → judged (t, want) r ≡ Ok j →
     KeepsTheLaws t want j
 judged_keeps t want (Ok found) j law h = let same : (t, want) ≡ j = cc in subst (λ x. KeepsTheLaws t want x)
     same (law found refl)

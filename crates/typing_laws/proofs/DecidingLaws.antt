@@ -22,7 +22,7 @@ use Rattle.operator_values.specs.Conversions.{number_in, color_in}
 use Rattle.operator_values.specs.Evaluated.{Evaluated, then_value}
 use Rattle.eval_face.specs.Decisions.{if_boolean, if_number, if_text, if_object, if_color, if_readable, if_false, if_true, if_there, or_later, first_of}
 use Rattle.eval_face.specs.Meanings.{Meaning, argument_of}
-use Rattle.eval_face.specs.Names.{Names}
+use Rattle.eval_face.specs.Names.{BoundOutcomes}
 use Rattle.eval_face.specs.World.{World}
 use Rattle.typing_laws.specs.OfKind.{is_of}
 use Rattle.typing_laws.proofs.Sets.{within_if}
@@ -252,7 +252,7 @@ module _ (S : FaultSet) where
   then_ok K op sure decides m k w l j (Err f) later decided sured h next = h
 
   first_ok : (K : Kind) (op : Operator) (sure : Option Data → Kind → Bool) (decides : Data → Option Data)
-      (none : Evaluated) (m k : ℕ) (w : Want) (names : Names) (world : World) (ls : List (Option Data))
+      (none : Evaluated) (m k : ℕ) (w : Want) (names : BoundOutcomes) (world : World) (ls : List (Option Data))
       (js : List Kind) (ms : List Meaning) → ((d : Data) → DecidedIn K (decides d)) → Sure op sure decides →
       AreGiven S op m k w names world ls js ms → (NoneSure sure ls js → OutcomeOf S wants.Any K none) →
       OutcomeOf S wants.Any K (first_of decides none op m k ms w names world)
@@ -270,14 +270,14 @@ module _ (S : FaultSet) where
   -- what each of these operators gives
   abbrev pub Decides : Operator → (Data → Option Data) → Evaluated → Type 0
   Decides op decides none =
-      (m : ℕ) (w : Want) (names : Names) (world : World) (ls : List (Option Data)) (js : List Kind)
+      (m : ℕ) (w : Want) (names : BoundOutcomes) (world : World) (ls : List (Option Data)) (js : List Kind)
       (ms : List Meaning) →
       AreGiven S op m 0 w names world ls js ms → OwnIn S wants.Any (own op w ls js)
       (first_of decides none op m 0 ms w names world)
 
   asserted : (K : Kind) (op : Operator) (decides : Data → Option Data) →
       ((d : Data) → DecidedIn K (decides d)) → ((d : Data) → is_of K d ≡ true → is_some (decides d) ≡ true) →
-      (m : ℕ) (w : Want) (names : Names) (world : World) (ls : List (Option Data)) (js : List Kind)
+      (m : ℕ) (w : Want) (names : BoundOutcomes) (world : World) (ls : List (Option Data)) (js : List Kind)
       (ms : List Meaning) → AreGiven S op m 0 w names world ls js ms →
       OwnIn S wants.Any (own_asserted K js) (first_of decides (Err faults.WrongType) op m 0 ms w names world)
   asserted K op decides decided sured m w names world ls js ms h = λ none all.
@@ -346,7 +346,7 @@ module _ (S : FaultSet) where
   then_there K op w asked l j (Ok d) later cover h next = there_ok K j d later cover h.kind next
   then_there K op w asked l j (Err f) later cover h next = h
 
-  coalesced : (K : Kind) (m k : ℕ) (w : Want) (names : Names) (world : World) (ls : List (Option Data))
+  coalesced : (K : Kind) (m k : ℕ) (w : Want) (names : BoundOutcomes) (world : World) (ls : List (Option Data))
       (js : List Kind) (ms : List Meaning) → Covers K js →
       AreGiven S ops.Coalesce m k w names world ls js ms → (js ≡ [] → is_of K null ≡ true) →
       OutcomeOf S wants.Any K (first_of if_there (Ok null) ops.Coalesce m k ms w names world)

@@ -12,12 +12,12 @@ use Rattle.prop_values.specs.declared.kinds.Want.TheVariants as wants
 use Rattle.expr_syntax.specs.declared.expression.Operator.TheVariants as ops
 use Rattle.expr_syntax.specs.Operators.{wanted_by, want_of}
 use Rattle.expr_syntax.specs.Rows.{is_last}
-use Rattle.expr_types.specs.Typing.{Found, Typed, Scope, Typing, argument_typed, founds_of, kinds_in, all_may, frame, or_own as typed_or_own, last_kind, or_outer as typed_or_outer, own_named, fitted, with_bindings, body_typed, let_typed}
+use Rattle.expr_types.specs.Typing.{TypedNodes, Typed, KindScope, Typing, argument_typed, founds_of, kinds_in, all_may, frame, or_own as typed_or_own, last_kind, or_outer as typed_or_outer, own_named, fitted, with_bindings, body_typed, let_typed}
 use Rattle.expr_types.specs.declared.own.Own.{Own}
 use Rattle.operator_values.specs.Evaluated.{Evaluated}
 use Rattle.eval_face.specs.Bindings.{outcomes_of, body_of, let_of, var_of}
 use Rattle.eval_face.specs.Meanings.{Meaning, argument_of}
-use Rattle.eval_face.specs.Names.{Names, bound, or_own, last_named, or_outer, named}
+use Rattle.eval_face.specs.Names.{BoundOutcomes, bound, or_own, last_named, or_outer, named}
 use Rattle.eval_face.specs.World.{World}
 use Rattle.typing_laws.proofs.Sets.{Within, within_left, within_right}
 use Rattle.typing_laws.proofs.Outcomes.{OutcomeOf, NodeOf, ResultOf, OwnIn, branch_ok, finish_ok}
@@ -68,7 +68,7 @@ module _ (S : FaultSet) where
   outer_ok (Some k) None own o h g = absurd h
   outer_ok None (Some p) own o h g = absurd h
 
-  named_ok : (scope : Scope) (names : Names) (asked : List ℕ) → NamesOf S scope names →
+  named_ok : (scope : KindScope) (names : BoundOutcomes) (asked : List ℕ) → NamesOf S scope names →
       OwnIn S wants.Any (own_named scope asked) (named names asked)
   named_ok [] [] asked h = λ none. absurd (cc)
   named_ok (as_ ∷ scope) (bs ∷ names) asked h = outer_ok (last_kind as_ asked) (last_named bs asked)
@@ -76,7 +76,7 @@ module _ (S : FaultSet) where
   named_ok [] (bs ∷ names) asked h = absurd h
   named_ok (as_ ∷ scope) [] asked h = absurd h
 
-  pub var_ok : (asked : List ℕ) (w : Want) (scope : Scope) (path : List PathPart) (names : Names)
+  pub var_ok : (asked : List ℕ) (w : Want) (scope : KindScope) (path : List PathPart) (names : BoundOutcomes)
       (world : World) → NamesOf S scope names →
       NodeOf S w (fitted w (own_named scope asked) no_faults path) (var_of asked w names world)
   var_ok asked w scope path names world n = finish_ok S w (own_named scope asked) no_faults path
@@ -84,7 +84,7 @@ module _ (S : FaultSet) where
 
   -- ---- bindings
 
-  binding_given : (bs : List (List ℕ)) (m k : ℕ) (v : Want) (names : Names) (world : World) (l : Option Data)
+  binding_given : (bs : List (List ℕ)) (m k : ℕ) (v : Want) (names : BoundOutcomes) (world : World) (l : Option Data)
       (j : Kind) (me : Meaning) → is_last m k ≡ false → ArgumentOf S (want_of (wanted_by (ops.Let bs) m k) v)
       false l j (argument_of (ops.Let bs) m k me v names world) →
       OutcomeOf S wants.Any j (me wants.Any names world)
@@ -93,7 +93,7 @@ module _ (S : FaultSet) where
       (λ x. ArgumentOf S x false l j (me x names world)) (want_if_own (is_last m k) wants.Any v q) h)
 
   -- names that are bound, with kinds and with outcomes
-  frame_ok : (bs : List (List ℕ)) (xs : List (List ℕ)) (m k : ℕ) (v : Want) (names : Names) (world : World)
+  frame_ok : (bs : List (List ℕ)) (xs : List (List ℕ)) (m k : ℕ) (v : Want) (names : BoundOutcomes) (world : World)
       (ls : List (Option Data)) (js : List Kind) (ms : List Meaning) → k + length ms < m →
       AreGiven S (ops.Let bs) m k v names world ls js ms →
       FrameOf S (frame xs js) (bound xs (outcomes_of ms names world))
@@ -117,7 +117,7 @@ module _ (S : FaultSet) where
   looked_result w v l (Err e) o h = tt
 
   body_given : (bs : List (List ℕ)) (t : Typing) (me : Meaning) → Agree S t me →
-      (w : Want) (scope : Scope) (path : List PathPart) (names : Names) (world : World) →
+      (w : Want) (scope : KindScope) (path : List PathPart) (names : BoundOutcomes) (world : World) →
       NamesOf S scope names →
       ResultOf S w (argument_typed (ops.Let bs) (length bs + 1) (length bs) t w scope path) (me w names world)
   body_given bs t me h w scope path names world n =
@@ -133,15 +133,15 @@ module _ (S : FaultSet) where
       path) (me x names world)) (want_if_node (is_last (length bs + 1) (length bs)) wants.Any w last)
       given)
 
-  with_ok : (w : Want) (founds : List Found) (r : Typed) (o : Evaluated) →
+  with_ok : (w : Want) (founds : List TypedNodes) (r : Typed) (o : Evaluated) →
       (Within S (all_may founds) → ResultOf S w r o) → ResultOf S w (with_bindings w founds r) o
   with_ok w founds (Ok body) o h = λ all. branch_ok S w body.node.kind o (h
       (within_left S (all_may founds) body.node.may all) (within_right S (all_may founds) body.node.may all))
   with_ok w founds (Err e) o h = tt
 
   body_ok : (bs : List (List ℕ)) (ts : List Typing) (ms : List Meaning) → AllAgree S ts ms →
-      (founds : List Found) (outcomes : List Evaluated) (w : Want) (scope : Scope) (path : List PathPart)
-      (names : Names) (world : World) → NamesOf S scope names →
+      (founds : List TypedNodes) (outcomes : List Evaluated) (w : Want) (scope : KindScope) (path : List PathPart)
+      (names : BoundOutcomes) (world : World) → NamesOf S scope names →
       (Within S (all_may founds) → FrameOf S (frame bs (kinds_in founds)) (bound bs outcomes)) →
       ResultOf S w (body_typed bs ts founds w scope path) (body_of ms w (bound bs outcomes ∷ names) world)
   body_ok bs [] ms h founds outcomes w scope path names world n frames = tt
@@ -183,7 +183,7 @@ module _ (S : FaultSet) where
 
   pub let_ok : (bs : List (List ℕ)) (ls : List (Option Data)) (ts : List Typing) (ms : List Meaning) →
       length ts ≡ length bs + 1 → LiteralsOf ls ms → AllAgree S ts ms →
-      (w : Want) (scope : Scope) (path : List PathPart) (names : Names) (world : World) →
+      (w : Want) (scope : KindScope) (path : List PathPart) (names : BoundOutcomes) (world : World) →
       NamesOf S scope names → ResultOf S w (let_typed bs ts w scope path) (let_of bs ms w names world)
   let_ok bs ls ts ms e g h w scope path names world n =
       let b = length bs in

@@ -13,13 +13,13 @@ use Rattle.expr_syntax.specs.declared.expression.Operator.{Operator}
 use Rattle.expr_syntax.specs.Operators.{wanted_by, want_of}
 use Rattle.expr_types.specs.OwnTable.{own}
 use Rattle.expr_types.specs.Sequences.{sequence_fit}
-use Rattle.expr_types.specs.Typing.{Found, Scope, Typing, handed, unless_misfit, own_where, is_sequence_of, founds_of, kinds_in, all_may, finished, finished_node, is_branching, plain_typed, all_places}
+use Rattle.expr_types.specs.Typing.{TypedNodes, KindScope, Typing, handed, unless_misfit, own_where, is_sequence_of, founds_of, kinds_in, all_may, finished, finished_node, is_branching, plain_typed, all_places}
 use Rattle.expr_types.specs.declared.fits.Fit.{Fit}
 use Rattle.expr_types.specs.declared.fits.Fit.TheVariants.{Always, Maybe, Never}
 use Rattle.expr_types.specs.declared.own.Own.{Own}
 use Rattle.operator_values.specs.Evaluated.{Evaluated, then_value}
 use Rattle.eval_face.specs.Meanings.{Meaning, argument_of, then_values, and_values, values_of}
-use Rattle.eval_face.specs.Names.{Names}
+use Rattle.eval_face.specs.Names.{BoundOutcomes}
 use Rattle.eval_face.specs.World.{World}
 use Rattle.typing_laws.proofs.Sets.{Within}
 use Rattle.typing_laws.proofs.Outcomes.{ResultOf, OwnIn, BranchIn, below_ok, finish_ok, branched_ok}
@@ -40,7 +40,7 @@ module _ (S : FaultSet) where
 
   node_founds : (op : Operator) (ls : List (Option Data)) (ts : List Typing) (ms : List Meaning) →
       LiteralsOf ls ms → AllAgree S ts ms →
-      (w : Want) (scope : Scope) (path : List PathPart) (names : Names) (world : World) →
+      (w : Want) (scope : KindScope) (path : List PathPart) (names : BoundOutcomes) (world : World) →
       NamesOf S scope names →
       FoundsIn S op (length ms) 0 (handed op w) names world ls ms (founds_of op (length ts) 0 ts w scope path)
   node_founds op ls ts ms g h w scope path names world n =
@@ -74,7 +74,7 @@ module _ (S : FaultSet) where
   branch_kept false w own' o h = h
 
   fitted_by : (b : Bool) → b ≡ false →
-      (op : Operator) (w : Want) (own' : Own) (founds : List Found) (path : List PathPart) (o : Evaluated) →
+      (op : Operator) (w : Want) (own' : Own) (founds : List TypedNodes) (path : List PathPart) (o : Evaluated) →
       is_branching op ≡ b → (Within S (all_may founds) → OwnIn S wants.Any own' o) →
       ResultOf S w (finished op w own' founds path) (then_value o (fit w))
   fitted_by b q op w own' founds path o e h =
@@ -82,7 +82,7 @@ module _ (S : FaultSet) where
       (rw (e, q) (finish_ok S w own' (all_may founds) path o h))
 
   branched_by : (b : Bool) → b ≡ true →
-      (op : Operator) (w : Want) (own' : Own) (founds : List Found) (path : List PathPart) (o : Evaluated) →
+      (op : Operator) (w : Want) (own' : Own) (founds : List TypedNodes) (path : List PathPart) (o : Evaluated) →
       is_branching op ≡ b → (Within S (all_may founds) → BranchIn S w own' o) →
       ResultOf S w (finished op w own' founds path) o
   branched_by b q op w own' founds path o e h =
@@ -91,7 +91,7 @@ module _ (S : FaultSet) where
 
   pub fitted_node : (op : Operator) → is_branching op ≡ false →
       (ls : List (Option Data)) (ts : List Typing) (ms : List Meaning) → LiteralsOf ls ms → AllAgree S ts ms →
-      (asked : Bool) (w : Want) (scope : Scope) (path : List PathPart) (names : Names) (world : World) →
+      (asked : Bool) (w : Want) (scope : KindScope) (path : List PathPart) (names : BoundOutcomes) (world : World) →
       NamesOf S scope names → (o : Evaluated) → ((js : List Kind) → AreGiven S op (length ms) 0 (handed op w)
       names world ls js ms → OwnIn S wants.Any (own op w ls js) o) →
       ResultOf S w (plain_typed op ls ts asked w scope path) (then_value o (fit w))
@@ -106,7 +106,7 @@ module _ (S : FaultSet) where
 
   pub branched_node : (op : Operator) → is_branching op ≡ true →
       (ls : List (Option Data)) (ts : List Typing) (ms : List Meaning) → LiteralsOf ls ms → AllAgree S ts ms →
-      (asked : Bool) (w : Want) (scope : Scope) (path : List PathPart) (names : Names) (world : World) →
+      (asked : Bool) (w : Want) (scope : KindScope) (path : List PathPart) (names : BoundOutcomes) (world : World) →
       NamesOf S scope names → (o : Evaluated) → ((js : List Kind) → AreGiven S op (length ms) 0 (handed op w)
       names world ls js ms → BranchIn S w (own op w ls js) o) →
       ResultOf S w (plain_typed op ls ts asked w scope path) o
@@ -129,7 +129,7 @@ module _ (S : FaultSet) where
   and_values_ok op m k w l ls j js (Ok d) (Err f) h g = g
   and_values_ok op m k w l ls j js (Err f) os h g = h
 
-  values_ok : (op : Operator) (m k : ℕ) (w : Want) (names : Names) (world : World) (ls : List (Option Data))
+  values_ok : (op : Operator) (m k : ℕ) (w : Want) (names : BoundOutcomes) (world : World) (ls : List (Option Data))
       (js : List Kind) (ms : List Meaning) → AreGiven S op m k w names world ls js ms →
       ValuesIn S op m k w ls js (values_of op m k ms w names world)
   values_ok op m k w names world [] [] [] h = tt
@@ -141,7 +141,7 @@ module _ (S : FaultSet) where
   values_ok op m k w names world (l ∷ ls) [] ms h = absurd h
   values_ok op m k w names world (l ∷ ls) (j ∷ js) [] h = absurd h
 
-  pub given_length : (op : Operator) (m k : ℕ) (w : Want) (names : Names) (world : World)
+  pub given_length : (op : Operator) (m k : ℕ) (w : Want) (names : BoundOutcomes) (world : World)
       (ls : List (Option Data)) (js : List Kind) (ms : List Meaning) →
       AreGiven S op m k w names world ls js ms → length ms ≡ length js
   given_length op m k w names world [] [] [] h = refl
@@ -181,7 +181,7 @@ module _ (S : FaultSet) where
       (apply : World → List Data → Evaluated) → Applies S op apply →
       (bound : List (List ℕ)) (ls : List (Option Data)) (ts : List Typing) (ms : List Meaning) →
       IsSoundNode bound op (length ms) → LiteralsOf ls ms → AllAgree S ts ms →
-      (asked : Bool) (w : Want) (scope : Scope) (path : List PathPart) (names : Names) (world : World) →
+      (asked : Bool) (w : Want) (scope : KindScope) (path : List PathPart) (names : BoundOutcomes) (world : World) →
       NamesOf S scope names → ResultOf S w (plain_typed op ls ts asked w scope path)
       (then_values (values_of op (length ms) 0 ms w names world) (λ ds. then_value (apply world ds) (fit w)))
   each_node op plain own_want apply law bound ls ts ms sound g h asked w scope path names world n =

@@ -12,7 +12,7 @@ use Rattle.expr_syntax.specs.declared.expression.Operator.TheVariants as ops
 use Rattle.expr_types.specs.ArgumentPaths.{argument_path}
 use Rattle.expr_types.specs.Judged.{found_places}
 use Rattle.expr_types.specs.OwnTable.{own}
-use Rattle.expr_types.specs.Typing.{Found, Typed, Node, Scope, Typing, places_of, literal_node, with_below, own_where, sequence_if, is_sequence_of, looked_at, argument_want, argument_typed, and_found, founds_of, kinds_in, places_after, all_may, all_places, then_found, frame, own_named, fitted, finished_node, finished, plain_typed, with_bindings, body_typed, let_typed, node_typed, literals, typed_as, typings}
+use Rattle.expr_types.specs.Typing.{TypedNodes, Typed, Node, KindScope, Typing, places_of, literal_node, with_below, own_where, sequence_if, is_sequence_of, looked_at, argument_want, argument_typed, and_found, founds_of, kinds_in, places_after, all_may, all_places, then_found, frame, own_named, fitted, finished_node, finished, plain_typed, with_bindings, body_typed, let_typed, node_typed, literals, typed_as, typings}
 use Rattle.expr_types.specs.declared.fault.TypeFault.{TypeFault}
 use Rattle.expr_types.specs.declared.placed.Placed.{Placed}
 use Rattle.typing_laws.specs.TypingLaws.{EachNodeHasAPlace}
@@ -23,7 +23,7 @@ HasPlaces (Ok found) n = length (places_of found) ≡ n
 HasPlaces (Err f) n = Unit {0}
 
 abbrev Counts : Typing → ℕ → Type 0
-Counts t n = (asked : Bool) (w : Want) (scope : Scope) (path : List PathPart) → HasPlaces (t asked w scope path) n
+Counts t n = (asked : Bool) (w : Want) (scope : KindScope) (path : List PathPart) → HasPlaces (t asked w scope path) n
 
 abbrev AllCount : List Typing → List ℕ → Type 0
 AllCount [] [] = Unit {0}
@@ -34,13 +34,13 @@ abbrev total : List ℕ → ℕ
 total [] = 0
 total (n ∷ ns) = n + total ns
 
-abbrev HaveAll : Result (List Found) TypeFault → ℕ → Type 0
+abbrev HaveAll : Result (List TypedNodes) TypeFault → ℕ → Type 0
 HaveAll (Ok founds) n = length (all_places founds) ≡ n
 HaveAll (Err f) n = Unit {0}
 
 -- ---- places of several
 
-after_length : (places : List Placed) (founds : List Found) →
+after_length : (places : List Placed) (founds : List TypedNodes) →
     length (places_after places founds) ≡ length places + length (all_places founds)
 after_length places [] = let e : length {A = Placed} [] ≡ 0 = refl in omega (arith, e)
 after_length places (found ∷ founds) =
@@ -50,7 +50,7 @@ after_length places (found ∷ founds) =
     places (places_of found) in
     omega (arith, one, alone, more)
 
-first_length : (found : Found) (founds : List Found) →
+first_length : (found : TypedNodes) (founds : List TypedNodes) →
     length (all_places (found ∷ founds)) ≡ length (places_of found) + length (all_places founds)
 first_length found founds = after_length ([] ++ places_of found) founds
 
@@ -65,14 +65,14 @@ looked_places asked (Ok found) path n h = below_places found.below (sequence_if 
     (let e : length (places_of found) ≡ length found.below + 1 = omega arith in sym e ∙ h)
 looked_places asked (Err f) path n h = tt
 
-found_step : (r : Typed) (rs : Result (List Found) TypeFault) (n m : ℕ) → HasPlaces r n → HaveAll rs m →
+found_step : (r : Typed) (rs : Result (List TypedNodes) TypeFault) (n m : ℕ) → HasPlaces r n → HaveAll rs m →
     HaveAll (and_found r rs) (n + m)
 found_step (Ok found) (Ok founds) n m h g = let e = first_length found founds in omega (arith, e, h, g)
 found_step (Ok found) (Err f) n m h g = tt
 found_step (Err f) rs n m h g = tt
 
 founds_places : (op : Operator) (m k : ℕ) (ts : List Typing) (ns : List ℕ) → AllCount ts ns →
-    (w : Want) (scope : Scope) (path : List PathPart) → HaveAll (founds_of op m k ts w scope path) (total ns)
+    (w : Want) (scope : KindScope) (path : List PathPart) → HaveAll (founds_of op m k ts w scope path) (total ns)
 founds_places op m k [] [] h w scope path = refl
 founds_places op m k (t ∷ ts) (n ∷ ns) h w scope path =
     found_step (argument_typed op m k t w scope path) (founds_of op m (k + 1) ts w scope path) n (total ns)
@@ -84,8 +84,8 @@ founds_places op m k (t ∷ ts) (n ∷ ns) h w scope path =
 founds_places op m k [] (n ∷ ns) h w scope path = absurd h
 founds_places op m k (t ∷ ts) [] h w scope path = absurd h
 
-then_places : (rs : Result (List Found) TypeFault) (go : List Found → Typed) (n m : ℕ) → HaveAll rs n →
-    ((founds : List Found) → length (all_places founds) ≡ n → HasPlaces (go founds) m) →
+then_places : (rs : Result (List TypedNodes) TypeFault) (go : List TypedNodes → Typed) (n m : ℕ) → HaveAll rs n →
+    ((founds : List TypedNodes) → length (all_places founds) ≡ n → HasPlaces (go founds) m) →
     HasPlaces (then_found rs go) m
 then_places (Ok founds) go n m h all = all founds h
 then_places (Err f) go n m h all = tt
@@ -102,15 +102,15 @@ plain_places op ls ts ns h asked w scope path =
     (finished_node op w (own_where asked (own op w ls (kinds_in founds))) (all_may founds) path) (1 + total ns)
     (omega (arith, e)))
 
-with_places : (w : Want) (founds : List Found) (r : Typed) (n m : ℕ) → length (all_places founds) ≡ n →
+with_places : (w : Want) (founds : List TypedNodes) (r : Typed) (n m : ℕ) → length (all_places founds) ≡ n →
     HasPlaces r m → HasPlaces (with_bindings w founds r) (1 + (n + m))
 with_places w founds (Ok body) n m h g = let e = length-append (all_places founds) (places_of body) in omega
     (arith, e, h, g)
 with_places w founds (Err f) n m h g = tt
 
 body_places : (bs : List (List ℕ)) (ts : List Typing) (ns : List ℕ) → AllCount ts ns →
-    (founds : List Found) (n : ℕ) → length (all_places founds) ≡ n →
-    (w : Want) (scope : Scope) (path : List PathPart) →
+    (founds : List TypedNodes) (n : ℕ) → length (all_places founds) ≡ n →
+    (w : Want) (scope : KindScope) (path : List PathPart) →
     HasPlaces (body_typed bs ts founds w scope path) (1 + (n + total ns))
 body_places bs [] ns h founds n e w scope path = tt
 body_places bs (t ∷ []) (b ∷ []) h founds n e w scope path =
@@ -150,7 +150,7 @@ both_totals (suc n) [] = refl
 both_totals (suc n) (m ∷ ns) = let q = both_totals n ns in omega (arith, q)
 
 let_places : (bs : List (List ℕ)) (ts : List Typing) (ns : List ℕ) → AllCount ts ns →
-    (w : Want) (scope : Scope) (path : List PathPart) → HasPlaces (let_typed bs ts w scope path) (1 + total ns)
+    (w : Want) (scope : KindScope) (path : List PathPart) → HasPlaces (let_typed bs ts w scope path) (1 + total ns)
 let_places bs ts ns h w scope path =
     let b = length bs in
     subst (λ (x : ℕ). HasPlaces (let_typed bs ts w scope path) (1 + x)) (both_totals b ns)

@@ -33,7 +33,7 @@ use Rattle.operator_values.specs.Arithmetic.{then_number}
 use Rattle.operator_values.specs.Evaluated.{Evaluated, then_value}
 use Rattle.eval_face.specs.Branches.{output_at, ramp_at, ramp_of}
 use Rattle.eval_face.specs.Meanings.{Meaning}
-use Rattle.eval_face.specs.Names.{Names}
+use Rattle.eval_face.specs.Names.{BoundOutcomes}
 use Rattle.eval_face.specs.World.{World}
 use Rattle.typing_laws.specs.OfKind.{is_of}
 use Rattle.typing_laws.proofs.Sets.{Within, within_one}
@@ -49,7 +49,7 @@ module _ (S : FaultSet) where
   -- ---- at a place among the inputs
 
   place_ok : (Q : Kind) → is_ramp_kind Q ≡ true → (inputs : List ℤ) (ms : List Meaning) (x : ℤ)
-      (place : StopPlace) (v : Want) (names : Names) (world : World) → length ms ≡ length inputs →
+      (place : StopPlace) (v : Want) (names : BoundOutcomes) (world : World) → length ms ≡ length inputs →
       0 < length inputs → ((i : ℕ) → i < length ms → OutcomeOf S wants.Any Q (output_at ms i v names world)) →
       ((i : ℕ) → place ≡ Between i → IsBetween inputs x i) → ((i : ℕ) (d e : Data) → IsBetween inputs x i →
       output_at ms i v names world ≡ Ok d → output_at ms (i + 1) v names world ≡ Ok e → SafeIn S x
@@ -143,7 +143,7 @@ module _ (S : FaultSet) where
   next_near v keeps x0 x1 None l' a b d e near g g' k k' = absurd (cc)
   next_near v keeps x0 x1 (Some p) None a b d e near g g' k k' = absurd (cc)
 
-  steps_near : (v : Want) → Keeps v → (names : Names) (world : World) (inputs : List ℤ)
+  steps_near : (v : Want) → Keeps v → (names : BoundOutcomes) (world : World) (inputs : List ℤ)
       (ls : List (Option Data)) (ms : List Meaning) (i : ℕ) (d e : Data) → steps_are_near inputs v ls ≡ true →
       LiteralsOf ls ms → suc i < length inputs → output_at ms i v names world ≡ Ok d →
       output_at ms (suc i) v names world ≡ Ok e →
@@ -179,7 +179,7 @@ module _ (S : FaultSet) where
   or_split true b h = inl refl
   or_split false b h = inr h
 
-  near_in : (v : Want) → Keeps v → (names : Names) (world : World) (inputs : List ℤ) (ls : List (Option Data))
+  near_in : (v : Want) → Keeps v → (names : BoundOutcomes) (world : World) (inputs : List ℤ) (ls : List (Option Data))
       (ms : List Meaning) (x : ℤ) (i : ℕ) (d e : Data) → steps_are_near inputs v ls ≡ true →
       LiteralsOf ls ms → IsBetween inputs x i → output_at ms i v names world ≡ Ok d →
       output_at ms (suc i) v names world ≡ Ok e → SafeIn S x (input_at inputs i) d (input_at inputs (suc i)) e
@@ -194,7 +194,7 @@ module _ (S : FaultSet) where
       ))
 
   -- where neighbours are near, by the want of the outputs
-  near_by : (w : Want) (K : Kind) → is_interpolable w K ≡ true → (names : Names) (world : World)
+  near_by : (w : Want) (K : Kind) → is_interpolable w K ≡ true → (names : BoundOutcomes) (world : World)
       (inputs : List ℤ) (ls : List (Option Data)) (ms : List Meaning) (x : ℤ) (i : ℕ) (d e : Data) →
       steps_are_near inputs (ramp_want w) ls ≡ true → LiteralsOf ls ms → IsBetween inputs x i →
       OutcomeOf S (ramp_want w) K (Ok d) → output_at ms i (ramp_want w) names world ≡ Ok d →
@@ -212,7 +212,7 @@ module _ (S : FaultSet) where
   near_by _ K r names world inputs ls ms x i d e steps g at o k k' = absurd (cc)
 
   safe_by : (b : Bool) (curve : Curve) (w : Want) (K : Kind) → is_interpolable w K ≡ true →
-      (names : Names) (world : World) (inputs : List ℤ) (ls : List (Option Data)) (ms : List Meaning) →
+      (names : BoundOutcomes) (world : World) (inputs : List ℤ) (ls : List (Option Data)) (ms : List Meaning) →
       may_pass curve inputs (ramp_want w) ls K ≡ b → Within S (faults_if b faults.Overflow) →
       LiteralsOf ls ms → (x : ℤ) (i : ℕ) (d e : Data) → IsBetween inputs x i →
       OutcomeOf S (ramp_want w) K (Ok d) → output_at ms i (ramp_want w) names world ≡ Ok d →
@@ -250,7 +250,7 @@ module _ (S : FaultSet) where
 
   -- the outcomes of outputs, as values that are interpolated
   ramp_between : (curve : Curve) (inputs : List ℤ) (w : Want) (ls : List (Option Data)) (js : List Kind)
-      (ms : List Meaning) (names : Names) (world : World) (x : ℤ) →
+      (ms : List Meaning) (names : BoundOutcomes) (world : World) (x : ℤ) →
       is_interpolable w (common_kind js) ≡ true →
       Within S (faults_if (may_pass curve inputs (ramp_want w) ls (common_kind js)) faults.Overflow) →
       IsAscending inputs → length ms ≡ length inputs → 0 < length inputs → LiteralsOf ls ms →
@@ -289,7 +289,7 @@ module _ (S : FaultSet) where
 
   ramp_outputs : (r : Curve × List ℤ) (ls : List (Option Data)) (me : Meaning) (ms : List Meaning) →
       LiteralsOf ls ms → (bound : List (List ℕ)) → IsSoundNode bound (ops.Interpolate r) (length (me ∷ ms)) →
-      (w : Want) (names : Names) (world : World) (l : Option Data) (j : Kind) (js : List Kind) → AreGiven S
+      (w : Want) (names : BoundOutcomes) (world : World) (l : Option Data) (j : Kind) (js : List Kind) → AreGiven S
       (ops.Interpolate r) (length (me ∷ ms)) 0 (ramp_want w) names world (l ∷ ls) (j ∷ js) (me ∷ ms) →
       BranchIn S w (outputs_own r.0 r.1 w ls js) (ramp_of r.0 r.1 (me ∷ ms) w names world)
   ramp_outputs r ls me ms g bound sound w names world l j js h = λ none all.
@@ -310,7 +310,7 @@ module _ (S : FaultSet) where
 
   pub ramp_ok : (r : Curve × List ℤ) (ls : List (Option Data)) (ms : List Meaning) → LiteralsOf ls ms →
       (bound : List (List ℕ)) → IsSoundNode bound (ops.Interpolate r) (length ms) →
-      (w : Want) (names : Names) (world : World) (js : List Kind) →
+      (w : Want) (names : BoundOutcomes) (world : World) (js : List Kind) →
       AreGiven S (ops.Interpolate r) (length ms) 0 (ramp_want w) names world ls js ms →
       BranchIn S w (own (ops.Interpolate r) w ls js) (ramp_of r.0 r.1 ms w names world)
   ramp_ok r (l ∷ ls) (me ∷ ms) g bound sound w names world (j ∷ js) h =

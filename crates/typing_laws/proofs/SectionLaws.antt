@@ -12,7 +12,7 @@ use Rattle.prop_values.specs.declared.kinds.Want.{Want}
 use Rattle.prop_values.specs.declared.kinds.Want.TheVariants as wants
 use Rattle.property_tables.specs.Fitting.{item_count}
 use Rattle.expr_syntax.specs.declared.expression.Operator.TheVariants as ops
-use Rattle.expr_syntax.specs.declared.parts.Piece.{Piece}
+use Rattle.expr_syntax.specs.declared.parts.FormatPiece.{FormatPiece}
 use Rattle.expr_syntax.specs.declared.parts.Role.{Role}
 use Rattle.expr_syntax.specs.declared.parts.Role.TheVariants as roles
 use Rattle.expr_syntax.specs.Operators.{role_want, piece_wanted, want_of}
@@ -36,7 +36,7 @@ append_length [] d = refl
 append_length (e ∷ ds) d = omega (arith, append_length ds d)
 
 -- values that are of the wants of the pieces, from some piece on
-abbrev ArePieces : List Piece → List Data → Type 0
+abbrev ArePieces : List FormatPiece → List Data → Type 0
 ArePieces [] [] = Unit {0}
 ArePieces (p ∷ ps) (d ∷ ds) = (is_of (wanted_kind (role_want p.role)) d ≡ true) × ArePieces ps ds
 ArePieces _ _ = ⊥
@@ -61,7 +61,7 @@ then_in : (n m : ℕ) (r : Result Open EvalFault) (go : Open → Result Open Eva
 then_in n m (Ok sections) go h all = all sections h
 then_in n m (Err f) go h all = absurd h
 
-pieces_ok : (ps : List Piece) (ds : List Data) (sections : Open) → ArePieces ps ds →
+pieces_ok : (ps : List FormatPiece) (ds : List Data) (sections : Open) → ArePieces ps ds →
     OpenIn (length sections.0 + section_count ps) (add_pieces ps ds sections)
 pieces_ok [] [] sections h = omega arith
 pieces_ok (p ∷ ps) (d ∷ ds) sections h =
@@ -85,21 +85,21 @@ module _ (S : FaultSet) where
   closed_ok n (Err f) h = absurd h
 
   -- the pieces from place k on
-  abbrev Placed : List Piece → ℕ → List Piece → Type 0
+  abbrev Placed : List FormatPiece → ℕ → List FormatPiece → Type 0
   Placed pieces k [] = Unit {0}
   Placed pieces k (p ∷ ps) = (slice_get pieces k ≡ Some p) × Placed pieces (k + 1) ps
 
-  placed_later : (q : Piece) (pieces : List Piece) (k : ℕ) (ps : List Piece) → Placed pieces k ps →
+  placed_later : (q : FormatPiece) (pieces : List FormatPiece) (k : ℕ) (ps : List FormatPiece) → Placed pieces k ps →
       Placed (q ∷ pieces) (k + 1) ps
   placed_later q pieces k [] h = tt
   placed_later q pieces k (p ∷ ps) h =
       (let next : k + 1 ≡ suc k = omega arith in rw next h.0, placed_later q pieces (k + 1) ps h.1)
 
-  all_placed : (pieces : List Piece) → Placed pieces 0 pieces
+  all_placed : (pieces : List FormatPiece) → Placed pieces 0 pieces
   all_placed [] = tt
   all_placed (p ∷ ps) = (refl, placed_later p ps 0 ps (all_placed ps))
 
-  pieces_given : (pieces : List Piece) (m k : ℕ) (w : Want) (ps : List Piece) (ls : List (Option Data))
+  pieces_given : (pieces : List FormatPiece) (m k : ℕ) (w : Want) (ps : List FormatPiece) (ls : List (Option Data))
       (js : List Kind) (ds : List Data) → Placed pieces k ps → length ds ≡ length ps →
       AllOf (ops.Format pieces) m k w ls js ds → ArePieces ps ds
   pieces_given pieces m k w [] [] [] [] at e h = tt
@@ -127,7 +127,7 @@ module _ (S : FaultSet) where
   none_before : (n : ℕ) → length {A = Data} [] + n ≡ n
   none_before n = omega arith
 
-  format_by : (ps : List Piece) (ds : List Data) → BeginsWithContent ps → ArePieces ps ds →
+  format_by : (ps : List FormatPiece) (ds : List Data) → BeginsWithContent ps → ArePieces ps ds →
       OutcomeOf S wants.Any (kinds.List items.Any (count_of (section_count ps))) (format_of ps ds)
   format_by [] ds h g = absurd h
   format_by (p ∷ ps) [] h g = absurd g
@@ -146,6 +146,6 @@ module _ (S : FaultSet) where
   format_by (p ∷ ps) (list es ∷ ds) h g = absurd (let q = content_text p.role (list es) h g.0 in cc)
   format_by (p ∷ ps) (map es ∷ ds) h g = absurd (let q = content_text p.role (map es) h g.0 in cc)
 
-  pub format_ok : (pieces : List Piece) → Applies S (ops.Format pieces) (λ world ds. format_of pieces ds)
+  pub format_ok : (pieces : List FormatPiece) → Applies S (ops.Format pieces) (λ world ds. format_of pieces ds)
   format_ok pieces bound w world ls js ds s h = λ none all. format_by pieces ds s.parts.0
       (pieces_given pieces (length ds) 0 w pieces ls js ds (all_placed pieces) s.parts.1 h)

@@ -12,7 +12,7 @@ use Rattle.expr_syntax.specs.ReadTerms.{names_within, IsRead, AreRead}
 use Rattle.expr_syntax.specs.Term.{Term, literal, node, Terms, no_terms, term}
 use Rattle.expr_syntax.specs.declared.expression.Operator.{Operator}
 use Rattle.expr_syntax.specs.declared.expression.Operator.TheVariants as ops
-use Rattle.expr_types.specs.Typing.{Found, Scope, Typing, literal_node, is_branching, handed, node_typed, plain_typed, literal_of, literals, typed_as, typed, typings, own_named, fitted}
+use Rattle.expr_types.specs.Typing.{TypedNodes, KindScope, Typing, literal_node, is_branching, handed, node_typed, plain_typed, literal_of, literals, typed_as, typed, typings, own_named, fitted}
 use Rattle.tile_reader.specs.ShapeName.{shape_name}
 use Rattle.operator_values.specs.Evaluated.{Evaluated, then_value}
 use Rattle.operator_values.specs.Texts.{concat_of}
@@ -23,7 +23,7 @@ use Rattle.eval_face.proofs.FittedLaws.{each_value_is_fitted}
 use Rattle.eval_face.specs.Lookups.{id_value}
 use Rattle.eval_face.specs.Meaning.{node_meaning, mean, means}
 use Rattle.eval_face.specs.Meanings.{Meaning}
-use Rattle.eval_face.specs.Names.{Names}
+use Rattle.eval_face.specs.Names.{BoundOutcomes}
 use Rattle.eval_face.specs.World.{World}
 use Rattle.typing_laws.specs.TypingLaws.{HasType, EveryFaultIsListed, EveryValueIsOfItsKind, NoFaultIsGivenWhereNoneIsListed}
 use Rattle.typing_laws.proofs.Sets.{holds_none}
@@ -44,7 +44,7 @@ module _ (S : FaultSet) where
   deciding_node : (op : Operator) → is_branching op ≡ false → ((w : Want) → handed op w ≡ w) →
       (decides : Data → Option Data) (none : Evaluated) → Decides S op decides none →
       (ls : List (Option Data)) (ts : List Typing) (ms : List Meaning) → LiteralsOf ls ms → AllAgree S ts ms →
-      (asked : Bool) (w : Want) (scope : Scope) (path : List PathPart) (names : Names) (world : World) →
+      (asked : Bool) (w : Want) (scope : KindScope) (path : List PathPart) (names : BoundOutcomes) (world : World) →
       NamesOf S scope names → ResultOf S w (plain_typed op ls ts asked w scope path)
       (then_value (first_of decides none op (length ms) 0 ms w names world) (fit w))
   deciding_node op plain own_want decides none law ls ts ms g h asked w scope path names world n =
@@ -204,7 +204,7 @@ module _ (S : FaultSet) where
         (mean_ok bound t read.0, means_ok bound inner (term u ts) read.1)
 
 -- what is said of the root, for the set of its own faults
-root_ok : (t : Term) (want : Want) (world : World) (found : Found) → HasType t want found →
+root_ok : (t : Term) (want : Want) (world : World) (found : TypedNodes) → HasType t want found →
     OutcomeOf found.node.may want found.node.kind (mean t want [] world)
 root_ok t want world found h =
     let law : ResultOf found.node.may want (typed t want [] []) (mean t want [] world) = mean_ok

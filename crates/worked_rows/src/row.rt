@@ -9,7 +9,7 @@ use std::alloc::Global;
 
 /// A run of the program, and what it must give.
 #[derive(Drop)]
-pub struct Row {
+pub struct TestRow {
     pub name: String,
     /// The words after the program's name.
     pub words: Vec<String>,
@@ -17,23 +17,23 @@ pub struct Row {
     /// The writes that fail, and how many bytes each still takes.
     pub out_fails: Vec<(u64, usize)>,
     pub err_fails: Vec<(u64, usize)>,
-    pub wanted: Wanted,
+    pub wanted: WantedRun,
 }
 
 /// What a run must give.
 #[derive(Drop)]
-pub struct Wanted {
+pub struct WantedRun {
     pub out: Vec<u8>,
     pub err: Vec<u8>,
     pub status: u64,
 }
 
-pub fn read_row(alloc: Global, line: &str) -> Result<Row> {
+pub fn read_row(alloc: Global, line: &str) -> Result<TestRow> {
     let Ok(json) = parse(alloc, line.as_bytes())? else {
         bail!("no JSON text");
     };
     let members = object_of(&json)?;
-    Ok(Row {
+    Ok(TestRow {
         name: String::from_str(alloc, text_of(member(members, "name")?)?)?,
         words: words_of(alloc, member(members, "words")?)?,
         files: files_of(alloc, members)?,
@@ -89,8 +89,8 @@ fn failing<'a>(row: &'a Members, outside: &str) -> Result<Option<&'a Json>> {
     }
 }
 
-fn wanted_of(alloc: Global, row: &Members) -> Result<Wanted> {
-    Ok(Wanted {
+fn wanted_of(alloc: Global, row: &Members) -> Result<WantedRun> {
+    Ok(WantedRun {
         out: content(alloc, member(row, "out")?)?,
         err: content(alloc, member(row, "err")?)?,
         status: number_of(member(row, "status")?)?,

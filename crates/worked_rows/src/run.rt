@@ -2,7 +2,7 @@
 
 ghost use Rattle.std.specs.Prelude.{◌≡◌, ◌<◌};
 
-use crate::row::{Row, Wanted};
+use crate::row::{TestRow, WantedRun};
 use host_ops::{ImageSet, ScriptTest};
 use outside_io::{SinkInMemory, Steps};
 use std::alloc::{AllocError, Global};
@@ -14,7 +14,7 @@ use style_program::{Status, run_style};
 const MORE: usize = 4096;
 
 /// Runs a row, and says what differs, or nothing where the run gave what it must.
-pub fn difference(alloc: Global, row: &mut Row) -> Result<Option<String>, AllocError> {
+pub fn difference(alloc: Global, row: &mut TestRow) -> Result<Option<String>, AllocError> {
     let mut out = sink_for(alloc, &row.wanted.out, &row.out_fails)?;
     let mut err = sink_for(alloc, &row.wanted.err, &row.err_fails)?;
     let status = run_counted::<Brand>(alloc, row, &mut out, &mut err, Blank::new(1))?;
@@ -32,7 +32,7 @@ fn sink_for(
 
 fn run_counted<L: Ledger>(
     alloc: Global,
-    row: &mut Row,
+    row: &mut TestRow,
     out: &mut SinkInMemory,
     err: &mut SinkInMemory,
     blank: Blank,
@@ -51,7 +51,7 @@ fn run_counted<L: Ledger>(
 
 fn compare(
     alloc: Global,
-    wanted: &Wanted,
+    wanted: &WantedRun,
     status: Status,
     out: &[u8],
     err: &[u8],

@@ -1,7 +1,7 @@
 use Rattle.std.proofs.Common.{◌≡◌, ◌∙◌, ◌-◌, ℕ, ℤ, List, ap, sym, subst}
 use Rattle.std.specs.Prelude.{if◌then◌else◌}
 use Rattle.interpolate_fixed.specs.Places.{count_not_above}
-use Rattle.operator_values.specs.Evaluated.{Gives}
+use Rattle.operator_values.specs.Evaluated.{GivesValue}
 use Rattle.legacy_functions.specs.Function.{Way, even, stepped}
 use Rattle.legacy_functions.specs.Meaning.{way_result, zoom_way, rule_zooms, step_result, result_at}
 use Rattle.legacy_functions.specs.FunctionView.{rules_in, zoom_results_in}
@@ -18,8 +18,8 @@ returns-then-function c =
     let r = c.zoom_ramp_value.result in
     let way : zoom_way (row_of f) ≡ even = ap (λ b. if b then even else stepped) c.if-function.true in
     let zooms : rule_zooms (rules_in f rules) ≡ zooms_seen rules = zooms_of_rules (way_seen f.way) rules in
-    subst (λ (w : Way). Gives r (way_result w (rule_zooms (rules_in f rules)) results c.args.zoom)) (sym way)
-    (subst (λ (zs : List ℤ). Gives r (way_result even zs results c.args.zoom)) (sym zooms) c.zoom_ramp_value.ensures)
+    subst (λ (w : Way). GivesValue r (way_result w (rule_zooms (rules_in f rules)) results c.args.zoom)) (sym way)
+    (subst (λ (zs : List ℤ). GivesValue r (way_result even zs results c.args.zoom)) (sym zooms) c.zoom_ramp_value.ensures)
 
 pub returns-else-function : goal.returns-else-function
 returns-else-function c =
@@ -31,6 +31,6 @@ returns-else-function c =
     let zooms : rule_zooms (rules_in f rules) ≡ zooms_seen rules = zooms_of_rules (way_seen f.way) rules in
     let place : c.place_in_force-place.result ≡ count_not_above c.args.zoom (zooms_seen rules) - 1 =
     c.place_in_force-place.ensures.place ∙ ap (λ (zs : List ℤ). count_not_above c.args.zoom zs - 1) c.zooms.ensures.zooms in
-    subst (λ (w : Way). Gives r (way_result w (rule_zooms (rules_in f rules)) results c.args.zoom)) (sym way)
-    (subst (λ (zs : List ℤ). Gives r (step_result zs results c.args.zoom)) (sym zooms)
-    (subst (λ (k : ℕ). Gives r (result_at results k)) place c.zoom_value.ensures))
+    subst (λ (w : Way). GivesValue r (way_result w (rule_zooms (rules_in f rules)) results c.args.zoom)) (sym way)
+    (subst (λ (zs : List ℤ). GivesValue r (step_result zs results c.args.zoom)) (sym zooms)
+    (subst (λ (k : ℕ). GivesValue r (result_at results k)) place c.zoom_value.ensures))

@@ -4,7 +4,7 @@ use Rattle.std.specs.Str.{IsCharBoundary}
 use Rattle.std.specs.String.{string_bytes}
 use Rattle.legacy_functions.specs.TokenSize.{token_size, plain_size}
 use Rattle.legacy_functions.specs.Tokens.{pieces}
-use Rattle.legacy_functions.specs.declared.tokens.Piece.TheVariants.{Plain, Token}
+use Rattle.legacy_functions.specs.declared.tokens.TokenPiece.TheVariants.{Plain, Token}
 use Rattle.legacy_functions.proofs.TokenLaws.{BeginsToken, begins, BeginsPlain, begins_plain, plain_positive, text_added}
 use Rattle.legacy_functions.proofs.tokens.push_first.Goals as goal
 

@@ -3,7 +3,7 @@ use Rattle.std.proofs.lemmas.Str.{IsCharBoundary-after_ascii}
 use Rattle.std.specs.Str.{IsCharBoundary}
 use Rattle.legacy_functions.specs.TokenSize.{token_size, plain_size}
 use Rattle.legacy_functions.specs.Tokens.{pieces}
-use Rattle.legacy_functions.specs.declared.tokens.Piece.TheVariants.{Plain, Token}
+use Rattle.legacy_functions.specs.declared.tokens.TokenPiece.TheVariants.{Plain, Token}
 use Rattle.legacy_functions.proofs.TokenLaws.{BeginsToken, begins, BeginsPlain, begins_plain, plain_positive, piece_added}
 use Rattle.legacy_functions.proofs.tokens.push_piece.Goals as goal
 

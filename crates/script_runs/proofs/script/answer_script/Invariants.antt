@@ -1,7 +1,7 @@
 use Rattle.std.proofs.Common.{◌≡◌, ◌≤◌, ◌+◌, ℕ, List, length}
 use Rattle.std.specs.Prelude.{Option}
-use Rattle.edit_session.specs.View.{presented, tiles_of, IsSound}
-use Rattle.program_runs.specs.Outcome.{Outcome}
+use Rattle.edit_session.specs.View.{session_state, tiles_of, IsSoundSession}
+use Rattle.program_runs.specs.Outcome.{RunOutcome}
 use Rattle.program_runs.specs.Runs.{HasOutcome}
 use Rattle.script_runs.specs.ScriptLines.{script_lines}
 use Rattle.script_runs.specs.ScriptRun.{lines_run, script_run}
@@ -14,13 +14,13 @@ invariant-loop-line g l =
     let can_change = (goal.HostOp-dyn g l.fn.images.now).changes l.fn.images.now.1 in
     let scripts = (goal.HostOp-dyn g l.scripts.now).test l.scripts.now.1 in
     record {
-      sound : IsSound l.session;
+      sound : IsSoundSession l.session;
       tiles : tiles_of l.session ≡ tiles_of l.fn.session;
       changes : (goal.HostOp-dyn g l.images.now).changes l.images.now.1 ≡ can_change;
       counted : l.number + length l.rest ≤ length l.fn.script + 1;
-      leads : (files : List ℕ → Option (List ℕ)) (o : Outcome)
-          → HasOutcome files (lines_run (tiles_of l.fn.session) scripts can_change l.number (presented l.session images) l.out.items l.any (script_lines l.rest)) o
-          → HasOutcome files (script_run (tiles_of l.fn.session) scripts can_change (presented l.fn.session images_first) l.fn.script) o;
+      leads : (files : List ℕ → Option (List ℕ)) (o : RunOutcome)
+          → HasOutcome files (lines_run (tiles_of l.fn.session) scripts can_change l.number (session_state l.session images) l.out.items l.any (script_lines l.rest)) o
+          → HasOutcome files (script_run (tiles_of l.fn.session) scripts can_change (session_state l.fn.session images_first) l.fn.script) o;
     }
 
 abbrev pub decreases-loop-line : goal.decreases-loop-line

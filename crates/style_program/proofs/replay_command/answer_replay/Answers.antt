@@ -4,7 +4,7 @@ use Rattle.program_runs.specs.Progress.{HaltsAt, outcome_of}
 use Rattle.program_runs.specs.Runs.{Run}
 use Rattle.program_runs.proofs.Going.{at_residual}
 use Rattle.style_program.specs.ReplayRun.{replay_run, script_part, edited_run}
-use Rattle.style_program.specs.ShownRun.{ShownStyle, shown_part}
+use Rattle.style_program.specs.ShownRun.{LoadedStyle, load_part}
 use Rattle.style_program.specs.TileRunView.{shown_seen}
 use Rattle.style_program.specs.WordsView.{eval_words, replay_words}
 use Rattle.style_program.proofs.ScriptRuns.{outcome_of_script, script_halts}
@@ -25,7 +25,7 @@ returns-in_err-shown-clause-halt g c =
     let can_change = (goal.HostOp-dyn g c.args.images.now).changes c.args.images.now.1 in
     let scripts = (goal.HostOp-dyn g c.args.scripts.now).test c.args.scripts.now.1 in
     let w = replay_words c.args.request.now in
-    let after : ShownStyle → Run = λ shown. script_part w.script (edited_run w images scripts can_change shown) in
+    let after : LoadedStyle → Run = λ shown. script_part w.script (edited_run w images scripts can_change shown) in
     at_residual (λ h. HaltsAt (g.F.Files.told c.args.files.now) (replay_run w images scripts can_change) _ _ _ _ h)
     c.in_err-shown.field-0.0 c.from_residual.result c.from_residual.ensures.1 (c.in_err-shown.ensures.halt after)
 

@@ -7,13 +7,13 @@ use Rattle.expr_syntax.specs.Operators.{want_of}
 use Rattle.expr_syntax.specs.Term.{nodes}
 use Rattle.expr_syntax.specs.TermView.{term_of}
 use Rattle.expr_syntax.specs.TermView.{weight}
-use Rattle.operator_values.specs.Evaluated.{Gives, then_value}
+use Rattle.operator_values.specs.Evaluated.{GivesValue, then_value}
 use Rattle.halts.specs.declared.halt.Halt.TheVariants.{Fault}
 use Rattle.eval_face.specs.Bindings.{outcomes_of}
 use Rattle.expr_plain.specs.Evaluates.{added, IsBelow}
 use Rattle.expr_plain.specs.Frames.{names_of, promises, scope_size, AreKept}
 use Rattle.expr_plain.specs.Terms.{meanings}
-use Rattle.expr_plain.specs.declared.evaluation.Slot.{Slot}
+use Rattle.expr_plain.specs.declared.evaluation.BindingSlot.{BindingSlot}
 use Rattle.expr_plain.proofs.ArgumentLaws.{after, values_from, one_evaluates, one_halts, two_evaluate, first_halts, second_halts, values_halt, values_more, all_values, argument_evaluates, sequence_evaluates, sequence_halts, deciding_evaluates, deciding_halts, decision_later, undecided, below_one, meanings_length}
 use Rattle.expr_plain.proofs.BranchLaws.{case_by, rest_weight, match_evaluates, ramp_evaluates}
 use Rattle.expr_plain.proofs.BindingLaws.{slot_within, kept_evaluates, binding_evaluates, let_evaluates}
@@ -143,7 +143,7 @@ evaluate_deciding-returns g t c =
     let l = meanings_length c.args.arguments.now in
     let before = c.loop-place.invariant in
     let whole = undecided c.args.op.now (meanings c.args.arguments.now) c.loop-place.place want (names_of frames.scope.now world) world (omega (arith, c.loop-place-test.false)) before.same in
-    given (subst (Gives c.fitted-2.result) (ap (λ x. then_value x (fit want)) c.in_ok-undecided.ensures ∙ whole) c.fitted-2.ensures) before.entered before.stands
+    given (subst (GivesValue c.fitted-2.result) (ap (λ x. then_value x (fit want)) c.in_ok-undecided.ensures ∙ whole) c.fitted-2.ensures) before.entered before.stands
 
 -- What decides between outputs.
 
@@ -192,7 +192,7 @@ evaluate_let-evaluate-evaluated-requires g t c κs within =
     let ss = c.args.self.now.slots.items in
     let n = c.len-count.result in
     let es = take n c.args.arguments.now in
-    let P : List Slot → Type 0 = λ x. AreKept (ps ++ outcomes_of (meanings es) names world) x in
+    let P : List BindingSlot → Type 0 = λ x. AreKept (ps ++ outcomes_of (meanings es) names world) x in
     let d = c.decreases in
     let w = let_weight n c.args.arguments.now c.index-arguments-count.result c.if-arguments-count.false c.index-arguments-count.is in
     let smaller : 6 * nodes (term_of c.index-arguments-count.result) + (2 + 6 * weight es + scope_size frames.scope.now) < t = omega arith in

@@ -1,0 +1,14 @@
+use Rattle.std.proofs.Common.{rules, ◌≡◌, map, subst}
+use Rattle.std.specs.Prelude.{IfErr}
+use Rattle.decimal_json.specs.View.{tree_of}
+use Rattle.program_runs.specs.Progress.{HaltsAt}
+use Rattle.style_program.specs.ShownRun.{sound_or_broken}
+use Rattle.style_rules.specs.CodeView.{finding_seen}
+use Rattle.style_rules.specs.Findings.{findings}
+use Rattle.style_program.proofs.loading.refuse_broken.Goals as goal
+
+pub returns-clause-halt : goal.returns-clause-halt
+returns-clause-halt c =
+    let same : map finding_seen c.as_slice.result.now ≡ findings (tree_of c.args.style.now) = search rules in
+    λ files count failed next. subst (λ f. IfErr c.refuse_found.result (λ h. HaltsAt files (sound_or_broken f next) count count failed failed h)) same
+    (c.refuse_found.ensures.halt files count failed next)

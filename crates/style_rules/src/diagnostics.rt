@@ -1,0 +1,129 @@
+//! What is reported of places, while a document is walked.
+
+ghost use Rattle.std.specs.Prelude.{◌≡◌, [], ◌∷◌, ◌++◌, OnOk, IfOk};
+ghost use Rattle.decimal_json.specs.Place.{path_of};
+ghost use Rattle.style_rules.specs.Findings.{reports_or};
+ghost use Rattle.style_rules.specs.Places.{unless_broken};
+
+use decimal_json::{Here, Path, PathPart, path_to};
+use prop_values::FaultSet;
+use std::alloc::{AllocError, Global};
+use std::marker::Model;
+
+/// What is reported of one place.
+#[derive(Drop)]
+pub(crate) enum Mark {
+    Nothing,
+    /// It breaks this rule, at a path from it.
+    Broken(Path, u8),
+    /// It is outside of what is evaluated.
+    Outside,
+    /// It breaks no rule, and its evaluation may have these faults.
+    Sound(FaultSet),
+}
+
+/// What is reported, and the path of its place.
+#[derive(Drop)]
+pub(crate) enum Diagnostic {
+    Finding(Path, u8),
+    Note(Path),
+    May(Path, FaultSet),
+}
+
+/// What is reported of a document so far.
+#[derive(Drop)]
+pub(crate) struct Diagnostics {
+    pub(crate) all: Vec<Diagnostic>,
+}
+
+impl Model for Diagnostics {
+    ghost use Rattle.std.specs.Prelude.{List};
+    ghost use Rattle.style_rules.specs.declared.diagnostics.Diagnostic.{Diagnostic};
+
+    ghost Value = { List Diagnostic };
+
+    ghost view = { λ a. a.all.items };
+}
+
+impl Diagnostics {
+    pub(crate) fn new(alloc: Global) -> Diagnostics
+        ensures { result ≡ [] }
+    {
+        Diagnostics {
+            all: Vec::new(alloc),
+        }
+    }
+
+    /// Adds what is reported of a place.
+    pub(crate) fn report(
+        &mut self,
+        alloc: Global,
+        here: &Here<'_>,
+        mark: Mark,
+    ) -> Result<(), AllocError>
+        ensures { OnOk result (self.new ≡ self.old ++ reports_or mark (path_of here.now) []) }
+    {
+        match mark {
+            Mark::Nothing => {}
+            Mark::Broken(more, rule) => {
+                let path = path_below(alloc, here, &more)?;
+                self.all.push(Diagnostic::Finding(path, rule))?;
+            }
+            Mark::Outside => self.all.push(Diagnostic::Note(path_to(alloc, here)?))?,
+            Mark::Sound(faults) => self
+                .all
+                .push(Diagnostic::May(path_to(alloc, here)?, faults))?,
+        }
+        Ok(())
+    }
+
+    /// Reports that a place breaks a rule.
+    pub(crate) fn report_broken(
+        &mut self,
+        alloc: Global,
+        here: &Here<'_>,
+        rule: u8,
+    ) -> Result<(), AllocError>
+        ensures { OnOk result (self.new ≡ self.old ++ Diagnostic.Finding (path_of here.now) rule ∷ []) }
+    {
+        let path = path_to(alloc, here)?;
+        self.all.push(Diagnostic::Finding(path, rule))?;
+        Ok(())
+    }
+
+    /// Reports that a place breaks a rule, unless its test holds.
+    pub(crate) fn report_unless(
+        &mut self,
+        alloc: Global,
+        here: &Here<'_>,
+        rule: u8,
+        holds: bool,
+    ) -> Result<(), AllocError>
+        ensures { OnOk result (self.new ≡ self.old ++ reports_or (unless_broken rule holds) (path_of here.now) []) }
+    {
+        if holds {
+            return Ok(());
+        }
+        self.report_broken(alloc, here, rule)
+    }
+}
+
+/// A path from a place, from the root.
+fn path_below(alloc: Global, here: &Here<'_>, more: &Path) -> Result<Path, AllocError>
+    ensures { IfOk result (λ path. path ≡ path_of here.now ++ more.now) }
+{
+    let mut path = path_to(alloc, here)?;
+    for part in more.as_slice() {
+        path.push(copy_of(part)?)?;
+    }
+    Ok(path)
+}
+
+fn copy_of(part: &PathPart) -> Result<PathPart, AllocError>
+    ensures { IfOk result (λ same. same ≡ part.now) }
+{
+    match part {
+        PathPart::Key(key) => Ok(PathPart::Key(key.share()?)),
+        PathPart::Index(index) => Ok(PathPart::Index(*index)),
+    }
+}
