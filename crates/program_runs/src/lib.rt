@@ -13,7 +13,7 @@
 //! the run it leads, and each halt is an outcome of the run, a failed read of a file that the run came to, or
 //! a failed allocation.
 //!
-//! The text to believe is in `specs/`: `RunOutcome`, `Ending`, `Refusals`, `Runs`, `Parts`, `FailedReads`,
+//! The text to believe is in `specs/`: `Outcome`, `Ending`, `Refusals`, `Runs`, `Parts`, `FailedReads`,
 //! `Written`. Law of it: `Laws`.
 #![tactic(auto)]
 
