@@ -13,11 +13,11 @@
 //! thousandth after the point are not counted. Reading takes no memory, and time linear in the text.
 //! `color_text` is the text that `prop_values` writes.
 //!
-//! Definitions, in reading order: `specs/ColorArguments.antt` (spaces, commas, arguments), `specs/ColorNumber.antt`,
+//! Definitions, in reading order: `specs/Parts.antt` (spaces, commas, arguments), `specs/ColorNumber.antt`,
 //! `specs/ColorName.antt`, `specs/HexColor.antt`, `specs/RgbColor.antt`, `specs/HslColor.antt` and
 //! `specs/ColorOf.antt`, which has the whole. Only `color_text` takes memory.
 //!
-//! The text to believe is in `specs/`: `ColorArguments`, `ColorNumber`, `ColorName`, `HexColor`, `RgbColor`,
+//! The text to believe is in `specs/`: `Parts`, `ColorNumber`, `ColorName`, `HexColor`, `RgbColor`,
 //! `HslColor`, `ColorOf`.
 #![tactic(auto)]
 

@@ -8,7 +8,7 @@
 //! Every value that an expression gives under a want is fitted to it (`values_are_fitted`). Two worlds that
 //! agree on what an expression mentions give it one meaning (`agreeing_worlds_give_one_meaning`).
 //!
-//! The text to believe is in `specs/`: `World`, `BoundOutcomes`, `Meanings`, `Lookups`, `Decisions`, `Branches`,
+//! The text to believe is in `specs/`: `World`, `Names`, `Meanings`, `Lookups`, `Decisions`, `Branches`,
 //! `Bindings`, `Sections`, `Rules`, `Meaning`. Laws of it: `Fitted`, `Agreement`, `JoinedContents`.
 #![tactic(auto)]
 
