@@ -125,7 +125,7 @@ fn real_files(rt: HostRuntime) -> Result<(), Fail> {
     let mut sink = HostSink::new(fs::create(&rt, "io_calls/file")?);
     assert!(rt; sink.write(held.as_slice()).is_ok());
     let _ = fs::create(&rt, "io_calls/empty ")?;
-    let mut files = HostFiles::new(&rt);
+    let mut files = HostFiles::new(rt.alloc(), &rt);
     let mut into = Vec::new(rt.alloc());
     let answer = files.read(rt.alloc(), "io_calls/file", 150_000, &mut into);
     assert!(rt; answer == ReadAnswer::Done && into.as_slice() == held.as_slice());

@@ -9,6 +9,8 @@ pub record HostFilesState : Type 0 where
   pub taken : ℕ
   -- the name of the last read that failed
   pub failed : Option (List ℕ)
+  -- the names of the reads, in their order
+  pub asked : List (List ℕ)
 
 -- a `HostSink`
 pub record HostSinkState : Type 0 where

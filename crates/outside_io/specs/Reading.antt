@@ -1,5 +1,5 @@
 -- What the answers of a read say.
-use Rattle.std.specs.Prelude.{◌≡◌, ℕ, ◌<◌, ◌≤◌, List, length, Option, Some, None}
+use Rattle.std.specs.Prelude.{◌≡◌, ◌⊎◌, ℕ, ◌<◌, ◌≤◌, List, [], ◌∷◌, ◌++◌, length, Option, Some, None}
 use Rattle.outside_io.specs.declared.reading.ReadAnswer.{ReadAnswer}
 use Rattle.outside_io.specs.declared.reading.ReadAnswer.TheVariants.{Done, TooLong, Failed, NoMemory}
 use Rattle.outside_io.specs.Counts.{RoseBy}
@@ -52,3 +52,10 @@ IsLongerIfTold (Some told) at_most = at_most < length told
 abbrev pub IsLonger : Option (List ℕ) → ℕ → ℕ → ℕ → Type 0
 IsLonger None at_most old new = RoseBy at_most old new
 IsLonger (Some told) at_most old new = at_most < length told
+
+-- the name was asked, after those before it; a read that failed to allocate may not have come so far
+abbrev pub IsAsked : ReadAnswer → (name : List ℕ) → (old new : List (List ℕ)) → Type 0
+IsAsked Done name old new = new ≡ old ++ name ∷ []
+IsAsked TooLong name old new = new ≡ old ++ name ∷ []
+IsAsked Failed name old new = new ≡ old ++ name ∷ []
+IsAsked NoMemory name old new = (new ≡ old) ⊎ (new ≡ old ++ name ∷ [])

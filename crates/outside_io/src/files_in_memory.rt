@@ -1,9 +1,10 @@
 ghost use Rattle.std.specs.Prelude.{◌≡◌, ◌≢◌, ℕ, ◌≤◌, List, [], Some, None, length, IfOk, OnOk, OnErr};
 ghost use Rattle.outside_io.specs.Counts.{raised, raised_by};
-ghost use Rattle.outside_io.specs.Reading.{OnDone, OnNotDone, OnTooLong, OnFailed, IsContent, IsWithin, IsLonger};
+ghost use Rattle.outside_io.specs.Reading.{OnDone, OnNotDone, OnTooLong, OnFailed, IsAsked, IsContent, IsWithin, IsLonger};
 ghost use Rattle.outside_io.specs.Contents.{no_files, with_file, bytes_of};
 ghost use Rattle.outside_io.specs.FilesState.{read_end, after_read};
 
+use crate::asked_names::AskedNames;
 use crate::named_files::NamedFiles;
 use crate::reading::{Files, ReadAnswer};
 use std::alloc::{AllocError, Global};
@@ -19,6 +20,7 @@ pub struct FilesInMemory {
     faults: u64,
     taken: u64,
     failed: Option<String>,
+    asked: AskedNames,
 }
 
 impl Model for FilesInMemory {
@@ -37,6 +39,7 @@ impl Model for FilesInMemory {
       faults = s.faults;
       taken = s.taken;
       failed = option_map string_bytes s.failed;
+      asked = s.asked;
     } };
 }
 
@@ -45,7 +48,7 @@ impl FilesInMemory {
     /// allocate is not counted.
     pub fn new(alloc: Global, fails: &[u64]) -> Result<FilesInMemory, AllocError>
         ensures state { IfOk result (λ made. made ≡
-            record { files = no_files; fails = fails.now; reads = 0; faults = 0; taken = 0; failed = None }) }
+            record { files = no_files; fails = fails.now; reads = 0; faults = 0; taken = 0; failed = None; asked = [] }) }
         ensures told { IfOk result (λ made. (name : List ℕ) → bytes_of made.files name ≡ None) }
     {
         let fails = Vec::from_slice(alloc, fails)?;
@@ -56,6 +59,7 @@ impl FilesInMemory {
             faults: 0,
             taken: 0,
             failed: None,
+            asked: AskedNames::new(alloc),
         })
     }
 
@@ -81,6 +85,8 @@ impl Files for FilesInMemory {
 
     ghost failed = { λ s. s.failed };
 
+    ghost asked = { λ s. s.asked };
+
     fn read(&mut self, alloc: Global, name: &str, at_most: usize, into: &mut Vec<u8>) -> ReadAnswer
         requires { into.old.items ≡ [] }
 
@@ -92,6 +98,8 @@ impl Files for FilesInMemory {
         ensures told { bytes_of self.new.files ≡ bytes_of self.old.files }
         ensures taken { self.old.taken ≤ self.new.taken }
         ensures counted { OnDone result (self.new.taken ≡ raised_by (length into.new.items) self.old.taken) }
+
+        ensures asked { IsAsked result name.now self.old.asked self.new.asked }
 
         ensures content { OnDone result (IsContent (bytes_of self.old.files name.now) into.new.items) }
         ensures length { length into.new.items ≤ at_most }
@@ -114,15 +122,19 @@ impl Files for FilesInMemory {
         let Some(bytes) = self.files.get(name) else {
             return self.fail(alloc, name);
         };
-        if bytes.len() > at_most {
-            self.reads = self.reads.saturating_add(1);
-            return ReadAnswer::TooLong;
-        }
-        if into.extend_from_slice(bytes.as_slice()).is_err() {
+        let length = bytes.len();
+        if length <= at_most && into.extend_from_slice(bytes.as_slice()).is_err() {
             return ReadAnswer::NoMemory;
         }
-        self.taken = self.taken.saturating_add(bytes.len() as u64);
+        if self.asked.push(alloc, name).is_err() {
+            into.clear();
+            return ReadAnswer::NoMemory;
+        }
         self.reads = self.reads.saturating_add(1);
+        if length > at_most {
+            return ReadAnswer::TooLong;
+        }
+        self.taken = self.taken.saturating_add(length as u64);
         ReadAnswer::Done
     }
 }
@@ -134,12 +146,15 @@ impl FilesInMemory {
         ensures after { self.new ≡ after_read self.old name.now result }
         ensures not_done { result ≢ ReadAnswer.Done }
     {
-        let Ok(name) = String::from_str(alloc, name) else {
+        let Ok(name_kept) = String::from_str(alloc, name) else {
             return ReadAnswer::NoMemory;
         };
+        if self.asked.push(alloc, name).is_err() {
+            return ReadAnswer::NoMemory;
+        }
         self.reads = self.reads.saturating_add(1);
         self.faults = self.faults.saturating_add(1);
-        self.failed = Some(name);
+        self.failed = Some(name_kept);
         ReadAnswer::Failed
     }
 }

@@ -4,6 +4,7 @@ ghost use Rattle.std.specs.Io.KnownBytes.{Consumes, IsAtEnd};
 ghost use Rattle.outside_io.specs.Counts.{RoseBy, raised, raised_by};
 ghost use Rattle.outside_io.specs.Reading.{OnDone, OnNotDone, OnTooLong, IsContent, IsLongerIfTold};
 
+use crate::asked_names::AskedNames;
 use crate::reading::{Files, ReadAnswer};
 use std::alloc::Global;
 use std::io::{self, Read};
@@ -20,6 +21,7 @@ pub struct HostFiles<'a, R: rt::Files> {
     faults: u64,
     taken: u64,
     failed: Option<String>,
+    asked: AskedNames,
 }
 
 impl<'a, R: rt::Files> Model for HostFiles<'a, R> {
@@ -33,19 +35,21 @@ impl<'a, R: rt::Files> Model for HostFiles<'a, R> {
       faults = s.faults;
       taken = s.taken;
       failed = option_map string_bytes s.failed;
+      asked = s.asked;
     } };
 }
 
 impl<'a, R: rt::Files> HostFiles<'a, R> {
     /// The files that this runtime reaches.
-    pub fn new(rt: &'a R) -> HostFiles<'a, R>
-        ensures { result ≡ record { faults = 0; taken = 0; failed = None } }
+    pub fn new(alloc: Global, rt: &'a R) -> HostFiles<'a, R>
+        ensures { result ≡ record { faults = 0; taken = 0; failed = None; asked = [] } }
     {
         HostFiles {
             rt,
             faults: 0,
             taken: 0,
             failed: None,
+            asked: AskedNames::new(alloc),
         }
     }
 }
@@ -59,6 +63,8 @@ impl<R: rt::Files> Files for HostFiles<'_, R> {
 
     ghost failed = { λ s. s.failed };
 
+    ghost asked = { λ s. s.asked };
+
     fn read(
         &mut self,
         alloc: Global,
@@ -69,6 +75,9 @@ impl<R: rt::Files> Files for HostFiles<'_, R> {
         let Ok(name_kept) = String::from_str(alloc, name) else {
             return ReadAnswer::NoMemory;
         };
+        if self.asked.push(alloc, name).is_err() {
+            return ReadAnswer::NoMemory;
+        }
         let Ok(mut file) = fs::open(self.rt, name) else {
             return self.fail(name_kept);
         };

@@ -20,6 +20,8 @@
 //!   it more.
 //! - A read or a write that fails raises the count of faults by one, and no other does, so that whoever sees
 //!   a failure can show its cause, and a count that did not change shows that nothing failed.
+//! - Each read adds its name to the names that were asked, so that whoever reads can promise which files, in which
+//!   order, and how often.
 //! - [`FilesInMemory`], [`SureFiles`] and [`SinkInMemory`] have known bytes; what each call does to them is
 //!   given exactly.
 //! - [`HostFiles`] and [`HostSink`] reach real files and streams. Their bytes are unknown: they are the edge
@@ -30,6 +32,7 @@
 //! `SinkState`, `HostState`.
 #![tactic(auto)]
 
+mod asked_names;
 mod counter;
 mod files_in_memory;
 mod host_files;

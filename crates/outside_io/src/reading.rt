@@ -1,6 +1,6 @@
 ghost use Rattle.std.specs.Prelude.{◌≡◌, ℕ, ◌≤◌, List, [], Option, Some, length};
 ghost use Rattle.outside_io.specs.Counts.{raised, raised_by};
-ghost use Rattle.outside_io.specs.Reading.{OnDone, OnNotDone, OnTooLong, OnFailed, IsContent, IsWithin, IsLonger};
+ghost use Rattle.outside_io.specs.Reading.{OnDone, OnNotDone, OnTooLong, OnFailed, IsAsked, IsContent, IsWithin, IsLonger};
 
 use std::alloc::Global;
 
@@ -31,6 +31,9 @@ pub trait Files {
     /// The name of the last read that failed.
     ghost failed: { Self → Option (List ℕ) };
 
+    /// The names of the reads so far, in their order.
+    ghost asked: { Self → List (List ℕ) };
+
     /// Reads the whole file of this name into an empty vector, if it has at most `at_most` bytes. The vector
     /// stays empty after every answer but `Done`.
     fn read(&mut self, alloc: Global, name: &str, at_most: usize, into: &mut Vec<u8>) -> ReadAnswer
@@ -41,6 +44,9 @@ pub trait Files {
         ensures taken { taken self.old ≤ taken self.new }
         ensures counted { OnDone result
             (taken self.new ≡ raised_by (length into.new.items) (taken self.old)) }
+
+        // Each read adds its name, once.
+        ensures asked { IsAsked result name.now (asked self.old) (asked self.new) }
 
         ensures content { OnDone result (IsContent (told self.old name.now) into.new.items) }
         ensures length { length into.new.items ≤ at_most }

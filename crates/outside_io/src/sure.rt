@@ -1,9 +1,10 @@
 ghost use Rattle.std.specs.Prelude.{◌≡◌, ◌≢◌, ℕ, ◌≤◌, List, [], None, length, OnOk, OnErr};
 ghost use Rattle.outside_io.specs.Counts.{raised_by};
-ghost use Rattle.outside_io.specs.Reading.{OnDone, OnNotDone, OnTooLong, IsContent, IsWithin, IsLonger};
+ghost use Rattle.outside_io.specs.Reading.{OnDone, OnNotDone, OnTooLong, IsAsked, IsContent, IsWithin, IsLonger};
 ghost use Rattle.outside_io.specs.Contents.{no_files, with_file};
 ghost use Rattle.outside_io.specs.FilesState.{sure_bytes_of, told_of, sure_read_end, after_sure_read};
 
+use crate::asked_names::AskedNames;
 use crate::named_files::NamedFiles;
 use crate::reading::{Files, ReadAnswer};
 use crate::writing::{Sink, SinkFailed};
@@ -15,6 +16,7 @@ use std::marker::Model;
 pub struct SureFiles {
     files: NamedFiles,
     taken: u64,
+    asked: AskedNames,
 }
 
 impl Model for SureFiles {
@@ -24,18 +26,19 @@ impl Model for SureFiles {
 
     ghost coded = { sure_state_code };
 
-    ghost view = { λ s. record { files = s.files; taken = s.taken } };
+    ghost view = { λ s. record { files = s.files; taken = s.taken; asked = s.asked } };
 }
 
 impl SureFiles {
     /// No files.
     pub fn new(alloc: Global) -> SureFiles
-        ensures state { result ≡ record { files = no_files; taken = 0 } }
+        ensures state { result ≡ record { files = no_files; taken = 0; asked = [] } }
         ensures told { (name : List ℕ) → sure_bytes_of result.files name ≡ [] }
     {
         SureFiles {
             files: NamedFiles::new(alloc),
             taken: 0,
+            asked: AskedNames::new(alloc),
         }
     }
 
@@ -63,7 +66,9 @@ impl Files for SureFiles {
 
     ghost failed = { λ _. None };
 
-    fn read(&mut self, _alloc: Global, name: &str, at_most: usize, into: &mut Vec<u8>) -> ReadAnswer
+    ghost asked = { λ s. s.asked };
+
+    fn read(&mut self, alloc: Global, name: &str, at_most: usize, into: &mut Vec<u8>) -> ReadAnswer
         requires { into.old.items ≡ [] }
 
         // How it ends and what it leaves is exact. When allocation fails the files are as they were.
@@ -75,6 +80,8 @@ impl Files for SureFiles {
         ensures taken { self.old.taken ≤ self.new.taken }
         ensures counted { OnDone result (self.new.taken ≡ raised_by (length into.new.items) self.old.taken) }
 
+        ensures asked { IsAsked result name.now self.old.asked self.new.asked }
+
         ensures content { OnDone result (IsContent (told_of self.old name.now) into.new.items) }
         ensures length { length into.new.items ≤ at_most }
         ensures empty { OnNotDone result (into.new.items ≡ []) }
@@ -85,13 +92,18 @@ impl Files for SureFiles {
         ensures sure { result ≢ ReadAnswer.Failed }
     {
         let bytes = self.bytes(name);
-        if bytes.len() > at_most {
-            return ReadAnswer::TooLong;
-        }
-        if into.extend_from_slice(bytes).is_err() {
+        let length = bytes.len();
+        if length <= at_most && into.extend_from_slice(bytes).is_err() {
             return ReadAnswer::NoMemory;
         }
-        self.taken = self.taken.saturating_add(bytes.len() as u64);
+        if self.asked.push(alloc, name).is_err() {
+            into.clear();
+            return ReadAnswer::NoMemory;
+        }
+        if length > at_most {
+            return ReadAnswer::TooLong;
+        }
+        self.taken = self.taken.saturating_add(length as u64);
         ReadAnswer::Done
     }
 }

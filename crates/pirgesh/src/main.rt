@@ -46,7 +46,7 @@ fn run_counted<L: Ledger>(rt: &HostRuntime, words: &[String], blank: Blank) -> S
     requires some { 0 < blank.parts }
 {
     let alloc = rt.alloc();
-    let mut files = HostFiles::new(rt);
+    let mut files = HostFiles::new(alloc, rt);
     let mut out = HostSink::new(rt.stdout());
     let mut err = HostSink::new(rt.stderr());
     let mut steps: Steps<L> = Steps::new(blank);

@@ -1,3 +1,4 @@
 pub mod RunLaws
 pub mod Going
 pub mod Fronts
+pub mod Asked

@@ -1,5 +1,5 @@
 -- No run has two outcomes, by recursion over runs.
-use Rattle.std.specs.Prelude.{◌≡◌, ℕ, ◌≤◌, List, length, true, is_some, Option, Some, None}
+use Rattle.std.specs.Prelude.{◌≡◌, ℕ, ◌≤◌, List, [], ◌∷◌, ◌++◌, length, true, is_some, Option, Some, None}
 use Rattle.std.proofs.Common.{sym, ap, subst, ◌∙◌, inl, inr, arith}
 use Rattle.outside_io.specs.Reading.{IsContent, IsLongerIfTold}
 use Rattle.json_tokens.specs.Rules.{all_rules}
@@ -26,20 +26,21 @@ one_content None a b told p q = absurd (cc)
 one_content (Some c) a b told p q = p ∙ sym q
 
 pub one_outcome : EachRunHasOneOutcome
-one_outcome files (ends made) told o p d e = d ∙ sym e
-one_outcome files (reads longer name limit after) told o p (inl a) (inl b) = a.1 ∙ sym b.1
-one_outcome files (reads longer name limit after) told o p (inl a) (inr (bytes, is, e)) = absurd (not_both (files name) limit bytes told.0 a.0 is.0 is.1)
-one_outcome files (reads longer name limit after) told o p (inr (bytes, is, d)) (inl b) = absurd (not_both (files name) limit bytes told.0 b.0 is.0 is.1)
-one_outcome files (reads longer name limit after) told o p (inr (bytes, is, d)) (inr (others, are, e)) =
-    one_outcome files (after bytes) (told.1 bytes is) o p d (subst (λ x. HasOutcome files (after x) p) (one_content (files name) others bytes told.0 are.0 is.0) e)
-one_outcome files (parses what bytes after) told o p (inl (s, spells, d)) (inl (t, also, e)) =
-    one_outcome files (after s) (told s spells) o p d (subst (λ x. HasOutcome files (after x) p) (one_tree all_rules bytes t s also spells) e)
-one_outcome files (parses what bytes after) told o p (inl (s, spells, d)) (inr (kind, at, none, place, cause, e)) = absurd (none (s, spells))
-one_outcome files (parses what bytes after) told o p (inr (kind, at, none, place, cause, d)) (inl (t, also, e)) = absurd (none (t, also))
-one_outcome files (parses what bytes after) told o p (inr (kind, at, none, place, cause, d)) (inr (other, there, neither, also, reason, e)) =
-    d ∙ (one_refusal what bytes kind other at there place cause also reason ∙ sym e)
-one_outcome files (may_parse bytes after) told o p (inl (s, spells, d)) (inl (t, also, e)) =
-    one_outcome files (after (Some s)) (told.0 s spells) o p d (subst (λ x. HasOutcome files (after (Some x)) p) (one_tree all_rules bytes t s also spells) e)
-one_outcome files (may_parse bytes after) told o p (inl (s, spells, d)) (inr (none, e)) = absurd (none (s, spells))
-one_outcome files (may_parse bytes after) told o p (inr (none, d)) (inl (t, also, e)) = absurd (none (t, also))
-one_outcome files (may_parse bytes after) told o p (inr (none, d)) (inr (neither, e)) = one_outcome files (after None) (told.1 none) o p d e
+one_outcome files (ends made) told x y z o p d e = (d.0 ∙ sym e.0, d.1 ∙ sym e.1)
+one_outcome files (reads longer name limit after) told x y z o p (inl a) (inl b) = (a.1 ∙ sym b.1, a.2 ∙ sym b.2)
+one_outcome files (reads longer name limit after) told x y z o p (inl a) (inr (bytes, is, e)) = absurd (not_both (files name) limit bytes told.0 a.0 is.0 is.1)
+one_outcome files (reads longer name limit after) told x y z o p (inr (bytes, is, d)) (inl b) = absurd (not_both (files name) limit bytes told.0 b.0 is.0 is.1)
+one_outcome files (reads longer name limit after) told x y z o p (inr (bytes, is, d)) (inr (others, are, e)) =
+    one_outcome files (after bytes) (told.1 bytes is) (x ++ name ∷ []) y z o p d
+    (subst (λ b. HasOutcome files (after b) (x ++ name ∷ []) z p) (one_content (files name) others bytes told.0 are.0 is.0) e)
+one_outcome files (parses what bytes after) told x y z o p (inl (s, spells, d)) (inl (t, also, e)) =
+    one_outcome files (after s) (told s spells) x y z o p d (subst (λ u. HasOutcome files (after u) x z p) (one_tree all_rules bytes t s also spells) e)
+one_outcome files (parses what bytes after) told x y z o p (inl (s, spells, d)) (inr (kind, at, none, place, cause, made, same)) = absurd (none (s, spells))
+one_outcome files (parses what bytes after) told x y z o p (inr (kind, at, none, place, cause, made, same)) (inl (t, also, e)) = absurd (none (t, also))
+one_outcome files (parses what bytes after) told x y z o p (inr (kind, at, none, place, cause, made, same)) (inr (other, there, neither, also, reason, makes, alike)) =
+    (made ∙ (one_refusal what bytes kind other at there place cause also reason ∙ sym makes), same ∙ sym alike)
+one_outcome files (may_parse bytes after) told x y z o p (inl (s, spells, d)) (inl (t, also, e)) =
+    one_outcome files (after (Some s)) (told.0 s spells) x y z o p d (subst (λ u. HasOutcome files (after (Some u)) x z p) (one_tree all_rules bytes t s also spells) e)
+one_outcome files (may_parse bytes after) told x y z o p (inl (s, spells, d)) (inr (none, e)) = absurd (none (s, spells))
+one_outcome files (may_parse bytes after) told x y z o p (inr (none, d)) (inl (t, also, e)) = absurd (none (t, also))
+one_outcome files (may_parse bytes after) told x y z o p (inr (none, d)) (inr (neither, e)) = one_outcome files (after None) (told.1 none) x y z o p d e

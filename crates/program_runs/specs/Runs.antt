@@ -1,5 +1,5 @@
 -- A run as data: what is read, in its order, and what comes of the bytes that were read.
-use Rattle.std.specs.Prelude.{◌≡◌, ℕ, ◌≤◌, List, length, true, is_some, Option, Some, None, ◌⊎◌}
+use Rattle.std.specs.Prelude.{◌≡◌, ℕ, ◌≤◌, List, [], ◌∷◌, ◌++◌, length, true, is_some, Option, Some, None, ◌⊎◌}
 use Rattle.outside_io.specs.Reading.{IsContent, IsLongerIfTold}
 use Rattle.json_tokens.specs.Rules.{all_rules}
 use Rattle.json_tokens.specs.declared.kind.JsonKind.{JsonKind}
@@ -24,19 +24,32 @@ module _ (files : List ℕ → Option (List ℕ)) where
   abbrev pub IsFile : (name : List ℕ) (limit : ℕ) → List ℕ → Type 0
   IsFile name limit bytes = IsContent (files name) bytes × (length bytes ≤ limit)
 
-  -- An outcome of the run by the known contents of files. Of a file whose contents are unknown some bytes
-  -- serve. Bytes that are no JSON text have one fault, which is reported.
-  abbrev pub HasOutcome : Run → RunOutcome → Type 0
-  HasOutcome (ends made) o = o ≡ made
-  HasOutcome (reads longer name limit after) o =
-      (IsLongerIfTold (files name) limit × (o ≡ longer))
-      ⊎ ((bytes : List ℕ) × IsFile name limit bytes × HasOutcome (after bytes) o)
-  HasOutcome (parses what bytes after) o =
-      ((t : Tree) × Spells all_rules bytes t × HasOutcome (after t) o)
-      ⊎ ((kind : JsonKind) × (at : ℕ) × (IsAccepted all_rules bytes → ⊥) × IsPlace bytes at × IsKind kind bytes at × (o ≡ no_json what kind at))
-  HasOutcome (may_parse bytes after) o =
-      ((t : Tree) × Spells all_rules bytes t × HasOutcome (after (Some t)) o)
-      ⊎ ((IsAccepted all_rules bytes → ⊥) × HasOutcome (after None) o)
+  -- An outcome of the run by the known contents of files, from the names of the files that were read before it to those that were read
+  -- after it, in their order. Of a file whose contents are unknown some bytes serve. Bytes that are no JSON text have one fault, which is
+  -- reported.
+  abbrev pub HasOutcome : Run → (before after : List (List ℕ)) → RunOutcome → Type 0
+  HasOutcome (ends made) asked all o = (o ≡ made) × (all ≡ asked)
+  HasOutcome (reads longer name limit after) asked all o =
+      (IsLongerIfTold (files name) limit × (o ≡ longer) × (all ≡ asked ++ name ∷ []))
+      ⊎ ((bytes : List ℕ) × IsFile name limit bytes × HasOutcome (after bytes) (asked ++ name ∷ []) all o)
+  HasOutcome (parses what bytes after) asked all o =
+      ((t : Tree) × Spells all_rules bytes t × HasOutcome (after t) asked all o)
+      ⊎ ((kind : JsonKind) × (at : ℕ) × (IsAccepted all_rules bytes → ⊥) × IsPlace bytes at × IsKind kind bytes at
+      × (o ≡ no_json what kind at) × (all ≡ asked))
+  HasOutcome (may_parse bytes after) asked all o =
+      ((t : Tree) × Spells all_rules bytes t × HasOutcome (after (Some t)) asked all o)
+      ⊎ ((IsAccepted all_rules bytes → ⊥) × HasOutcome (after None) asked all o)
+
+  -- the run, which may have come to its end or not, has read the files of these names, in their order, after those before
+  abbrev pub HasAsked : Run → (before now : List (List ℕ)) → Type 0
+  HasAsked (ends made) asked now = now ≡ asked
+  HasAsked (reads longer name limit after) asked now =
+      (now ≡ asked) ⊎ ((now ≡ asked ++ name ∷ []) ⊎ ((bytes : List ℕ) × IsFile name limit bytes × HasAsked (after bytes) (asked ++ name ∷ []) now))
+  HasAsked (parses what bytes after) asked now = (now ≡ asked) ⊎ ((t : Tree) × Spells all_rules bytes t × HasAsked (after t) asked now)
+  HasAsked (may_parse bytes after) asked now =
+      (now ≡ asked)
+      ⊎ (((t : Tree) × Spells all_rules bytes t × HasAsked (after (Some t)) asked now)
+      ⊎ ((IsAccepted all_rules bytes → ⊥) × HasAsked (after None) asked now))
 
   -- the contents of every file that the run comes to read are known
   abbrev pub AreTold : Run → Type 0
@@ -45,15 +58,6 @@ module _ (files : List ℕ → Option (List ℕ)) where
   AreTold (parses what bytes after) = (t : Tree) → Spells all_rules bytes t → AreTold (after t)
   AreTold (may_parse bytes after) =
       ((t : Tree) → Spells all_rules bytes t → AreTold (after (Some t))) × ((IsAccepted all_rules bytes → ⊥) → AreTold (after None))
-
-  -- the run comes to read the file of this name
-  abbrev pub IsReached : Run → List ℕ → Type 0
-  IsReached (ends made) name = ⊥
-  IsReached (reads longer first limit after) name = (name ≡ first) ⊎ ((bytes : List ℕ) × IsFile first limit bytes × IsReached (after bytes) name)
-  IsReached (parses what bytes after) name = (t : Tree) × Spells all_rules bytes t × IsReached (after t) name
-  IsReached (may_parse bytes after) name =
-      ((t : Tree) × Spells all_rules bytes t × IsReached (after (Some t)) name)
-      ⊎ ((IsAccepted all_rules bytes → ⊥) × IsReached (after None) name)
 
 -- the run reads no file
 abbrev pub IsFileless : Run → Type 0

@@ -33,36 +33,37 @@ HasNoOutcome _ = ⊥
 abbrev pub EndsAtFailedRead : Status → (old new : ℕ) → (failed_old failed_new : Option (List ℕ)) → Type 0
 EndsAtFailedRead answer old new failed_old failed_new = NoneFailed old new failed_old failed_new ⊎ ((new ≡ raised old) × HasNoOutcome answer)
 
-module _ (files : List ℕ → Option (List ℕ)) (run : Run) where
+-- over the names that were read before the run and after it
+module _ (files : List ℕ → Option (List ℕ)) (run : Run) (asked_old asked_new : List (List ℕ)) where
   -- the run has an outcome, both its texts were written whole, and the status is its own
   pub record Completes (answer : Status) (out_old out_new err_old err_new : Option (List ℕ)) : Type 0 where
     pub outcome : RunOutcome
-    pub defined : HasOutcome files run outcome
+    pub defined : HasOutcome files run asked_old asked_new outcome
     pub status : answer ≡ status_of outcome.ending
     pub out : Gains out_old out_new outcome.out
     pub err : Gains err_old err_new outcome.err
 
   -- what out holds more is a prefix of the out text, where the contents of files are known
   pub record OutFront (old new : Option (List ℕ)) : Type 0 where
-    pub front : (o : RunOutcome) → AreTold files run → HasOutcome files run o → GainsPrefix old new o.out
+    pub front : (all : List (List ℕ)) (o : RunOutcome) → AreTold files run → HasOutcome files run asked_old all o → GainsPrefix old new o.out
 
   -- What err holds more is a prefix of the err text, where the contents of files are known; or, where a read
   -- failed, of the line that says so. The first three arguments are the count of failed reads before and
   -- after, and the name of the last of them.
   pub record ErrFront (reads_old reads_new : ℕ) (failed : Option (List ℕ)) (old new : Option (List ℕ)) : Type 0 where
     pub front :
-        ((o : RunOutcome) → AreTold files run → HasOutcome files run o → GainsPrefix old new o.err)
-        ⊎ ((name : List ℕ) × ReadFails files run reads_old reads_new failed name × GainsPrefix old new (unread_line name))
+        ((all : List (List ℕ)) (o : RunOutcome) → AreTold files run → HasOutcome files run asked_old all o → GainsPrefix old new o.err)
+        ⊎ ((name : List ℕ) × ReadFails files run reads_old reads_new failed asked_old asked_new name × GainsPrefix old new (unread_line name))
 
   -- an out text is due: the run has an outcome with one
   abbrev pub OutTextIsDue : Type 0
-  OutTextIsDue = (o : RunOutcome) × HasOutcome files run o × (0 < length o.out)
+  OutTextIsDue = (o : RunOutcome) × HasOutcome files run asked_old asked_new o × (0 < length o.out)
 
   -- an err line is due: the run has an outcome with one, or a read failed
   abbrev pub ErrLineIsDue : ℕ → ℕ → Option (List ℕ) → Type 0
   ErrLineIsDue reads_old reads_new failed =
-      ((o : RunOutcome) × HasOutcome files run o × (0 < length o.err))
-      ⊎ ((name : List ℕ) × ReadFails files run reads_old reads_new failed name)
+      ((o : RunOutcome) × HasOutcome files run asked_old asked_new o × (0 < length o.err))
+      ⊎ ((name : List ℕ) × ReadFails files run reads_old reads_new failed asked_old asked_new name)
 
   -- One write failed: of out while an out text was due, or of err while an err line was due. Its count of
   -- faults was raised by one, and that of the other is as it was.

@@ -7,7 +7,7 @@
 //! ```
 //!
 //! What is promised: a run is one value of `Run` in `specs/Runs.antt`: it ends with an outcome, or reads a
-//! file and goes on, or parses bytes and goes on. What an outcome of it is, which files it comes to read, and
+//! file and goes on, or parses bytes and goes on. What an outcome of it is, which files it has read by then, and
 //! what has to be known of them for it to be certain are said once, by recursion on that value, and no run
 //! has two outcomes (`each_run_has_one_outcome`). Each call here that reads something says to which rest of
 //! the run it leads, and each halt is an outcome of the run, a failed read of a file that the run came to, or

@@ -27,9 +27,10 @@ pub fn read_file<'a, F: Files>(
 ) -> Result<Vec<u8>, RunHalt<'a>>
     ensures told { F.told files.new ≡ F.told files.old }
     ensures failed { OnOk result (NoneFailed (F.faults files.old) (F.faults files.new) (F.failed files.old) (F.failed files.new)) }
-    ensures on { IfOk result (λ bytes. GoesOn (F.told files.old) (reads (too_long (subject_text what.now) (subject_number what.now)) name.now at_most) bytes.items) }
+    ensures on { IfOk result (λ bytes. GoesOn (F.told files.old) (reads (too_long (subject_text what.now) (subject_number what.now)) name.now at_most)
+        (F.asked files.old) (F.asked files.new) bytes.items) }
     ensures halt { IfErr result (λ halt. Halts (F.told files.old) (reads (too_long (subject_text what.now) (subject_number what.now)) name.now at_most)
-        (F.faults files.old) (F.faults files.new) (F.failed files.old) (F.failed files.new) halt) }
+        (F.faults files.old) (F.faults files.new) (F.failed files.old) (F.failed files.new) (F.asked files.old) (F.asked files.new) halt) }
 {
     let mut bytes = Vec::new(alloc);
     match files.read(alloc, name, at_most, &mut bytes) {
@@ -42,10 +43,10 @@ pub fn read_file<'a, F: Files>(
 
 /// The JSON text that these bytes are.
 pub fn parse_json<'a>(alloc: Global, what: &Subject<'_>, bytes: &[u8]) -> Result<Json, RunHalt<'a>>
-    ensures on { (files : List ℕ → Option (List ℕ)) →
-        IfOk result (λ json. GoesOn files (parses (subject_text what.now) bytes.now) (tree_of json)) }
-    ensures halt { (files : List ℕ → Option (List ℕ)) (count : ℕ) (failed : Option (List ℕ)) →
-        IfErr result (λ halt. Halts files (parses (subject_text what.now) bytes.now) count count failed failed halt) }
+    ensures on { (files : List ℕ → Option (List ℕ)) (asked : List (List ℕ)) →
+        IfOk result (λ json. GoesOn files (parses (subject_text what.now) bytes.now) asked asked (tree_of json)) }
+    ensures halt { (files : List ℕ → Option (List ℕ)) (count : ℕ) (failed : Option (List ℕ)) (asked : List (List ℕ)) →
+        IfErr result (λ halt. Halts files (parses (subject_text what.now) bytes.now) count count failed failed asked asked halt) }
 {
     json_or_refusal(alloc, what, parse(alloc, bytes)?)
 }
@@ -60,9 +61,10 @@ pub fn read_json<'a, F: Files>(
 ) -> Result<Json, RunHalt<'a>>
     ensures told { F.told files.new ≡ F.told files.old }
     ensures failed { OnOk result (NoneFailed (F.faults files.old) (F.faults files.new) (F.failed files.old) (F.failed files.new)) }
-    ensures on { IfOk result (λ json. GoesOn (F.told files.old) (json_part (subject_text what.now) (subject_number what.now) name.now at_most) (tree_of json)) }
+    ensures on { IfOk result (λ json. GoesOn (F.told files.old) (json_part (subject_text what.now) (subject_number what.now) name.now at_most)
+        (F.asked files.old) (F.asked files.new) (tree_of json)) }
     ensures halt { IfErr result (λ halt. Halts (F.told files.old) (json_part (subject_text what.now) (subject_number what.now) name.now at_most)
-        (F.faults files.old) (F.faults files.new) (F.failed files.old) (F.failed files.new) halt) }
+        (F.faults files.old) (F.faults files.new) (F.failed files.old) (F.failed files.new) (F.asked files.old) (F.asked files.new) halt) }
 {
     let bytes = read_file(alloc, what, name, at_most, files)?;
     json_or_refusal(alloc, what, parse_owned(alloc, bytes)?)
@@ -74,10 +76,10 @@ fn json_or_refusal<'a>(
     what: &Subject<'_>,
     parsed: Result<Json, JsonFault>,
 ) -> Result<Json, RunHalt<'a>>
-    ensures on { (files : List ℕ → Option (List ℕ)) (bytes : List ℕ) → Parses bytes parsed →
-        IfOk result (λ json. GoesOn files (parses (subject_text what.now) bytes) (tree_of json)) }
-    ensures halt { (files : List ℕ → Option (List ℕ)) (bytes : List ℕ) (count : ℕ) (failed : Option (List ℕ)) → Parses bytes parsed →
-        IfErr result (λ halt. Halts files (parses (subject_text what.now) bytes) count count failed failed halt) }
+    ensures on { (files : List ℕ → Option (List ℕ)) (bytes : List ℕ) (asked : List (List ℕ)) → Parses bytes parsed →
+        IfOk result (λ json. GoesOn files (parses (subject_text what.now) bytes) asked asked (tree_of json)) }
+    ensures halt { (files : List ℕ → Option (List ℕ)) (bytes : List ℕ) (count : ℕ) (failed : Option (List ℕ)) (asked : List (List ℕ)) → Parses bytes parsed →
+        IfErr result (λ halt. Halts files (parses (subject_text what.now) bytes) count count failed failed asked asked halt) }
 {
     match parsed {
         Ok(json) => Ok(json),

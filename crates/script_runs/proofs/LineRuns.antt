@@ -12,39 +12,39 @@ use Rattle.script_runs.specs.AnswerTexts.{fault_name, refused_line, reply_text, 
 use Rattle.script_runs.specs.ScriptRun.{LineOut, line_out, lines_run, replied}
 use Rattle.style_layout.specs.Shown.{SourceTile}
 
-module _ (files : List ℕ → Option (List ℕ)) (tiles : List SourceTile) (scripts : List ℕ → Bool) (can_change : Bool) (number : ℕ) (p : SessionState) (out : List ℕ) (any : Bool) (lines : List (List ℕ)) (o : RunOutcome) where
+module _ (files : List ℕ → Option (List ℕ)) (tiles : List SourceTile) (scripts : List ℕ → Bool) (can_change : Bool) (number : ℕ) (p : SessionState) (out : List ℕ) (any : Bool) (lines : List (List ℕ)) (asked all : List (List ℕ)) (o : RunOutcome) where
   -- the run after a line
   abbrev next_run : LineOut → Run
   next_run l = lines_run tiles scripts can_change (number + 1) l.after (out ++ l.text) (any || l.is_refused) lines
 
-  behind_line : (line : List ℕ) (read : Result Edit LineFault) → AnswersLine line read → HasOutcome files (next_run (line_out tiles scripts can_change number p read)) o
-      → HasOutcome files (lines_run tiles scripts can_change number p out any (line ∷ lines)) o
-  behind_line line read (inl (t, spells, e)) made = inl (t, spells, subst (λ r. HasOutcome files (next_run (line_out tiles scripts can_change number p r)) o) e made)
-  behind_line line read (inr (none, e)) made = inr (none, subst (λ r. HasOutcome files (next_run (line_out tiles scripts can_change number p r)) o) e made)
+  behind_line : (line : List ℕ) (read : Result Edit LineFault) → AnswersLine line read → HasOutcome files (next_run (line_out tiles scripts can_change number p read)) asked all o
+      → HasOutcome files (lines_run tiles scripts can_change number p out any (line ∷ lines)) asked all o
+  behind_line line read (inl (t, spells, e)) made = inl (t, spells, subst (λ r. HasOutcome files (next_run (line_out tiles scripts can_change number p r)) asked all o) e made)
+  behind_line line read (inr (none, e)) made = inr (none, subst (λ r. HasOutcome files (next_run (line_out tiles scripts can_change number p r)) asked all o) e made)
 
   -- what is written and refused, as the code has it
   as_written : (after : SessionState) (text new : List ℕ) (said refused : Bool) → new ≡ out ++ text → refused ≡ said
-      → HasOutcome files (lines_run tiles scripts can_change (number + 1) after new (any || refused) lines) o
-      → HasOutcome files (lines_run tiles scripts can_change (number + 1) after (out ++ text) (any || said) lines) o
+      → HasOutcome files (lines_run tiles scripts can_change (number + 1) after new (any || refused) lines) asked all o
+      → HasOutcome files (lines_run tiles scripts can_change (number + 1) after (out ++ text) (any || said) lines) asked all o
   as_written after text new said refused written is made =
-      subst (λ x. HasOutcome files (lines_run tiles scripts can_change (number + 1) after x (any || said) lines) o) written
-      (subst (λ b. HasOutcome files (lines_run tiles scripts can_change (number + 1) after new (any || b) lines) o) is made)
+      subst (λ x. HasOutcome files (lines_run tiles scripts can_change (number + 1) after x (any || said) lines) asked all o) written
+      (subst (λ b. HasOutcome files (lines_run tiles scripts can_change (number + 1) after new (any || b) lines) asked all o) is made)
 
   pub leads_command : (line : List ℕ) (read : Result Edit LineFault) (edit : Edit) (after : SessionState) (reply : Reply) (new : List ℕ) (refused : Bool)
       → AnswersLine line read → read ≡ Ok edit → (after, reply) ≡ applied tiles scripts can_change p edit → new ≡ out ++ reply_text number reply → refused ≡ is_refused reply
-      → HasOutcome files (lines_run tiles scripts can_change (number + 1) after new (any || refused) lines) o
-      → HasOutcome files (lines_run tiles scripts can_change number p out any (line ∷ lines)) o
+      → HasOutcome files (lines_run tiles scripts can_change (number + 1) after new (any || refused) lines) asked all o
+      → HasOutcome files (lines_run tiles scripts can_change number p out any (line ∷ lines)) asked all o
   leads_command line read edit after reply new refused answers is applies written says made =
       behind_line line read answers
-      (subst (λ r. HasOutcome files (next_run (line_out tiles scripts can_change number p r)) o) (sym is)
-      (subst (λ (a : SessionState × Reply). HasOutcome files (next_run (replied number a)) o) applies
+      (subst (λ r. HasOutcome files (next_run (line_out tiles scripts can_change number p r)) asked all o) (sym is)
+      (subst (λ (a : SessionState × Reply). HasOutcome files (next_run (replied number a)) asked all o) applies
       (as_written after (reply_text number reply) new (is_refused reply) refused written says made)))
 
   pub leads_fault : (line : List ℕ) (read : Result Edit LineFault) (fault : LineFault) (new : List ℕ)
       → AnswersLine line read → read ≡ Err fault → new ≡ out ++ refused_line number (fault_name fault)
-      → HasOutcome files (lines_run tiles scripts can_change (number + 1) p new (any || true) lines) o
-      → HasOutcome files (lines_run tiles scripts can_change number p out any (line ∷ lines)) o
+      → HasOutcome files (lines_run tiles scripts can_change (number + 1) p new (any || true) lines) asked all o
+      → HasOutcome files (lines_run tiles scripts can_change number p out any (line ∷ lines)) asked all o
   leads_fault line read fault new answers is written made =
       behind_line line read answers
-      (subst (λ r. HasOutcome files (next_run (line_out tiles scripts can_change number p r)) o) (sym is)
+      (subst (λ r. HasOutcome files (next_run (line_out tiles scripts can_change number p r)) asked all o) (sym is)
       (as_written p (refused_line number (fault_name fault)) new true true written refl made))

@@ -25,16 +25,17 @@ struct ScriptLine<'a> {
 /// What a script is answered, over a session that was just opened or is sound.
 pub fn answer_script(
     alloc: Global,
-    session: &mut Session<'_>,
+    session: Session<'_>,
     script: &[u8],
     images: &mut dyn HostOp,
     scripts: &dyn HostOp,
 ) -> Result<RunOutput, AllocError>
-    requires { IsSoundSession session.old }
-    ensures { (files : List ℕ → Option (List ℕ)) → IfOk result (λ answer. HasOutcome files
-        (script_run (tiles_of session.old) (test scripts.now) (changes images.old) (session_state session.old (test images.old)) script.now)
+    requires { IsSoundSession session }
+    ensures { (files : List ℕ → Option (List ℕ)) (asked : List (List ℕ)) → IfOk result (λ answer. HasOutcome files
+        (script_run (tiles_of session.entry) (test scripts.now) (changes images.old) (session_state session.entry (test images.old)) script.now) asked asked
         (outcome_of answer)) }
 {
+    let mut session = session;
     let mut out = Vec::new(alloc);
     let mut any = false;
     let mut number: usize = 1;
@@ -44,7 +45,7 @@ pub fn answer_script(
             number,
             bytes: line,
         };
-        let refused = answer_line(alloc, session, &line, images, scripts, &mut out)?;
+        let refused = answer_line(alloc, &mut session, &line, images, scripts, &mut out)?;
         any = any || refused;
         number += 1;
         rest = behind;
@@ -71,11 +72,11 @@ fn answer_line(
     ensures sound { IsSoundSession session.new }
     ensures tiles { tiles_of session.new ≡ tiles_of session.old }
     ensures changes { changes images.new ≡ changes images.old }
-    ensures leads { (files : List ℕ → Option (List ℕ)) (any : Bool) (lines : List (List ℕ)) (o : RunOutcome) → IfOk result (λ refused.
+    ensures leads { (files : List ℕ → Option (List ℕ)) (any : Bool) (lines asked all : List (List ℕ)) (o : RunOutcome) → IfOk result (λ refused.
         HasOutcome files (lines_run (tiles_of session.old) (test scripts.now) (changes images.old) (line.now.number + 1)
-        (session_state session.new (test images.new)) out.new.items (any || refused) lines) o →
+        (session_state session.new (test images.new)) out.new.items (any || refused) lines) asked all o →
         HasOutcome files (lines_run (tiles_of session.old) (test scripts.now) (changes images.old) line.now.number
-        (session_state session.old (test images.old)) out.old.items any (line.now.bytes.now ∷ lines)) o) }
+        (session_state session.old (test images.old)) out.old.items any (line.now.bytes.now ∷ lines)) asked all o) }
 {
     match read_line(alloc, line.bytes)? {
         Ok(command) => {

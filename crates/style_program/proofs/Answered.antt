@@ -13,8 +13,8 @@ module _ (files : List ℕ → Option (List ℕ)) (images scripts : List ℕ →
   abbrev run_over : List ℕ → Run
   run_over b = parses (codes "expr") b (λ t. ends (expression_outcome images scripts (reading t)))
 
-  pub of_text : (o : RunOutcome) → bytes ≡ text → HasOutcome files (run_over bytes) o → HasOutcome files (value_run images scripts text) o
-  of_text o same = subst (λ b. HasOutcome files (run_over b) o) same
+  pub of_text : (asked : List (List ℕ)) (o : RunOutcome) → bytes ≡ text → HasOutcome files (run_over bytes) asked asked o → HasOutcome files (value_run images scripts text) asked asked o
+  of_text asked o same = subst (λ b. HasOutcome files (run_over b) asked asked o) same
 
-  pub halt_of_text : (count : ℕ) (failed : Option (List ℕ)) (h : RunHalt) → bytes ≡ text → HaltsAt files (run_over bytes) count count failed failed h → HaltsAt files (value_run images scripts text) count count failed failed h
-  halt_of_text count failed h same = subst (λ b. HaltsAt files (run_over b) count count failed failed h) same
+  pub halt_of_text : (count : ℕ) (failed : Option (List ℕ)) (asked : List (List ℕ)) (h : RunHalt) → bytes ≡ text → HaltsAt files (run_over bytes) count count failed failed asked asked h → HaltsAt files (value_run images scripts text) count count failed failed asked asked h
+  halt_of_text count failed asked h same = subst (λ b. HaltsAt files (run_over b) count count failed failed asked asked h) same

@@ -12,8 +12,9 @@ use Rattle.program_runs.specs.declared.status.Status.TheVariants.{Fine, Found, U
 use Rattle.program_runs.specs.Ending.{status_of}
 use Rattle.program_runs.specs.FailedReads.{NoneFailed, ReadFails}
 use Rattle.program_runs.specs.Progress.{outcome_of}
-use Rattle.program_runs.specs.Runs.{Run, HasOutcome, IsFileless}
+use Rattle.program_runs.specs.Runs.{Run, HasOutcome, HasAsked, IsFileless}
 use Rattle.program_runs.specs.Written.{EndsUnread, unread_line}
+use Rattle.program_runs.proofs.Asked.{all_asked}
 use Rattle.program_runs.proofs.Fronts.{front}
 use Rattle.style_program.specs.Promises.{Outside, outside, KeepsPromises}
 
@@ -42,12 +43,12 @@ nothing_taken : (held : Option (List ℕ)) (text : List ℕ) → GainsPrefix hel
 nothing_taken held text = (0, gains_nothing held)
 
 module _ (files : List ℕ → Option (List ℕ)) (run : Run) (FilesStay : Type 0) (fileless : IsFileless run → FilesStay)
-    (reads₀ reads₁ : ℕ) (unread₀ unread₁ out₀ out₁ err₀ err₁ : Option (List ℕ)) (outs₀ outs₁ errs₀ errs₁ : ℕ) where
+    (reads₀ reads₁ : ℕ) (asked₀ asked₁ : List (List ℕ)) (unread₀ unread₁ out₀ out₁ err₀ err₁ : Option (List ℕ)) (outs₀ outs₁ errs₀ errs₁ : ℕ) where
   abbrev Keeps : Status → Type 0
   Keeps status =
-      KeepsPromises files run status (outside reads₀ unread₀ out₀ outs₀ err₀ errs₀) (outside reads₁ unread₁ out₁ outs₁ err₁ errs₁) FilesStay
+      KeepsPromises files run status (outside reads₀ unread₀ asked₀ out₀ outs₀ err₀ errs₀) (outside reads₁ unread₁ asked₁ out₁ outs₁ err₁ errs₁) FilesStay
 
-  module _ (made : RunOutput) (defined : HasOutcome files run (outcome_of made)) (none : NoneFailed reads₀ reads₁ unread₀ unread₁)
+  module _ (made : RunOutput) (defined : HasOutcome files run asked₀ asked₁ (outcome_of made)) (none : NoneFailed reads₀ reads₁ unread₀ unread₁)
       (out : GainsPrefix out₀ out₁ made.out.items) (err : GainsPrefix err₀ err₁ made.err.items) where
     -- both texts were written
     pub written : Gains out₀ out₁ made.out.items × Gains err₀ err₁ made.err.items → (outs₁ ≡ outs₀) × (errs₁ ≡ errs₀)
@@ -55,12 +56,13 @@ module _ (files : List ℕ → Option (List ℕ)) (run : Run) (FilesStay : Type 
     written whole same status is = record {
       exact = λ _ _ _ _. record { outcome = outcome_of made; defined = defined; status = is; out = whole.0; err = whole.1 };
       completes = λ _ _ _. record { outcome = outcome_of made; defined = defined; status = is; out = whole.0; err = whole.1 };
-      out_front = record { front = front files run (outcome_of made) out₀ out₁ (λ o. o.out) defined out };
-      err_front = record { front = inl (front files run (outcome_of made) err₀ err₁ (λ o. o.err) defined err) };
+      out_front = record { front = front files run asked₀ asked₁ (outcome_of made) out₀ out₁ (λ o. o.out) defined out };
+      err_front = record { front = inl (front files run asked₀ asked₁ (outcome_of made) err₀ err₁ (λ o. o.err) defined err) };
       read_fault = λ fault. absurd (never_a_read_fault made.ending (sym is ∙ fault));
       write_fault = λ fault. absurd (never_a_write_fault made.ending (sym is ∙ fault));
       reads = inl none;
       writes = λ _. same;
+      names = all_asked files run asked₀ asked₁ (outcome_of made) defined;
       fileless = fileless;
     }
 
@@ -72,79 +74,85 @@ module _ (files : List ℕ → Option (List ℕ)) (run : Run) (FilesStay : Type 
     not_written (inl failed) = record {
       exact = λ _ _ still _. absurd (rose outs₀ outs₁ failed.1 still);
       completes = λ _ _ other. absurd (other refl);
-      out_front = record { front = front files run (outcome_of made) out₀ out₁ (λ o. o.out) defined out };
-      err_front = record { front = inl (front files run (outcome_of made) err₀ err₁ (λ o. o.err) defined err) };
+      out_front = record { front = front files run asked₀ asked₁ (outcome_of made) out₀ out₁ (λ o. o.out) defined out };
+      err_front = record { front = inl (front files run asked₀ asked₁ (outcome_of made) err₀ err₁ (λ o. o.err) defined err) };
       read_fault = λ fault. absurd (cc);
       write_fault = λ _. record { cause = inl ((outcome_of made, defined, failed.0), failed.1, failed.2) };
       reads = inl none;
       writes = λ other. absurd (other refl);
+      names = all_asked files run asked₀ asked₁ (outcome_of made) defined;
       fileless = fileless;
     }
     not_written (inr failed) = record {
       exact = λ _ _ _ still. absurd (rose errs₀ errs₁ failed.2 still);
       completes = λ _ _ other. absurd (other refl);
-      out_front = record { front = front files run (outcome_of made) out₀ out₁ (λ o. o.out) defined out };
-      err_front = record { front = inl (front files run (outcome_of made) err₀ err₁ (λ o. o.err) defined err) };
+      out_front = record { front = front files run asked₀ asked₁ (outcome_of made) out₀ out₁ (λ o. o.out) defined out };
+      err_front = record { front = inl (front files run asked₀ asked₁ (outcome_of made) err₀ err₁ (λ o. o.err) defined err) };
       read_fault = λ fault. absurd (cc);
       write_fault = λ _. record { cause = inr (inl (outcome_of made, defined, failed.0), failed.1, failed.2) };
       reads = inl none;
       writes = λ other. absurd (other refl);
+      names = all_asked files run asked₀ asked₁ (outcome_of made) defined;
       fileless = fileless;
     }
 
 module _ (files : List ℕ → Option (List ℕ)) (run : Run) (FilesStay : Type 0) (fileless : IsFileless run → FilesStay)
-    (reads₀ reads₁ : ℕ) (unread₀ unread₁ out : Option (List ℕ)) (outs : ℕ) where
+    (reads₀ reads₁ : ℕ) (asked₀ asked₁ : List (List ℕ)) (unread₀ unread₁ out : Option (List ℕ)) (outs : ℕ) where
   -- an allocation failed
-  pub lacks_memory : (err : Option (List ℕ)) (errs : ℕ) → NoneFailed reads₀ reads₁ unread₀ unread₁
-      → KeepsPromises files run NoMemory (outside reads₀ unread₀ out outs err errs) (outside reads₁ unread₁ out outs err errs) FilesStay
+  pub lacks_memory : (err : Option (List ℕ)) (errs : ℕ) → NoneFailed reads₀ reads₁ unread₀ unread₁ × HasAsked files run asked₀ asked₁
+      → KeepsPromises files run NoMemory (outside reads₀ unread₀ asked₀ out outs err errs) (outside reads₁ unread₁ asked₁ out outs err errs) FilesStay
   lacks_memory err errs none = record {
     exact = λ memory _ _ _. absurd (memory refl);
     completes = λ memory _ _. absurd (memory refl);
-    out_front = record { front = λ o _ _. nothing_taken out o.out };
-    err_front = record { front = inl (λ o _ _. nothing_taken err o.err) };
+    out_front = record { front = λ _ o _ _. nothing_taken out o.out };
+    err_front = record { front = inl (λ _ o _ _. nothing_taken err o.err) };
     read_fault = λ fault. absurd (cc);
     write_fault = λ fault. absurd (cc);
-    reads = inl none;
+    reads = inl none.0;
     writes = λ _. (refl, refl);
+    names = none.1;
     fileless = fileless;
   }
 
   -- a file could not be read
-  module _ (err₀ err₁ : Option (List ℕ)) (errs₀ errs₁ : ℕ) (name : List ℕ) (fails : ReadFails files run reads₀ reads₁ unread₁ name)
+  module _ (err₀ err₁ : Option (List ℕ)) (errs₀ errs₁ : ℕ) (name : List ℕ) (fails : ReadFails files run reads₀ reads₁ unread₁ asked₀ asked₁ name)
       (line : GainsPrefix err₀ err₁ (unread_line name)) where
     pub stops_unread : (status : Status) → EndsUnread status err₀ err₁ errs₀ errs₁ name
-        → KeepsPromises files run status (outside reads₀ unread₀ out outs err₀ errs₀) (outside reads₁ unread₁ out outs err₁ errs₁) FilesStay
+        → KeepsPromises files run status (outside reads₀ unread₀ asked₀ out outs err₀ errs₀) (outside reads₁ unread₁ asked₁ out outs err₁ errs₁) FilesStay
     stops_unread ReadFault ends = record {
       exact = λ _ still _ _. absurd (rose reads₀ reads₁ fails.counted still);
       completes = λ _ other _. absurd (other refl);
-      out_front = record { front = λ o _ _. nothing_taken out o.out };
+      out_front = record { front = λ _ o _ _. nothing_taken out o.out };
       err_front = record { front = inr (name, fails, line) };
       read_fault = λ _. (name, fails, gains_nothing out, ends.0);
       write_fault = λ fault. absurd (cc);
       reads = inr (fails.counted, tt);
       writes = λ _. (refl, ends.1);
+      names = fails.reached;
       fileless = fileless;
     }
     stops_unread WriteFault ends = record {
       exact = λ _ still _ _. absurd (rose reads₀ reads₁ fails.counted still);
       completes = λ _ _ other. absurd (other refl);
-      out_front = record { front = λ o _ _. nothing_taken out o.out };
+      out_front = record { front = λ _ o _ _. nothing_taken out o.out };
       err_front = record { front = inr (name, fails, line) };
       read_fault = λ fault. absurd (cc);
       write_fault = λ _. record { cause = inr (inr (name, fails), refl, ends) };
       reads = inr (fails.counted, tt);
       writes = λ other. absurd (other refl);
+      names = fails.reached;
       fileless = fileless;
     }
     stops_unread NoMemory ends = record {
       exact = λ memory _ _ _. absurd (memory refl);
       completes = λ memory _ _. absurd (memory refl);
-      out_front = record { front = λ o _ _. nothing_taken out o.out };
+      out_front = record { front = λ _ o _ _. nothing_taken out o.out };
       err_front = record { front = inr (name, fails, line) };
       read_fault = λ fault. absurd (cc);
       write_fault = λ fault. absurd (cc);
       reads = inr (fails.counted, tt);
       writes = λ _. (refl, ends);
+      names = fails.reached;
       fileless = fileless;
     }
     stops_unread Fine ends = absurd ends

@@ -53,17 +53,17 @@ module _ (every_fault_is_listed : EveryFaultIsListed) (images scripts : List ℕ
   found_reading (Err fault) read ends = absurd (cc)
 
 module _ (law : EveryFaultIsListed) (files : List ℕ → Option (List ℕ)) (images scripts : List ℕ → Bool) (can_change : Bool) where
-  found_asked : (ask : words.Asked) (o : RunOutcome) → HasOutcome files (asked_run images scripts can_change ask) o → EndsFound o → ListsItsFault images scripts ask
-  found_asked (words.Value expression) o (inl (t, spelled, is)) ends = found_reading law images scripts expression t spelled (reading t) refl (sym (ap (λ p. status_of p.ending) is) ∙ ends)
-  found_asked (words.Value expression) o (inr (kind, at, none, place, cause, is)) ends = absurd (let refused = ap (λ p. status_of p.ending) is in cc)
-  found_asked (words.Validate style) o defined ends = tt
-  found_asked (words.Migrate style) o defined ends = tt
-  found_asked (words.Eval w) o defined ends = tt
-  found_asked (words.Replay w) o defined ends = tt
-  found_asked words.Help o defined ends = tt
-  found_asked words.Version o defined ends = tt
-  found_asked words.Wrong o defined ends = tt
+  found_asked : (ask : words.Asked) (before after : List (List ℕ)) (o : RunOutcome) → HasOutcome files (asked_run images scripts can_change ask) before after o → EndsFound o → ListsItsFault images scripts ask
+  found_asked (words.Value expression) before after o (inl (t, spelled, is, same)) ends = found_reading law images scripts expression t spelled (reading t) refl (sym (ap (λ p. status_of p.ending) is) ∙ ends)
+  found_asked (words.Value expression) before after o (inr (kind, at, none, place, cause, is, same)) ends = absurd (let refused = ap (λ p. status_of p.ending) is in cc)
+  found_asked (words.Validate style) before after o defined ends = tt
+  found_asked (words.Migrate style) before after o defined ends = tt
+  found_asked (words.Eval w) before after o defined ends = tt
+  found_asked (words.Replay w) before after o defined ends = tt
+  found_asked words.Help before after o defined ends = tt
+  found_asked words.Version before after o defined ends = tt
+  found_asked words.Wrong before after o defined ends = tt
 
   -- of an answer to what the words ask for
-  pub found_is_listed : (ws : List (List ℕ)) (ask : words.Asked) (o : RunOutcome) (answer : Status) → ask ≡ words.asked ws → HasOutcome files (asked_run images scripts can_change ask) o → answer ≡ status_of o.ending → answer ≡ status.Found → ListsItsFault images scripts (words.asked ws)
-  found_is_listed ws ask o answer of_words defined is ends = subst (λ a. ListsItsFault images scripts a) of_words (found_asked ask o defined (sym is ∙ ends))
+  pub found_is_listed : (ws : List (List ℕ)) (ask : words.Asked) (before after : List (List ℕ)) (o : RunOutcome) (answer : Status) → ask ≡ words.asked ws → HasOutcome files (asked_run images scripts can_change ask) before after o → answer ≡ status_of o.ending → answer ≡ status.Found → ListsItsFault images scripts (words.asked ws)
+  found_is_listed ws ask before after o answer of_words defined is ends = subst (λ a. ListsItsFault images scripts a) of_words (found_asked ask before after o defined (sym is ∙ ends))

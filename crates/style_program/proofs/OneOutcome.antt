@@ -4,4 +4,4 @@ use Rattle.style_program.specs.Commands.{run_of}
 use Rattle.style_program.specs.OneOutcome.{EachHasOneOutcome}
 
 pub one_outcome : EachHasOneOutcome
-one_outcome files images scripts can_change ws o p told d e = one_of_run files (run_of images scripts can_change ws) told o p d e
+one_outcome files images scripts can_change ws before after others o p told d e = one_of_run files (run_of images scripts can_change ws) told before after others o p d e

@@ -36,16 +36,16 @@ module _ (ws : List TileWord) (i : ℕ) (other : TileWord) (below : i < length w
       (sym (is_next tile_word ws i other below))
       ∙ (ap (λ n. tile_part n (min left tile_limit) t (after k)) (sym numbered) ∙ ap (λ m. tile_part number m t (after k)) (sym limited)))
 
-  pub leads_turn : (files : List ℕ → Option (List ℕ)) (read : ℕ × List TileLayer) (new : List SourceTile) (rest : ℕ)
-      → GoesOn files (tile_part number limit t) read → new ≡ got ++ (t.0, read.1) ∷ [] → rest ≡ left - read.0 → (k : List SourceTile → Run)
-      → ComesTo files (tiles_from i ws got left k) (tiles_from (i + 1) ws new rest k)
-  leads_turn files read new rest goes pushed counted k =
+  pub leads_turn : (files : List ℕ → Option (List ℕ)) (asked_old asked_new : List (List ℕ)) (read : ℕ × List TileLayer) (new : List SourceTile) (rest : ℕ)
+      → GoesOn files (tile_part number limit t) asked_old asked_new read → new ≡ got ++ (t.0, read.1) ∷ [] → rest ≡ left - read.0 → (k : List SourceTile → Run)
+      → ComesTo files (tiles_from i ws got left k) (tiles_from (i + 1) ws new rest k) asked_old asked_new
+  leads_turn files asked_old asked_new read new rest goes pushed counted k =
       let at : tiles_from (i + 1) ws new rest k ≡ after k read =
       (ap (λ ts. tiles_from (i + 1) ws ts rest k) pushed ∙ ap (λ n. tiles_from (i + 1) ws (got ++ (t.0, read.1) ∷ []) n k) counted) in
-      subst (λ r. ComesTo files r (tiles_from (i + 1) ws new rest k)) (sym (turn k))
-      (subst (λ r. ComesTo files (tile_part number limit t (after k)) r) (sym at) (goes (after k)))
+      subst (λ r. ComesTo files r (tiles_from (i + 1) ws new rest k) asked_old asked_new) (sym (turn k))
+      (subst (λ r. ComesTo files (tile_part number limit t (after k)) r asked_old asked_new) (sym at) (goes (after k)))
 
-  pub halts_turn : (files : List ℕ → Option (List ℕ)) (old new : ℕ) (failed_old failed_new : Option (List ℕ)) (h : RunHalt)
-      → Halts files (tile_part number limit t) old new failed_old failed_new h → Halts files (tiles_from i ws got left) old new failed_old failed_new h
-  halts_turn files old new failed_old failed_new h halts k =
-      subst (λ r. HaltsAt files r old new failed_old failed_new h) (sym (turn k)) (halts (after k))
+  pub halts_turn : (files : List ℕ → Option (List ℕ)) (old new : ℕ) (failed_old failed_new : Option (List ℕ)) (asked_old asked_new : List (List ℕ)) (h : RunHalt)
+      → Halts files (tile_part number limit t) old new failed_old failed_new asked_old asked_new h → Halts files (tiles_from i ws got left) old new failed_old failed_new asked_old asked_new h
+  halts_turn files old new failed_old failed_new asked_old asked_new h halts k =
+      subst (λ r. HaltsAt files r old new failed_old failed_new asked_old asked_new h) (sym (turn k)) (halts (after k))

@@ -29,10 +29,10 @@ pub fn answer_eval<'a, F: Files>(
     ensures told { F.told files.new ≡ F.told files.old }
     ensures failed { OnOk result (NoneFailed (F.faults files.old) (F.faults files.new) (F.failed files.old) (F.failed files.new)) }
     ensures answer { IfOk result (λ answer. HasOutcome (F.told files.old)
-        (eval_run (eval_words request.now) (test images.now) (test scripts.now)) (outcome_of answer)) }
+        (eval_run (eval_words request.now) (test images.now) (test scripts.now)) (F.asked files.old) (F.asked files.new) (outcome_of answer)) }
     ensures halt { IfErr result (λ halt. HaltsAt (F.told files.old)
         (eval_run (eval_words request.now) (test images.now) (test scripts.now))
-        (F.faults files.old) (F.faults files.new) (F.failed files.old) (F.failed files.new) halt) }
+        (F.faults files.old) (F.faults files.new) (F.failed files.old) (F.failed files.new) (F.asked files.old) (F.asked files.new) halt) }
 {
     let shown = read_shown(alloc, request, files)?;
     Ok(answer_shown(alloc, request, shown, images, scripts)?)
@@ -46,8 +46,8 @@ fn answer_shown<'a>(
     scripts: &dyn HostOp,
 ) -> Result<RunOutput, AllocError>
     requires { findings (tree_of shown.style) ≡ [] }
-    ensures { (files : List ℕ → Option (List ℕ)) → IfOk result (λ answer. HasOutcome files
-        (listed_run (eval_words request.now) (test images.now) (test scripts.now) (shown_seen shown.entry)) (outcome_of answer)) }
+    ensures { (files : List ℕ → Option (List ℕ)) (asked : List (List ℕ)) → IfOk result (λ answer. HasOutcome files
+        (listed_run (eval_words request.now) (test images.now) (test scripts.now) (shown_seen shown.entry)) asked asked (outcome_of answer)) }
 {
     match Session::open_sound(alloc, shown.style, shown.tiles, request.zoom)? {
         Ok(session) => {

@@ -46,10 +46,10 @@ pub fn read_shown<'a, F: Files>(
 ) -> Result<LoadedStyle<'a>, RunHalt<'a>>
     ensures told { F.told files.new ≡ F.told files.old }
     ensures failed { OnOk result (NoneFailed (F.faults files.old) (F.faults files.new) (F.failed files.old) (F.failed files.new)) }
-    ensures on { IfOk result (λ shown. GoesOn (F.told files.old) (load_part (eval_words request.now)) (shown_seen shown)) }
+    ensures on { IfOk result (λ shown. GoesOn (F.told files.old) (load_part (eval_words request.now)) (F.asked files.old) (F.asked files.new) (shown_seen shown)) }
     ensures sound { IfOk result (λ shown. findings (tree_of shown.style) ≡ []) }
     ensures halt { IfErr result (λ halt. Halts (F.told files.old) (load_part (eval_words request.now))
-        (F.faults files.old) (F.faults files.new) (F.failed files.old) (F.failed files.new) halt) }
+        (F.faults files.old) (F.faults files.new) (F.failed files.old) (F.failed files.new) (F.asked files.old) (F.asked files.new) halt) }
 {
     let style = read_json(alloc, &Subject::Style, request.style, STYLE_LIMIT, files)?;
     refuse_broken(alloc, &style)?;
@@ -60,8 +60,8 @@ pub fn read_shown<'a, F: Files>(
 // Halts the run where the style has findings.
 fn refuse_broken<'a>(alloc: Global, style: &Json) -> Result<(), RunHalt<'a>>
     ensures sound { OnOk result (findings (tree_of style.now) ≡ []) }
-    ensures halt { (files : List ℕ → Option (List ℕ)) (count : ℕ) (failed : Option (List ℕ)) (next : Run) → IfErr result (λ halt. HaltsAt files
-        (sound_or_broken (findings (tree_of style.now)) next) count count failed failed halt) }
+    ensures halt { (files : List ℕ → Option (List ℕ)) (count : ℕ) (failed : Option (List ℕ)) (asked : List (List ℕ)) (next : Run) → IfErr result (λ halt. HaltsAt files
+        (sound_or_broken (findings (tree_of style.now)) next) count count failed failed asked asked halt) }
 {
     let found = findings(alloc, style)?;
     refuse_found(alloc, found.as_slice())
@@ -69,8 +69,8 @@ fn refuse_broken<'a>(alloc: Global, style: &Json) -> Result<(), RunHalt<'a>>
 
 fn refuse_found<'a>(alloc: Global, found: &[Finding]) -> Result<(), RunHalt<'a>>
     ensures sound { OnOk result (map finding_seen found.now ≡ []) }
-    ensures halt { (files : List ℕ → Option (List ℕ)) (count : ℕ) (failed : Option (List ℕ)) (next : Run) → IfErr result (λ halt. HaltsAt files
-        (sound_or_broken (map finding_seen found.now) next) count count failed failed halt) }
+    ensures halt { (files : List ℕ → Option (List ℕ)) (count : ℕ) (failed : Option (List ℕ)) (asked : List (List ℕ)) (next : Run) → IfErr result (λ halt. HaltsAt files
+        (sound_or_broken (map finding_seen found.now) next) count count failed failed asked asked halt) }
 {
     match found {
         [] => Ok(()),
@@ -86,9 +86,9 @@ fn read_tiles<'a, F: Files>(
 ) -> Result<Vec<SourceTile<'a>>, RunHalt<'a>>
     ensures told { F.told files.new ≡ F.told files.old }
     ensures failed { OnOk result (NoneFailed (F.faults files.old) (F.faults files.new) (F.failed files.old) (F.failed files.new)) }
-    ensures on { IfOk result (λ tiles. GoesOn (F.told files.old) (tiles_part (map tile_word words.now)) (map tile_seen tiles.items)) }
+    ensures on { IfOk result (λ tiles. GoesOn (F.told files.old) (tiles_part (map tile_word words.now)) (F.asked files.old) (F.asked files.new) (map tile_seen tiles.items)) }
     ensures halt { IfErr result (λ halt. Halts (F.told files.old) (tiles_part (map tile_word words.now))
-        (F.faults files.old) (F.faults files.new) (F.failed files.old) (F.failed files.new) halt) }
+        (F.faults files.old) (F.faults files.new) (F.failed files.old) (F.failed files.new) (F.asked files.old) (F.asked files.new) halt) }
 {
     let mut tiles = Vec::new(alloc);
     let mut left = TILES_LIMIT;
@@ -111,9 +111,10 @@ fn read_next<'a, F: Files>(
     ensures told { F.told files.new ≡ F.told files.old }
     ensures failed { OnOk result (NoneFailed (F.faults files.old) (F.faults files.new) (F.failed files.old) (F.failed files.new)) }
     ensures on { IfOk result (λ rest. (after : List shown.SourceTile → Run) → ComesTo (F.told files.old)
-        (tiles_from i words.now (map tile_seen tiles.old.items) left after) (tiles_from (i + 1) words.now (map tile_seen tiles.new.items) rest after)) }
+        (tiles_from i words.now (map tile_seen tiles.old.items) left after) (tiles_from (i + 1) words.now (map tile_seen tiles.new.items) rest after)
+        (F.asked files.old) (F.asked files.new)) }
     ensures halt { IfErr result (λ halt. Halts (F.told files.old) (tiles_from i words.now (map tile_seen tiles.old.items) left)
-        (F.faults files.old) (F.faults files.new) (F.failed files.old) (F.failed files.new) halt) }
+        (F.faults files.old) (F.faults files.new) (F.failed files.old) (F.failed files.new) (F.asked files.old) (F.asked files.new) halt) }
 {
     let word = words[i];
     let number = count_of(word.source, &words[..i]);
@@ -137,9 +138,9 @@ fn read_one<'a, F: Files>(
 ) -> Result<(usize, Tile), RunHalt<'a>>
     ensures told { F.told files.new ≡ F.told files.old }
     ensures failed { OnOk result (NoneFailed (F.faults files.old) (F.faults files.new) (F.failed files.old) (F.failed files.new)) }
-    ensures on { IfOk result (λ read. GoesOn (F.told files.old) (tile_part number at_most (source.now, name.now)) (read.0, read.1)) }
+    ensures on { IfOk result (λ read. GoesOn (F.told files.old) (tile_part number at_most (source.now, name.now)) (F.asked files.old) (F.asked files.new) (read.0, read.1)) }
     ensures halt { IfErr result (λ halt. Halts (F.told files.old) (tile_part number at_most (source.now, name.now))
-        (F.faults files.old) (F.faults files.new) (F.failed files.old) (F.failed files.new) halt) }
+        (F.faults files.old) (F.faults files.new) (F.failed files.old) (F.failed files.new) (F.asked files.old) (F.asked files.new) halt) }
 {
     let bytes = read_file(alloc, &Subject::Tile(source, number), name, at_most, files)?;
     tile_in(alloc, source, number, bytes.as_slice())
@@ -152,10 +153,10 @@ fn tile_in<'a>(
     number: usize,
     bytes: &[u8],
 ) -> Result<(usize, Tile), RunHalt<'a>>
-    ensures on { (files : List ℕ → Option (List ℕ)) → IfOk result (λ read. GoesOn files
-        (tile_from number source.now bytes.now) (read.0, read.1)) }
-    ensures halt { (files : List ℕ → Option (List ℕ)) (count : ℕ) (failed : Option (List ℕ)) → IfErr result (λ halt. Halts files
-        (tile_from number source.now bytes.now) count count failed failed halt) }
+    ensures on { (files : List ℕ → Option (List ℕ)) (asked : List (List ℕ)) → IfOk result (λ read. GoesOn files
+        (tile_from number source.now bytes.now) asked asked (read.0, read.1)) }
+    ensures halt { (files : List ℕ → Option (List ℕ)) (count : ℕ) (failed : Option (List ℕ)) (asked : List (List ℕ)) → IfErr result (λ halt. Halts files
+        (tile_from number source.now bytes.now) count count failed failed asked asked halt) }
 {
     match read_tile(alloc, bytes)? {
         Ok(tile) => Ok((bytes.len(), tile)),

@@ -34,10 +34,10 @@ pub fn answer_replay<'a, F: Files>(
     ensures told { F.told files.new ≡ F.told files.old }
     ensures failed { OnOk result (NoneFailed (F.faults files.old) (F.faults files.new) (F.failed files.old) (F.failed files.new)) }
     ensures answer { IfOk result (λ answer. HasOutcome (F.told files.old)
-        (replay_run (replay_words request.now) (test images.old) (test scripts.now) (changes images.old)) (outcome_of answer)) }
+        (replay_run (replay_words request.now) (test images.old) (test scripts.now) (changes images.old)) (F.asked files.old) (F.asked files.new) (outcome_of answer)) }
     ensures halt { IfErr result (λ halt. HaltsAt (F.told files.old)
         (replay_run (replay_words request.now) (test images.old) (test scripts.now) (changes images.old))
-        (F.faults files.old) (F.faults files.new) (F.failed files.old) (F.failed files.new) halt) }
+        (F.faults files.old) (F.faults files.new) (F.failed files.old) (F.failed files.new) (F.asked files.old) (F.asked files.new) halt) }
 {
     let shown = read_shown(alloc, &request.shown, files)?;
     let script = read_file(alloc, &Subject::Script, request.script, SCRIPT_LIMIT, files)?;
@@ -53,12 +53,12 @@ fn answer_edited<'a>(
     scripts: &dyn HostOp,
 ) -> Result<RunOutput, AllocError>
     requires { findings (tree_of shown.style) ≡ [] }
-    ensures { (files : List ℕ → Option (List ℕ)) → IfOk result (λ answer. HasOutcome files
-        (edited_run (replay_words request.now) (test images.old) (test scripts.now) (changes images.old) (shown_seen shown.entry) script.now)
+    ensures { (files : List ℕ → Option (List ℕ)) (asked : List (List ℕ)) → IfOk result (λ answer. HasOutcome files
+        (edited_run (replay_words request.now) (test images.old) (test scripts.now) (changes images.old) (shown_seen shown.entry) script.now) asked asked
         (outcome_of answer)) }
 {
     match Session::open_sound(alloc, shown.style, shown.tiles, request.shown.zoom)? {
-        Ok(mut session) => answer_script(alloc, &mut session, script, images, scripts),
+        Ok(session) => answer_script(alloc, session, script, images, scripts),
         Err(fault) => not_opened(alloc, &fault),
     }
 }

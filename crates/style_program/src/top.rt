@@ -34,8 +34,8 @@ pub fn run_style<F: Files, O: Sink, E: Sink, L: Ledger>(
     // What is read, written and answered is what the run of the words says.
     ensures promises { KeepsPromises (F.told files.old)
         (run_of (test images) (test scripts) (changes images) (map string_bytes words.now)) result
-        (outside (F.faults files.old) (F.failed files.old) (O.held out.old) (O.faults out.old) (E.held err.old) (E.faults err.old))
-        (outside (F.faults files.new) (F.failed files.new) (O.held out.new) (O.faults out.new) (E.held err.new) (E.faults err.new))
+        (outside (F.faults files.old) (F.failed files.old) (F.asked files.old) (O.held out.old) (O.faults out.old) (E.held err.old) (E.faults err.old))
+        (outside (F.faults files.new) (F.failed files.new) (F.asked files.new) (O.held out.new) (O.faults out.new) (E.held err.new) (E.faults err.new))
         (files.new ≡ files.old) }
 
     // Where `value` ends in a fault, typing had listed it.
@@ -69,10 +69,10 @@ fn settled<'a, F: Files>(
     ensures failed { OnOk result (NoneFailed (F.faults files.old) (F.faults files.new) (F.failed files.old) (F.failed files.new)) }
     ensures fileless { IsFileless (run_of (test images.old) (test scripts.now) (changes images.old) (map string_bytes words.now)) → files.new ≡ files.old }
     ensures answer { IfOk result (λ answer. HasOutcome (F.told files.old)
-        (run_of (test images.old) (test scripts.now) (changes images.old) (map string_bytes words.now)) (outcome_of answer)) }
+        (run_of (test images.old) (test scripts.now) (changes images.old) (map string_bytes words.now)) (F.asked files.old) (F.asked files.new) (outcome_of answer)) }
     ensures stop { IfErr result (λ stop. IsStop (F.told files.old)
         (run_of (test images.old) (test scripts.now) (changes images.old) (map string_bytes words.now))
-        (F.faults files.old) (F.faults files.new) (F.failed files.old) (F.failed files.new) stop) }
+        (F.faults files.old) (F.faults files.new) (F.failed files.old) (F.failed files.new) (F.asked files.old) (F.asked files.new) stop) }
 {
     let Ok(request) = request_of(alloc, words) else {
         return Err(RunStop::NoMemory);

@@ -18,9 +18,9 @@ invariant-loop-line g l =
       tiles : tiles_of l.session ≡ tiles_of l.fn.session;
       changes : (goal.HostOp-dyn g l.images.now).changes l.images.now.1 ≡ can_change;
       counted : l.number + length l.rest ≤ length l.fn.script + 1;
-      leads : (files : List ℕ → Option (List ℕ)) (o : RunOutcome)
-          → HasOutcome files (lines_run (tiles_of l.fn.session) scripts can_change l.number (session_state l.session images) l.out.items l.any (script_lines l.rest)) o
-          → HasOutcome files (script_run (tiles_of l.fn.session) scripts can_change (session_state l.fn.session images_first) l.fn.script) o;
+      leads : (files : List ℕ → Option (List ℕ)) (asked all : List (List ℕ)) (o : RunOutcome)
+          → HasOutcome files (lines_run (tiles_of l.fn.session) scripts can_change l.number (session_state l.session images) l.out.items l.any (script_lines l.rest)) asked all o
+          → HasOutcome files (script_run (tiles_of l.fn.session) scripts can_change (session_state l.fn.session images_first) l.fn.script) asked all o;
     }
 
 abbrev pub decreases-loop-line : goal.decreases-loop-line

@@ -8,13 +8,13 @@ pub returns-clause-answer : goal.returns-clause-answer
 returns-clause-answer g c =
     let images = (goal.HostOp-dyn g c.args.images.now).test c.args.images.now.1 in
     let scripts = (goal.HostOp-dyn g c.args.scripts.now).test c.args.scripts.now.1 in
-    (c.in_ok-shown.ensures.on (listed_run (eval_words c.args.request.now) images scripts)).outcomes (outcome_of c.in_ok-answer_shown.field-0)
-    (c.in_ok-answer_shown.ensures (g.F.Files.told c.args.files.now))
+    (c.in_ok-shown.ensures.on (listed_run (eval_words c.args.request.now) images scripts)).outcomes _ (outcome_of c.in_ok-answer_shown.field-0)
+    (c.in_ok-answer_shown.ensures (g.F.Files.told c.args.files.now) _)
 
 pub returns-in_err-shown-clause-halt : goal.returns-in_err-shown-clause-halt
 returns-in_err-shown-clause-halt g c =
     let images = (goal.HostOp-dyn g c.args.images.now).test c.args.images.now.1 in
     let scripts = (goal.HostOp-dyn g c.args.scripts.now).test c.args.scripts.now.1 in
     let w = eval_words c.args.request.now in
-    at_residual (λ h. HaltsAt (g.F.Files.told c.args.files.now) (eval_run w images scripts) _ _ _ _ h)
+    at_residual (λ h. HaltsAt (g.F.Files.told c.args.files.now) (eval_run w images scripts) _ _ _ _ _ _ h)
     c.in_err-shown.field-0.0 c.from_residual.result c.from_residual.ensures.1 (c.in_err-shown.ensures.halt (listed_run w images scripts))

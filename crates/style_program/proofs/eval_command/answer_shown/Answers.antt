@@ -23,5 +23,5 @@ returns-in_ok-listing-in-Ok g c =
     let none : None ≡ tiles_fault shown.0 shown.1 w.zoom = subst (λ r. option_map fault_seen (result_err r) ≡ tiles_fault shown.0 shown.1 w.zoom) c.in-Ok.is c.in_ok-session.ensures.fault in
     let over = of_ok (λ session. tiles_of session ≡ shown.1) c.in_ok-session.field-0 c.in-Ok.session c.in-Ok.is c.in_ok-session.ensures.tiles in
     let first = of_ok (λ session. (h : List ℕ → Bool) → session_state session h ≡ opened shown.0 w.zoom h) c.in_ok-session.field-0 c.in-Ok.session c.in-Ok.is c.in_ok-session.ensures.opened images in
-    λ files. listed_at_first files images scripts shown (session_state c.in-Ok.session images) (tiles_of c.in-Ok.session) over w c.new-out.result.items c.listing.new.out.items (outcome_of c.answer_out.result)
+    λ files asked. listed_at_first files images scripts shown (session_state c.in-Ok.session images) (tiles_of c.in-Ok.session) over asked w c.new-out.result.items c.listing.new.out.items (outcome_of c.answer_out.result)
     none first c.new-out.ensures.items c.in_ok-listing-in-Ok.ensures.listing c.answer_out.ensures

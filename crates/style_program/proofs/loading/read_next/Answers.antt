@@ -16,10 +16,10 @@ pub returns-in_err-size-clause-halt : goal.returns-in_err-size-clause-halt
 returns-in_err-size-clause-halt g c =
     let files = g.F.Files.told c.args.files.now in
     let got = map tile_seen c.args.tiles.now.items in
-    at_residual (λ h. Halts files (tiles_from c.args.i c.args.words.now got c.args.left) _ _ _ _ h) c.in_err-size.field-0.0
+    at_residual (λ h. Halts files (tiles_from c.args.i c.args.words.now got c.args.left) _ _ _ _ _ _ h) c.in_err-size.field-0.0
     c.from_residual.result c.from_residual.ensures.1
     (halts_turn c.args.words.now c.args.i past c.requires got c.args.left c.count_of-number.result c.min-limit.result
-    c.count_of-number.ensures.count c.min-limit.ensures files _ _ _ _ c.in_err-size.field-0.0 c.in_err-size.ensures.halt)
+    c.count_of-number.ensures.count c.min-limit.ensures files _ _ _ _ _ _ c.in_err-size.field-0.0 c.in_err-size.ensures.halt)
 
 pub returns-clause-on : goal.returns-clause-on
 returns-clause-on g c =
@@ -27,5 +27,5 @@ returns-clause-on g c =
     let got = map tile_seen c.args.tiles.now.items in
     leads_turn c.args.words.now c.args.i past c.requires got c.args.left c.count_of-number.result c.min-limit.result
     c.count_of-number.ensures.count c.min-limit.ensures
-    files (c.in_ok-size.size, c.in_ok-size.tile) (map tile_seen c.push.new.self.items) c.saturating_sub.result c.in_ok-size.ensures.on
+    files _ _ (c.in_ok-size.size, c.in_ok-size.tile) (map tile_seen c.push.new.self.items) c.saturating_sub.result c.in_ok-size.ensures.on
     (ap (map tile_seen) c.in-Ok.ensures.items ∙ map-append tile_seen c.args.tiles.now.items _) c.saturating_sub.ensures

@@ -11,23 +11,23 @@ returns-clause-on g c =
     let files = g.F.Files.told c.args.files.now in let source = c.args.source.now in let number = c.args.number in
     let longer = too_long (tile_text source) (tile_number number) in
     let rest = tile_from number source in
-    goes_both files (reads longer c.args.name.now c.args.at_most) rest c.in_ok-bytes.bytes.items c.as_slice.result.now
-    c.in_ok-bytes.ensures.on c.as_slice.ensures.value files refl (λ read. (read.0, read.1)) c.tile_in.result (c.tile_in.ensures.on files)
+    goes_both files (reads longer c.args.name.now c.args.at_most) rest _ _ c.in_ok-bytes.bytes.items c.as_slice.result.now
+    c.in_ok-bytes.ensures.on c.as_slice.ensures.value files refl _ (λ read. (read.0, read.1)) c.tile_in.result (c.tile_in.ensures.on files _)
 
 pub returns-clause-halt : goal.returns-clause-halt
 returns-clause-halt g c =
     let files = g.F.Files.told c.args.files.now in let source = c.args.source.now in let number = c.args.number in
     let longer = too_long (tile_text source) (tile_number number) in
     let rest = tile_from number source in
-    halts_second files (reads longer c.args.name.now c.args.at_most) rest c.in_ok-bytes.bytes.items c.as_slice.result.now
-    c.in_ok-bytes.ensures.on c.as_slice.ensures.value files refl _ _ _ _ _ _ c.tile_in.result c.in_ok-bytes.ensures.failed
-    (c.tile_in.ensures.halt files _ _)
+    halts_second files (reads longer c.args.name.now c.args.at_most) rest _ _ c.in_ok-bytes.bytes.items c.as_slice.result.now
+    c.in_ok-bytes.ensures.on c.as_slice.ensures.value files refl _ _ _ _ _ _ _ c.tile_in.result c.in_ok-bytes.ensures.failed
+    (c.tile_in.ensures.halt files _ _ _)
 
 pub returns-in_err-bytes-clause-halt : goal.returns-in_err-bytes-clause-halt
 returns-in_err-bytes-clause-halt g c =
     let files = g.F.Files.told c.args.files.now in let source = c.args.source.now in let number = c.args.number in
     let longer = too_long (tile_text source) (tile_number number) in
     let rest = tile_from number source in
-    at_residual (λ h. Halts files (tile_part number c.args.at_most (source, c.args.name.now)) _ _ _ _ h) c.in_err-bytes.field-0.0
+    at_residual (λ h. Halts files (tile_part number c.args.at_most (source, c.args.name.now)) _ _ _ _ _ _ h) c.in_err-bytes.field-0.0
     c.from_residual.result c.from_residual.ensures.1
-    (halts_first files (reads longer c.args.name.now c.args.at_most) rest _ _ _ _ c.in_err-bytes.field-0.0 c.in_err-bytes.ensures.halt)
+    (halts_first files (reads longer c.args.name.now c.args.at_most) rest _ _ _ _ _ _ c.in_err-bytes.field-0.0 c.in_err-bytes.ensures.halt)

@@ -14,5 +14,5 @@ invariant-loop-i g l = record {
   told : g.F.Files.told l.files ≡ g.F.Files.told l.fn.files;
   failed : NoneFailed (g.F.Files.faults l.fn.files) (g.F.Files.faults l.files) (g.F.Files.failed l.fn.files) (g.F.Files.failed l.files);
   leads : (k : List SourceTile → Run) → ComesTo (g.F.Files.told l.fn.files) (tiles_part (map tile_word l.words) k)
-      (tiles_from l.i l.words (map tile_seen l.tiles.items) l.left k);
+      (tiles_from l.i l.words (map tile_seen l.tiles.items) l.left k) (g.F.Files.asked l.fn.files) (g.F.Files.asked l.files);
 }

@@ -10,5 +10,5 @@ use Rattle.style_program.proofs.loading.refuse_broken.Goals as goal
 pub returns-clause-halt : goal.returns-clause-halt
 returns-clause-halt c =
     let same : map finding_seen c.as_slice.result.now ≡ findings (tree_of c.args.style.now) = search rules in
-    λ files count failed next. subst (λ f. IfErr c.refuse_found.result (λ h. HaltsAt files (sound_or_broken f next) count count failed failed h)) same
-    (c.refuse_found.ensures.halt files count failed next)
+    λ files count failed asked next. subst (λ f. IfErr c.refuse_found.result (λ h. HaltsAt files (sound_or_broken f next) count count failed failed asked asked h)) same
+    (c.refuse_found.ensures.halt files count failed asked next)

@@ -23,5 +23,5 @@ returns-in-Ok g c =
     let none : None ≡ tiles_fault shown.0 shown.1 w.shown.zoom = subst (λ r. option_map fault_seen (result_err r) ≡ tiles_fault shown.0 shown.1 w.shown.zoom) c.in-Ok.is c.in_ok-session.ensures.fault in
     let over = of_ok (λ session. tiles_of session ≡ shown.1) c.in_ok-session.field-0 c.in-Ok.session c.in-Ok.is c.in_ok-session.ensures.tiles in
     let first = of_ok (λ session. (h : List ℕ → Bool) → session_state session h ≡ opened shown.0 w.shown.zoom h) c.in_ok-session.field-0 c.in-Ok.session c.in-Ok.is c.in_ok-session.ensures.opened images in
-    λ files. script_at_first files images scripts shown (session_state c.in-Ok.session images) (tiles_of c.in-Ok.session) over can_change w c.args.script.now c.answer_script.result
-    none first (c.answer_script.ensures files)
+    λ files asked. script_at_first files images scripts shown (session_state c.in-Ok.session images) (tiles_of c.in-Ok.session) over asked can_change w c.args.script.now c.answer_script.result
+    none first (c.answer_script.ensures files asked)

@@ -15,9 +15,9 @@ returns-clause-answer g c =
     let images = (goal.HostOp-dyn g c.args.images.now).test c.args.images.now.1 in
     let can_change = (goal.HostOp-dyn g c.args.images.now).changes c.args.images.now.1 in
     let scripts = (goal.HostOp-dyn g c.args.scripts.now).test c.args.scripts.now.1 in
-    outcome_of_script (g.F.Files.told c.args.files.now) (replay_words c.args.request.now) images scripts can_change (shown_seen c.in_ok-shown.shown) c.in_ok-shown.ensures.on
-    (g.F.Files.told c.read_shown.new.files) c.read_shown.ensures.told c.in_ok-script.script.items c.as_slice.result.now c.as_slice.ensures.value c.in_ok-script.ensures.on
-    (outcome_of c.in_ok-answer_edited.field-0) (c.in_ok-answer_edited.ensures (g.F.Files.told c.args.files.now))
+    outcome_of_script (g.F.Files.told c.args.files.now) (replay_words c.args.request.now) images scripts can_change (shown_seen c.in_ok-shown.shown) _ _ c.in_ok-shown.ensures.on
+    (g.F.Files.told c.read_shown.new.files) c.read_shown.ensures.told _ c.in_ok-script.script.items c.as_slice.result.now c.as_slice.ensures.value c.in_ok-script.ensures.on
+    (outcome_of c.in_ok-answer_edited.field-0) (c.in_ok-answer_edited.ensures (g.F.Files.told c.args.files.now) _)
 
 pub returns-in_err-shown-clause-halt : goal.returns-in_err-shown-clause-halt
 returns-in_err-shown-clause-halt g c =
@@ -26,7 +26,7 @@ returns-in_err-shown-clause-halt g c =
     let scripts = (goal.HostOp-dyn g c.args.scripts.now).test c.args.scripts.now.1 in
     let w = replay_words c.args.request.now in
     let after : LoadedStyle → Run = λ shown. script_part w.script (edited_run w images scripts can_change shown) in
-    at_residual (λ h. HaltsAt (g.F.Files.told c.args.files.now) (replay_run w images scripts can_change) _ _ _ _ h)
+    at_residual (λ h. HaltsAt (g.F.Files.told c.args.files.now) (replay_run w images scripts can_change) _ _ _ _ _ _ h)
     c.in_err-shown.field-0.0 c.from_residual.result c.from_residual.ensures.1 (c.in_err-shown.ensures.halt after)
 
 pub returns-in_err-script-clause-halt : goal.returns-in_err-script-clause-halt
@@ -35,7 +35,7 @@ returns-in_err-script-clause-halt g c =
     let can_change = (goal.HostOp-dyn g c.args.images.now).changes c.args.images.now.1 in
     let scripts = (goal.HostOp-dyn g c.args.scripts.now).test c.args.scripts.now.1 in
     let w = replay_words c.args.request.now in
-    at_residual (λ h. HaltsAt (g.F.Files.told c.args.files.now) (replay_run w images scripts can_change) _ _ _ _ h)
+    at_residual (λ h. HaltsAt (g.F.Files.told c.args.files.now) (replay_run w images scripts can_change) _ _ _ _ _ _ h)
     c.in_err-script.field-0.0 c.from_residual-in_err-script.result c.from_residual-in_err-script.ensures.1
-    (script_halts (g.F.Files.told c.args.files.now) w images scripts can_change (shown_seen c.in_ok-shown.shown) c.in_ok-shown.ensures.on
-    (g.F.Files.told c.read_shown.new.files) c.read_shown.ensures.told _ _ _ _ _ _ c.in_err-script.field-0.0 c.in_ok-shown.ensures.failed c.in_err-script.ensures.halt)
+    (script_halts (g.F.Files.told c.args.files.now) w images scripts can_change (shown_seen c.in_ok-shown.shown) _ _ c.in_ok-shown.ensures.on
+    (g.F.Files.told c.read_shown.new.files) c.read_shown.ensures.told _ _ _ _ _ _ _ c.in_err-script.field-0.0 c.in_ok-shown.ensures.failed c.in_err-script.ensures.halt)

@@ -1,3 +1,4 @@
+use Rattle.std.proofs.Common.{refl}
 use Rattle.decimal_json.specs.Tree.{Tree}
 use Rattle.program_runs.specs.Progress.{HaltsAt, outcome_of}
 use Rattle.program_runs.specs.Runs.{Run, ends}
@@ -10,9 +11,9 @@ abbrev after : Tree → Run
 after t = ends (validate_outcome t)
 
 pub returns-clause-answer : goal.returns-clause-answer
-returns-clause-answer g c = (c.in_ok-style.ensures.on after).outcomes (outcome_of c.in_ok-answer_style.field-0) c.in_ok-answer_style.ensures
+returns-clause-answer g c = (c.in_ok-style.ensures.on after).outcomes _ (outcome_of c.in_ok-answer_style.field-0) (c.in_ok-answer_style.ensures, refl)
 
 pub returns-in_err-style-clause-halt : goal.returns-in_err-style-clause-halt
 returns-in_err-style-clause-halt g c =
-    at_residual (λ h. HaltsAt (g.F.Files.told c.args.files.now) (validate_run c.args.name.now) _ _ _ _ h) c.in_err-style.field-0.0 c.from_residual.result c.from_residual.ensures.1
+    at_residual (λ h. HaltsAt (g.F.Files.told c.args.files.now) (validate_run c.args.name.now) _ _ _ _ _ _ h) c.in_err-style.field-0.0 c.from_residual.result c.from_residual.ensures.1
     (c.in_err-style.ensures.halt after)
