@@ -29,7 +29,8 @@ pub fn answer_eval<'a, F: Files>(
     ensures told { F.told files.new ≡ F.told files.old }
     ensures failed { OnOk result (NoneFailed (F.faults files.old) (F.faults files.new) (F.failed files.old) (F.failed files.new)) }
     ensures answer { IfOk result (λ answer. HasOutcome (F.told files.old)
-        (eval_run (eval_words request.now) (test images.now) (test scripts.now)) (F.asked files.old) (F.asked files.new) (outcome_of answer)) }
+        (eval_run (eval_words request.now) (test images.now) (test scripts.now))
+        (F.asked files.old) (F.asked files.new) (outcome_of answer)) }
     ensures halt { IfErr result (λ halt. HaltsAt (F.told files.old)
         (eval_run (eval_words request.now) (test images.now) (test scripts.now))
         (F.faults files.old) (F.faults files.new) (F.failed files.old) (F.failed files.new) (F.asked files.old) (F.asked files.new) halt) }

@@ -46,7 +46,8 @@ pub fn read_shown<'a, F: Files>(
 ) -> Result<LoadedStyle<'a>, RunHalt<'a>>
     ensures told { F.told files.new ≡ F.told files.old }
     ensures failed { OnOk result (NoneFailed (F.faults files.old) (F.faults files.new) (F.failed files.old) (F.failed files.new)) }
-    ensures on { IfOk result (λ shown. GoesOn (F.told files.old) (load_part (eval_words request.now)) (F.asked files.old) (F.asked files.new) (shown_seen shown)) }
+    ensures on { IfOk result (λ shown. GoesOn (F.told files.old) (load_part (eval_words request.now))
+        (F.asked files.old) (F.asked files.new) (shown_seen shown)) }
     ensures sound { IfOk result (λ shown. findings (tree_of shown.style) ≡ []) }
     ensures halt { IfErr result (λ halt. Halts (F.told files.old) (load_part (eval_words request.now))
         (F.faults files.old) (F.faults files.new) (F.failed files.old) (F.failed files.new) (F.asked files.old) (F.asked files.new) halt) }
@@ -86,7 +87,8 @@ fn read_tiles<'a, F: Files>(
 ) -> Result<Vec<SourceTile<'a>>, RunHalt<'a>>
     ensures told { F.told files.new ≡ F.told files.old }
     ensures failed { OnOk result (NoneFailed (F.faults files.old) (F.faults files.new) (F.failed files.old) (F.failed files.new)) }
-    ensures on { IfOk result (λ tiles. GoesOn (F.told files.old) (tiles_part (map tile_word words.now)) (F.asked files.old) (F.asked files.new) (map tile_seen tiles.items)) }
+    ensures on { IfOk result (λ tiles. GoesOn (F.told files.old) (tiles_part (map tile_word words.now))
+        (F.asked files.old) (F.asked files.new) (map tile_seen tiles.items)) }
     ensures halt { IfErr result (λ halt. Halts (F.told files.old) (tiles_part (map tile_word words.now))
         (F.faults files.old) (F.faults files.new) (F.failed files.old) (F.failed files.new) (F.asked files.old) (F.asked files.new) halt) }
 {
@@ -138,7 +140,8 @@ fn read_one<'a, F: Files>(
 ) -> Result<(usize, Tile), RunHalt<'a>>
     ensures told { F.told files.new ≡ F.told files.old }
     ensures failed { OnOk result (NoneFailed (F.faults files.old) (F.faults files.new) (F.failed files.old) (F.failed files.new)) }
-    ensures on { IfOk result (λ read. GoesOn (F.told files.old) (tile_part number at_most (source.now, name.now)) (F.asked files.old) (F.asked files.new) (read.0, read.1)) }
+    ensures on { IfOk result (λ read. GoesOn (F.told files.old) (tile_part number at_most (source.now, name.now))
+        (F.asked files.old) (F.asked files.new) (read.0, read.1)) }
     ensures halt { IfErr result (λ halt. Halts (F.told files.old) (tile_part number at_most (source.now, name.now))
         (F.faults files.old) (F.faults files.new) (F.failed files.old) (F.failed files.new) (F.asked files.old) (F.asked files.new) halt) }
 {

@@ -27,7 +27,8 @@ pub fn answer_migrate<'a, F: Files>(
 ) -> Result<RunOutput, RunHalt<'a>>
     ensures told { F.told files.new ≡ F.told files.old }
     ensures failed { OnOk result (NoneFailed (F.faults files.old) (F.faults files.new) (F.failed files.old) (F.failed files.new)) }
-    ensures answer { IfOk result (λ answer. HasOutcome (F.told files.old) (migrate_run name.now) (F.asked files.old) (F.asked files.new) (outcome_of answer)) }
+    ensures answer { IfOk result (λ answer. HasOutcome (F.told files.old) (migrate_run name.now)
+        (F.asked files.old) (F.asked files.new) (outcome_of answer)) }
     ensures halt { IfErr result (λ halt. HaltsAt (F.told files.old) (migrate_run name.now)
         (F.faults files.old) (F.faults files.new) (F.failed files.old) (F.failed files.new) (F.asked files.old) (F.asked files.new) halt) }
 {

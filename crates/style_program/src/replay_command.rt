@@ -34,7 +34,8 @@ pub fn answer_replay<'a, F: Files>(
     ensures told { F.told files.new ≡ F.told files.old }
     ensures failed { OnOk result (NoneFailed (F.faults files.old) (F.faults files.new) (F.failed files.old) (F.failed files.new)) }
     ensures answer { IfOk result (λ answer. HasOutcome (F.told files.old)
-        (replay_run (replay_words request.now) (test images.old) (test scripts.now) (changes images.old)) (F.asked files.old) (F.asked files.new) (outcome_of answer)) }
+        (replay_run (replay_words request.now) (test images.old) (test scripts.now) (changes images.old))
+        (F.asked files.old) (F.asked files.new) (outcome_of answer)) }
     ensures halt { IfErr result (λ halt. HaltsAt (F.told files.old)
         (replay_run (replay_words request.now) (test images.old) (test scripts.now) (changes images.old))
         (F.faults files.old) (F.faults files.new) (F.failed files.old) (F.failed files.new) (F.asked files.old) (F.asked files.new) halt) }

@@ -68,7 +68,8 @@ pub fn answer_to<'a, F: Files>(
     ensures failed { OnOk result (NoneFailed (F.faults files.old) (F.faults files.new) (F.failed files.old) (F.failed files.new)) }
     ensures fileless { IsFileless (asked_run (test images.old) (test scripts.now) (changes images.old) (asked_by request.now)) → files.new ≡ files.old }
     ensures answer { IfOk result (λ answer.
-        HasOutcome (F.told files.old) (asked_run (test images.old) (test scripts.now) (changes images.old) (asked_by request.now)) (F.asked files.old) (F.asked files.new) (outcome_of answer)) }
+        HasOutcome (F.told files.old) (asked_run (test images.old) (test scripts.now) (changes images.old) (asked_by request.now))
+        (F.asked files.old) (F.asked files.new) (outcome_of answer)) }
     ensures halt { IfErr result (λ halt.
         HaltsAt (F.told files.old) (asked_run (test images.old) (test scripts.now) (changes images.old) (asked_by request.now))
         (F.faults files.old) (F.faults files.new) (F.failed files.old) (F.failed files.new) (F.asked files.old) (F.asked files.new) halt) }
