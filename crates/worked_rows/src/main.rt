@@ -13,6 +13,7 @@
 //! | `files` | an object of contents by file name; a name that it lacks cannot be read |
 //! | `out`, `err` | the contents that standard output and standard error must hold |
 //! | `status` | the exit status, a number |
+//! | `images` | `"fixed"`, where the test of images cannot change; left out, it is an empty set of images |
 //! | `fails` | calls that fail: `{"files":[CALL,..],"out":[[CALL,BYTES],..],"err":[[CALL,BYTES],..]}` |
 //!
 //! A CALL is a number counted from 0, and BYTES says how many bytes a failing write still takes. `files` and

@@ -14,6 +14,8 @@ pub struct TestRow {
     /// The words after the program's name.
     pub words: Vec<String>,
     pub files: FilesInMemory,
+    /// Whether the test of images cannot change.
+    pub has_fixed_images: bool,
     /// The writes that fail, and how many bytes each still takes.
     pub out_fails: Vec<(u64, usize)>,
     pub err_fails: Vec<(u64, usize)>,
@@ -37,6 +39,7 @@ pub fn read_row(alloc: Global, line: &str) -> Result<TestRow> {
         name: String::from_str(alloc, text_of(member(members, "name")?)?)?,
         words: words_of(alloc, member(members, "words")?)?,
         files: files_of(alloc, members)?,
+        has_fixed_images: has_fixed_images(members)?,
         out_fails: failing_writes(alloc, members, "out")?,
         err_fails: failing_writes(alloc, members, "err")?,
         wanted: wanted_of(alloc, members)?,
@@ -66,6 +69,16 @@ fn files_of(alloc: Global, row: &Members) -> Result<FilesInMemory> {
         }
     }
     Ok(files)
+}
+
+fn has_fixed_images(row: &Members) -> Result<bool> {
+    match row.get("images") {
+        Some(images) => match text_of(images)? {
+            "fixed" => Ok(true),
+            _ => bail!("no test of images"),
+        },
+        None => Ok(false),
+    }
 }
 
 fn failing_writes(alloc: Global, row: &Members, sink: &str) -> Result<Vec<(u64, usize)>> {

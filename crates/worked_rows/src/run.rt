@@ -3,7 +3,7 @@
 ghost use Rattle.std.specs.Prelude.{◌≡◌, ◌<◌};
 
 use crate::row::{TestRow, WantedRun};
-use host_ops::{ImageSet, ScriptTest};
+use host_ops::{HostOp, ImageSet, ScriptTest};
 use outside_io::{SinkInMemory, Steps};
 use std::alloc::{AllocError, Global};
 use std::marker::Brand;
@@ -42,7 +42,11 @@ fn run_counted<L: Ledger>(
     requires some { 0 < blank.parts }
 {
     let mut steps: Steps<L> = Steps::new(blank);
-    let images = Box::new(alloc, ImageSet::new(alloc))?;
+    let images: Box<dyn HostOp> = if row.has_fixed_images {
+        Box::new(alloc, ScriptTest::new())?
+    } else {
+        Box::new(alloc, ImageSet::new(alloc))?
+    };
     let scripts = Box::new(alloc, ScriptTest::new())?;
     let words = row.words.as_slice();
     let files = &mut row.files;
