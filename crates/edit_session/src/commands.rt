@@ -1,11 +1,12 @@
 //! What each command does to a session.
 
-ghost use Rattle.std.specs.Prelude.{◌≡◌, ℕ, List, Bool, None, true, option_map, IfOk, OnOk};
+ghost use Rattle.std.specs.Prelude.{◌≡◌, ℕ, List, Bool, None, true, option_map, IfOk, OnOk, OnErr};
 ghost use Rattle.decimal_json.specs.View.{tree_of};
 ghost use Rattle.edit_script.specs.Edit as edits;
 ghost use Rattle.edit_script.specs.View.{command_seen};
 ghost use Rattle.edit_session.specs.Applied.{listed, listing_of, refusal_of};
 ghost use Rattle.edit_session.specs.View.{session_state, reply_seen, tiles_of, IsAnswer, IsReady, edits_layers, told};
+ghost use Rattle.host_ops.specs.Change.{IsSameTest};
 ghost use Rattle.prop_values.specs.Data.{pairs_of};
 ghost use Rattle.prop_values.specs.View.{data_of};
 ghost use Rattle.style_edits.specs.Faults.{edit_fault};
@@ -36,6 +37,7 @@ impl Session<'_> {
             (session_state self.old (test images.old)) (session_state self.new (test images.new)) (command_seen command.now)) }
         ensures tiles { tiles_of self.new ≡ tiles_of self.old }
         ensures changes { changes images.new ≡ changes images.old }
+        ensures lent { OnErr result (IsSameTest (test images.old) (test images.new)) }
         ensures ready { OnOk result (IsReady self.new) }
     {
         let places = edit_places(&self.document, command);
@@ -60,6 +62,7 @@ impl Session<'_> {
             (session_state self.old (test images.old)) (session_state self.new (test images.new)) (command_seen command.now)) }
         ensures tiles { tiles_of self.new ≡ tiles_of self.old }
         ensures changes { changes images.new ≡ changes images.old }
+        ensures lent { OnErr result (IsSameTest (test images.old) (test images.new)) }
         ensures ready { OnOk result (IsReady self.new) }
     {
         match command {
@@ -198,6 +201,7 @@ fn told(
     ensures answer { IfOk result (λ answer. (test images.new, reply_seen answer)
         ≡ told (changes images.old) name.now present (test images.old)) }
     ensures changes { changes images.new ≡ changes images.old }
+    ensures lent { OnErr result (IsSameTest (test images.old) (test images.new)) }
 {
     match images.tell(alloc, name.as_str(), present) {
         Ok(()) => Ok(Answer::Done),

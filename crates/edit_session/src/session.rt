@@ -8,6 +8,7 @@ ghost use Rattle.edit_session.specs.Applied.{applied, listing_of};
 ghost use Rattle.edit_session.specs.Opening.{open_fault, tiles_fault};
 ghost use Rattle.edit_session.specs.SessionState.{opened};
 ghost use Rattle.edit_session.specs.View.{fault_seen, session_state, reply_seen, tiles_of, lacks_memory, IsSoundSession};
+ghost use Rattle.host_ops.specs.Change.{IsSameTest};
 ghost use Rattle.style_layout.specs.CodeView.{tile_seen};
 ghost use Rattle.style_rules.specs.Findings.{findings};
 
@@ -124,6 +125,7 @@ impl<'a> Session<'a> {
             (command_seen command.now)) }
         ensures tiles { tiles_of self.new ≡ tiles_of self.old }
         ensures changes { changes images.new ≡ changes images.old }
+        ensures lent { OnErr result (IsSameTest (test images.old) (test images.new)) }
         ensures sound { IsSoundSession self.new }
         ensures lacks { lacks_memory self.new ≡ is_err result }
         ensures memory { lacks_memory self.old ≡ true → IsErr result }
