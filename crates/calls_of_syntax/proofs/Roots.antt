@@ -5,7 +5,8 @@ use Rattle.prop_values.specs.declared.kinds.Want.{Want}
 use Rattle.property_tables.specs.Rows.{RowData}
 use Rattle.expr_syntax.specs.Term.{Term}
 use Rattle.expr_types.specs.Checked.{allowed, checked}
-use Rattle.expr_types.specs.Judged.{Judged, found_places, places_in, judged}
+use Rattle.expr_types.specs.Judged.{Judged}
+use Rattle.expr_types.specs.JudgedFacts.{found_places, places_in, judged}
 use Rattle.expr_types.specs.Typing.{Typed, typed}
 use Rattle.expr_types.specs.Visits.{Visit, visits}
 use Rattle.expr_types.specs.declared.standing.Standing.TheVariants.{Reached}

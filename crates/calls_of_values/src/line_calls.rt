@@ -1,7 +1,7 @@
 //! Calls of `interpolate_fixed`.
 
 ghost use Rattle.std.specs.Prelude.{◌<ℤ◌, IfSome};
-ghost use Rattle.interpolate_fixed.specs.Warp.{HasPositiveBase};
+ghost use Rattle.interpolate_fixed.specs.PlaceFacts.{HasPositiveBase};
 
 use fixed_num::{Arith, Color, Fixed, read_decimal};
 use interpolate_fixed::{

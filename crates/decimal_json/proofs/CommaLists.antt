@@ -11,8 +11,10 @@ use Rattle.halts.specs.declared.halt.Halt.TheVariants.{Fault, NoMemory}
 use Rattle.json_tokens.specs.Rules.{Rules}
 use Rattle.json_tokens.specs.Number.{is_number_byte}
 use Rattle.json_tokens.specs.Runs.{Stops}
-use Rattle.json_tokens.specs.Production.{Production, EndsNumber, Takes, Fails, Halts, Gives, Reaches}
-use Rattle.json_tokens.specs.Sequence.{is_space, IsSkipped, Padded, PaddedBy, Behind, InTurn, Followed, EndsNumbers, IsCloser}
+use Rattle.json_tokens.specs.Production.{Production, EndsNumber}
+use Rattle.json_tokens.specs.Readers.{Takes, Fails, Halts, Gives, Reaches}
+use Rattle.json_tokens.specs.Sequence.{is_space, Padded, Behind, InTurn}
+use Rattle.json_tokens.specs.SequenceReaders.{IsSkipped, PaddedBy, Followed, EndsNumbers, IsCloser}
 use Rattle.json_tokens.proofs.Composed.{reaches_here, reaches_more, reaches_as, reaches_taken, reaches_fails, reaches_halts}
 use Rattle.json_tokens.proofs.Sequences.{reaches_skipped, reaches_next, fails_first, fails_here}
 use Rattle.decimal_json.specs.Reading.{GivesTurn}

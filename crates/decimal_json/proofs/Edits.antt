@@ -9,7 +9,8 @@ use Rattle.key_index.proofs.Keys.{none_first, not_below}
 use Rattle.decimal_json.specs.declared.tree.Member.{Member}
 use Rattle.decimal_json.specs.declared.tree.Json.{Json}
 use Rattle.decimal_json.specs.Editing.{members_with, replaced_members, members_without}
-use Rattle.decimal_json.specs.Tree.{Tree, LacksKey, HasDistinctKeys}
+use Rattle.decimal_json.specs.Tree.{Tree}
+use Rattle.decimal_json.specs.Sound.{LacksKey, HasDistinctKeys}
 use Rattle.decimal_json.specs.View.{tree_of, member_view, members_view, member_keys}
 
 -- What a map makes of a list with one more element, with one less, and with another.

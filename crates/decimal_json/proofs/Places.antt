@@ -7,7 +7,8 @@ use Rattle.key_index.specs.Keys as key
 use Rattle.key_index.specs.Keys.{place_from}
 use Rattle.key_index.proofs.Keys.{none_first}
 use Rattle.decimal_json.specs.declared.tree.Member.{Member}
-use Rattle.decimal_json.specs.Tree.{LacksKey, HasDistinctKeys, field_at}
+use Rattle.decimal_json.specs.Tree.{field_at}
+use Rattle.decimal_json.specs.Sound.{LacksKey, HasDistinctKeys}
 use Rattle.decimal_json.specs.View.{tree_of, members_view, member_keys, fields}
 
 pub lacks_member_key : (k : List ℕ) (ms : List Member) → LacksKey k (members_view ms) → key.LacksKey k (member_keys ms)

@@ -15,10 +15,6 @@ abbrev pub text_in : Tree → Option (List ℕ)
 text_in (text s) = Some s
 text_in _ = None
 
-abbrev pub items_in : Tree → Option Trees
-items_in (list ts) = Some ts
-items_in _ = None
-
 abbrev pub fields_in : Tree → Option Fields
 fields_in (object fs) = Some fs
 fields_in _ = None

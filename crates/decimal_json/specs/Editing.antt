@@ -1,12 +1,7 @@
 -- Items and members that are changed in place.
-use Rattle.std.specs.Prelude.{ℕ, List, [], ◌∷◌, insert, remove, slice_index_or, if◌then◌else◌}
+use Rattle.std.specs.Prelude.{ℕ, List, [], ◌∷◌, if◌then◌else◌}
 use Rattle.std.specs.Str.{bytes_eq}
-use Rattle.decimal_json.specs.Tree.{Tree, null}
-
--- The items after the one at a place was moved: it is taken out, and put in at a place among those that are
--- left. Source: own.
-abbrev pub moved_items : ℕ → ℕ → List Tree → List Tree
-moved_items from to ts = insert (remove ts from) to (slice_index_or ts from null)
+use Rattle.decimal_json.specs.Tree.{Tree}
 
 -- The members after a tree was put at a key: in place of the tree that is there, else in a new last member.
 -- Source: own.

@@ -1,9 +1,9 @@
 //! What a tree holds, by its form.
 
 ghost use Rattle.std.specs.Prelude.{◌≡◌, option_map};
-ghost use Rattle.decimal_json.specs.Accessors.{is_text, is_object, text_in, items_in, fields_in, member};
+ghost use Rattle.decimal_json.specs.Accessors.{is_text, is_object, text_in, fields_in, member};
+ghost use Rattle.decimal_json.specs.View.{items_in, tree_of, trees, tree_at};
 ghost use Rattle.decimal_json.specs.Tree.{fields_of};
-ghost use Rattle.decimal_json.specs.View.{tree_of, trees, tree_at};
 
 use crate::tree::{Json, Members};
 

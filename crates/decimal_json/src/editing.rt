@@ -1,7 +1,8 @@
 ghost use Rattle.std.specs.Prelude.{◌≡◌, ◌<◌, ◌≤◌, length, insert, remove, slice_set, slice_index_or, OnOk, OnErr, option_map};
-ghost use Rattle.decimal_json.specs.Editing.{moved_items, members_with, replaced_members, members_without};
-ghost use Rattle.decimal_json.specs.Tree.{LacksKey, field_at, fields_of};
-ghost use Rattle.decimal_json.specs.View.{tree_of};
+ghost use Rattle.decimal_json.specs.Editing.{members_with, replaced_members, members_without};
+ghost use Rattle.decimal_json.specs.View.{moved_items, tree_of};
+ghost use Rattle.decimal_json.specs.Tree.{field_at, fields_of};
+ghost use Rattle.decimal_json.specs.Sound.{LacksKey};
 ghost use Rattle.decimal_json.specs.declared.tree.Member.{Member};
 
 use crate::tree::{Items, Json, Member, Members};

@@ -16,12 +16,12 @@
 //! `specs/Grammar.antt`, which is RFC 8259 with five rules of `json_tokens`, and no byte string spells two
 //! trees. Where they spell none, the fault's place is the length of the longest front that begins an
 //! accepted text, and its kind the rule that, dropped alone, lets that front and the next byte begin
-//! one; `specs/Parses.antt` says so. `write`, `write_text` and `write_path` append exactly the text that is
+//! one; `specs/Parsed.antt` says so. `write`, `write_text` and `write_path` append exactly the text that is
 //! defined in `specs/JsonText.antt` and `specs/Place.antt`; when allocation fails a prefix of it may have
 //! been appended. The text of a tree that is sound, as `specs/Sound.antt` says it, spells that tree. The
 //! items of an array and the members of an object are edited in place, as `specs/Editing.antt` says; when
 //! allocation fails, nothing changes.
-//! The text to believe is in `specs/`: `Tree`, `View`, `Accessors`, `Editing`, `Grammar`, `Parses`,
+//! The text to believe is in `specs/`: `Tree`, `View`, `Accessors`, `Editing`, `Grammar`, `Parses`, `Parsed`,
 //! `JsonText`, `Place`. Laws of it: `OneTree`, `OneFault`, `Sound`, `RoundTrip`.
 #![tactic(auto)]
 

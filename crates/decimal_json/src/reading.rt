@@ -1,9 +1,9 @@
 ghost use Rattle.std.specs.Prelude.{◌≡◌, ◌≤◌, ◌<◌, IsUtf8, [], Some, length, IfOk};
-ghost use Rattle.json_tokens.specs.Production.{Gives};
-ghost use Rattle.json_tokens.specs.Runs.{first_of};
-ghost use Rattle.json_tokens.specs.Sequence.{BehindByte};
+ghost use Rattle.json_tokens.specs.Readers.{Gives};
+ghost use Rattle.json_tokens.specs.RunLengths.{first_of};
+ghost use Rattle.json_tokens.specs.SequenceReaders.{BehindByte};
 ghost use Rattle.decimal_json.specs.Grammar.{IsNew, SpellsKey, SpellsValue, SpellsItems, SpellsMembers};
-ghost use Rattle.decimal_json.specs.Parses.{Parses};
+ghost use Rattle.decimal_json.specs.Parsed.{Parses};
 ghost use Rattle.decimal_json.specs.Reading.{AreUtf8, GivesTurn, SpellsMembersOn, SpellsNamed, SpellsPair, SpellsSome, GivesWhole, keys_of, pair_of};
 ghost use Rattle.decimal_json.specs.Tree.{trees_of, fields_of};
 ghost use Rattle.decimal_json.specs.View.{tree_of};

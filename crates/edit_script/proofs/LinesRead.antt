@@ -1,7 +1,7 @@
 -- What is read of the tree that a line spells is the answer to the line.
 use Rattle.std.proofs.Common.{inl, inr, subst}
 use Rattle.std.specs.Prelude.{◌≡◌, ℕ, List, Result, Ok, Err, IfOk, refl}
-use Rattle.decimal_json.specs.Parses.{Parses}
+use Rattle.decimal_json.specs.Parsed.{Parses}
 use Rattle.decimal_json.specs.View.{tree_of}
 use Rattle.decimal_json.specs.declared.fault.JsonFault.{JsonFault}
 use Rattle.decimal_json.specs.declared.tree.Json.{Json}

@@ -15,7 +15,8 @@ use Rattle.expr_syntax.specs.declared.expression.Operator.TheVariants.{Concat, F
 use Rattle.expr_syntax.specs.declared.parts.FormatPiece.{FormatPiece}
 use Rattle.expr_syntax.specs.declared.parts.Role.{Role}
 use Rattle.expr_syntax.specs.declared.parts.Role.TheVariants.{Content, Scale, Font, Color}
-use Rattle.format_text.specs.Sections.{section_with, section_of, sections_values, plain_text}
+use Rattle.format_text.specs.Sections.{section_with, section_of}
+use Rattle.format_text.specs.SectionLists.{sections_values, plain_text}
 use Rattle.format_text.specs.declared.formatted.Section.{Section}
 use Rattle.operator_values.specs.Evaluated.{Evaluated, then_value}
 use Rattle.operator_values.specs.Texts.{joined, concat_of}

@@ -7,7 +7,7 @@ use Rattle.expr_syntax.specs.declared.expression.Operator.TheVariants.{Concat, F
 use Rattle.expr_syntax.specs.declared.parts.FormatPiece.{FormatPiece}
 use Rattle.expr_syntax.specs.declared.parts.Role.{Role}
 use Rattle.expr_syntax.specs.declared.parts.Role.TheVariants.{Content, Scale, Font, Color}
-use Rattle.format_text.specs.Sections.{sections_data, plain_text}
+use Rattle.format_text.specs.SectionLists.{sections_data, plain_text}
 use Rattle.format_text.specs.declared.formatted.Section.{Section}
 use Rattle.operator_values.specs.Evaluated.{Evaluated}
 use Rattle.eval_face.specs.Meaning.{mean}

@@ -3,7 +3,8 @@ use Rattle.std.proofs.Common.{◌≡◌, ℕ, ◌+◌, ◌<◌, ◌≤◌, zero,
 use Rattle.std.proofs.lemmas.List.{drop_all, length-take, take-append-le, drop-append-le}
 use Rattle.std.specs.List.{slice_get}
 use Rattle.prop_values.specs.Data.{Data}
-use Rattle.prop_values.specs.View.{data_of, values_view}
+use Rattle.prop_values.specs.View.{data_of}
+use Rattle.prop_values.specs.ViewParts.{values_view}
 use Rattle.prop_values.specs.declared.fault.EvalFault.{EvalFault}
 use Rattle.prop_values.specs.declared.kinds.Want.{Want}
 use Rattle.prop_values.specs.declared.value.Value.{Value}

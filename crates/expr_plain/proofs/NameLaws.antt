@@ -6,11 +6,11 @@ use Rattle.prop_values.specs.declared.fault.EvalFault.TheVariants.{WrongType}
 use Rattle.prop_values.specs.declared.kinds.Want.{Want}
 use Rattle.prop_values.specs.declared.kinds.Want.TheVariants as wants
 use Rattle.expr_syntax.specs.declared.expression.Expr.{Expr}
-use Rattle.expr_syntax.specs.BoundNames.{last_place}
+use Rattle.expr_syntax.specs.NameIndex.{last_place}
 use Rattle.expr_syntax.specs.TermView.{weight}
 use Rattle.expr_syntax.proofs.Falls.{argument_weight}
 use Rattle.expr_syntax.proofs.LastPlaces.{none_first, some_cases, last_above}
-use Rattle.expr_syntax.specs.Term.{nodes}
+use Rattle.expr_syntax.specs.TermSize.{nodes}
 use Rattle.expr_syntax.specs.TermView.{term_of}
 use Rattle.operator_values.specs.Evaluated.{Evaluated}
 use Rattle.eval_face.specs.World.{World}

@@ -1,7 +1,7 @@
 -- What an evaluation gives, and what it leaves as it was.
 use Rattle.std.specs.Prelude.{◌≡◌, List, length, take, drop, Result, IfOk}
 use Rattle.prop_values.specs.Data.{Data}
-use Rattle.prop_values.specs.View.{values_view}
+use Rattle.prop_values.specs.ViewParts.{values_view}
 use Rattle.prop_values.specs.declared.fault.EvalFault.{EvalFault}
 use Rattle.prop_values.specs.declared.kinds.Want.{Want}
 use Rattle.prop_values.specs.declared.value.Value.{Value}

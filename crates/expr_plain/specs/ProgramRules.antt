@@ -1,5 +1,5 @@
 -- The rule of an operator, as the program has it.
-use Rattle.interpolate_fixed.specs.Places.{IsAscending}
+use Rattle.interpolate_fixed.specs.PlaceFacts.{IsAscending}
 use Rattle.expr_syntax.specs.declared.expression.Operator.{Operator}
 use Rattle.eval_face.specs.Rules.{Rule, each, deciding, cases, labels, stops, ramp, bindings, variable, rule_of}
 use Rattle.expr_plain.specs.RuleParts.{applied_by, decided_by, undecided_by}

@@ -2,7 +2,8 @@
 
 ghost use Rattle.std.specs.Prelude.{◌≡◌, Ok, true};
 ghost use Rattle.std.specs.Option.{option_map};
-ghost use Rattle.prop_values.specs.View.{data_of, values_view, evaluated_of};
+ghost use Rattle.prop_values.specs.View.{data_of};
+ghost use Rattle.prop_values.specs.ViewParts.{values_view, evaluated_of};
 ghost use Rattle.property_tables.specs.Fitting.{fit};
 ghost use Rattle.operator_values.specs.Evaluated.{GivesValue, then_value};
 ghost use Rattle.eval_face.specs.Rules.{rule_of, array_of};

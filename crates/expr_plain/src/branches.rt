@@ -1,8 +1,9 @@
 //! What decides between outputs, and the output that it chooses.
 
 ghost use Rattle.std.specs.Prelude.{◌≡◌, ◌<◌, ◌+◌, length};
-ghost use Rattle.interpolate_fixed.specs.Places.{IsAscending, IsBetween, input_at, place_of};
-ghost use Rattle.interpolate_fixed.specs.Warp.{HasPositiveBase, warp_of};
+ghost use Rattle.interpolate_fixed.specs.Places.{input_at, place_of};
+ghost use Rattle.interpolate_fixed.specs.PlaceFacts.{IsAscending, IsBetween, HasPositiveBase};
+ghost use Rattle.interpolate_fixed.specs.Warp.{warp_of};
 ghost use Rattle.prop_values.specs.View.{data_of};
 ghost use Rattle.operator_values.specs.Evaluated.{GivesValue, or_fault};
 ghost use Rattle.operator_values.specs.Ramps.{between_of};

@@ -1,5 +1,5 @@
 ghost use Rattle.std.specs.Prelude.{◌≡◌, [], IfOk};
-ghost use Rattle.prop_values.specs.View.{evaluated_of};
+ghost use Rattle.prop_values.specs.ViewParts.{evaluated_of};
 ghost use Rattle.expr_syntax.specs.TermView.{term_of};
 ghost use Rattle.operator_values.specs.Evaluated.{GivesValue};
 ghost use Rattle.eval_face.specs.World.{world_of};

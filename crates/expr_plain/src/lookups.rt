@@ -3,7 +3,8 @@
 ghost use Rattle.std.specs.Prelude.{◌≡◌, IfOk, is_some};
 ghost use Rattle.prop_values.specs.Data.{map, pairs_of};
 ghost use Rattle.prop_values.specs.Equality.{at_key};
-ghost use Rattle.prop_values.specs.View.{data_of, values_view, evaluated_of};
+ghost use Rattle.prop_values.specs.View.{data_of};
+ghost use Rattle.prop_values.specs.ViewParts.{values_view, evaluated_of};
 ghost use Rattle.operator_values.specs.Evaluated.{GivesValue};
 ghost use Rattle.eval_face.specs.World.{state_of};
 ghost use Rattle.eval_face.specs.Lookups.{entry_at, get_of, has_of, state_at, id_value, image_of, script_of};

@@ -2,7 +2,8 @@
 
 ghost use Rattle.std.specs.Prelude.{◌≡◌, List, [], ◌∷◌, ◌++◌, OnOk, IfErr};
 ghost use Rattle.prop_values.specs.Data.{Data};
-ghost use Rattle.prop_values.specs.View.{data_of, values_view};
+ghost use Rattle.prop_values.specs.View.{data_of};
+ghost use Rattle.prop_values.specs.ViewParts.{values_view};
 ghost use Rattle.format_text.specs.Sections.{section_of, section_with};
 ghost use Rattle.expr_syntax.specs.declared.parts.Role.TheVariants.{Scale, Font, Color};
 ghost use Rattle.operator_values.specs.Evaluated.{GivesValue};

@@ -1,7 +1,8 @@
 //! Arguments that have to be a text or a list.
 
 ghost use Rattle.std.specs.Prelude.{◌≡◌};
-ghost use Rattle.prop_values.specs.View.{data_of, evaluated_of};
+ghost use Rattle.prop_values.specs.View.{data_of};
+ghost use Rattle.prop_values.specs.ViewParts.{evaluated_of};
 ghost use Rattle.expr_syntax.specs.Names.{row};
 ghost use Rattle.expr_syntax.specs.Operators.{operator_name};
 ghost use Rattle.eval_face.specs.Meanings.{is_sequence, as_sequence};

@@ -2,7 +2,7 @@
 use Rattle.std.specs.Prelude.{◌≡◌, ℕ, ◌≤◌, ◌<◌, List, [], ◌∷◌, length}
 use Rattle.std.proofs.Common.{arith, ap, get_or, zero, suc}
 use Rattle.expr_syntax.specs.declared.expression.Expr.{Expr}
-use Rattle.expr_syntax.specs.Term.{nodes}
+use Rattle.expr_syntax.specs.TermSize.{nodes}
 use Rattle.expr_syntax.specs.TermView.{term_of, terms, weight}
 use Rattle.expr_syntax.specs.Mentioned.{count}
 

@@ -2,7 +2,7 @@
 use Rattle.std.specs.Prelude.{◌≡◌, ◌≤◌, ◌⊎◌, ℕ, ◌+◌, List, [], ◌∷◌, Bool, true, false, Option, Some, None, if◌then◌else◌}
 use Rattle.std.proofs.Common.{refl, inl, inr, arith}
 use Rattle.std.specs.Str.{bytes_eq}
-use Rattle.expr_syntax.specs.BoundNames.{or_last, last_place}
+use Rattle.expr_syntax.specs.NameIndex.{or_last, last_place}
 
 -- the first is not the last of them, or it is
 pub none_first : (later : Option ℕ) (b : Bool) (i : ℕ) → or_last later (if b then Some i else None) ≡ None → (later ≡ None) × (b ≡ false)

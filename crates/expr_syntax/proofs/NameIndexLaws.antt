@@ -2,7 +2,8 @@
 use Rattle.std.proofs.Common.{◌≡◌, ◌<◌, ◌+◌, List, [], ◌∷◌, ℕ, suc, length, get_or, drop, drop-cons, add-one, refl, ap, sym, subst, ◌∙◌, true, false, arith}
 use Rattle.std.specs.Prelude.{Bool, ◌||◌, Option, Some, None, IfSome, is_some, if◌then◌else◌}
 use Rattle.std.specs.Str.{bytes_eq}
-use Rattle.expr_syntax.specs.BoundNames.{is_among, or_last, last_place}
+use Rattle.expr_syntax.specs.BoundNames.{is_among}
+use Rattle.expr_syntax.specs.NameIndex.{or_last, last_place}
 use Rattle.expr_syntax.specs.TextNumbers.{TextNumbers, number_of_text, NotesText}
 
 -- the places of the names to come and then those of the map are the last of all

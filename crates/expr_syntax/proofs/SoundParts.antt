@@ -8,8 +8,7 @@ use Rattle.decimal_json.specs.Accessors.{text_in}
 use Rattle.decimal_json.specs.Tree.{Tree, null, boolean, number, text, list, object, Trees, no_trees, tree}
 use Rattle.fixed_num.specs.Decimal.{read_text}
 use Rattle.fixed_num.specs.declared.decimal.NumFault.{NumFault}
-use Rattle.interpolate_fixed.specs.Places.{IsAscending}
-use Rattle.interpolate_fixed.specs.Warp.{HasPositiveBase}
+use Rattle.interpolate_fixed.specs.PlaceFacts.{IsAscending, HasPositiveBase}
 use Rattle.prop_values.specs.declared.outcome.Curve.{Curve}
 use Rattle.prop_values.specs.declared.outcome.Curve.TheVariants.{Linear, Exponential}
 use Rattle.expr_syntax.specs.declared.fault.SynCode.{SynCode}

@@ -5,7 +5,8 @@ use Rattle.std.proofs.lemmas.Int.{ints}
 use Rattle.std.proofs.lemmas.List.{get_or_default}
 use Rattle.std.proofs.lemmas.List.Quantifiers.{all_pairs_push}
 use Rattle.std.specs.Prelude.{Bool, ◌&&◌, nat_le, nat_eq, ◌%◌, ◌<ℤ◌, Option, Some, None, Result, Ok, Err}
-use Rattle.interpolate_fixed.specs.Places.{IsAscending, last_of}
+use Rattle.interpolate_fixed.specs.Places.{last_of}
+use Rattle.interpolate_fixed.specs.PlaceFacts.{IsAscending}
 use Rattle.decimal_json.specs.Tree.{Tree, null, boolean, number, text, list, object}
 use Rattle.decimal_json.specs.View.{tree_of, trees}
 use Rattle.decimal_json.specs.declared.tree.Json.{Json}

@@ -5,7 +5,7 @@ use denote.Param.Weighed.{most}
 use Rattle.expr_syntax.specs.declared.expression.Expr.{Expr}
 use Rattle.expr_syntax.specs.declared.expression.Expr.TheVariants.{Literal, Node}
 use Rattle.expr_syntax.specs.declared.expression.Arguments.TheDeep.{deep-Expr}
-use Rattle.expr_syntax.specs.Term.{nodes}
+use Rattle.expr_syntax.specs.TermSize.{nodes}
 use Rattle.expr_syntax.specs.TermView.{term_of, terms_view, terms_size}
 
 deep_le-nodes : (e : Expr) → deep-Expr e ≤ nodes (term_of e)

@@ -24,3 +24,4 @@ pub mod LabelIndex
 pub mod NameIndex
 pub mod TermCode
 pub mod Falls
+pub mod TermSize

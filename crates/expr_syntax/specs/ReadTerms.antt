@@ -5,8 +5,7 @@ use Rattle.std.specs.Prelude.{◌≡◌, ℕ, ◌+◌, ◌-◌, ◌<◌, List, [
 use Rattle.std.specs.List.{list_all}
 use Rattle.decimal_json.specs.Tree.{Tree}
 use Rattle.prop_values.specs.Data.{Data}
-use Rattle.interpolate_fixed.specs.Places.{IsAscending}
-use Rattle.interpolate_fixed.specs.Warp.{HasPositiveBase}
+use Rattle.interpolate_fixed.specs.PlaceFacts.{IsAscending, HasPositiveBase}
 use Rattle.expr_syntax.specs.declared.parts.Labelled.{Labelled}
 use Rattle.expr_syntax.specs.declared.parts.FormatPiece.{FormatPiece}
 use Rattle.expr_syntax.specs.declared.parts.Role.TheVariants.{Content}

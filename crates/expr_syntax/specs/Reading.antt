@@ -197,14 +197,6 @@ abbrev mutual
   members no_fields = []
   members (field k t fs) = (k, read t) ∷ members fs
 
--- a node of this name
-abbrev pub node_of : Name → Trees → Reader
-node_of name ts = node_read name ts (elements ts)
-
--- an element of a `format`
-abbrev pub section_of : ℕ → Bool → Tree → Scope → List PathPart → FormatArguments → Result FormatArguments SynFault
-section_of i follows t scope path found = section_read i follows (options t) (read t) scope path found
-
 -- an expression, or none where it is outside
 abbrev pub Reading : Type 0
 Reading = Result (Option Term) SynFault

@@ -15,7 +15,6 @@ use Rattle.expr_syntax.specs.declared.rows.Manner.{Manner}
 use Rattle.expr_syntax.specs.declared.rows.Manner.TheVariants as manners
 use Rattle.expr_syntax.specs.declared.rows.Reads.{Reads}
 use Rattle.expr_syntax.specs.declared.rows.Reads.TheVariants as reading
-use Rattle.expr_syntax.specs.declared.rows.OperatorRow.{OperatorRow as CodeRow}
 
 -- A row of the table: the fields of the program's own.
 pub record OperatorRow : Type 0 where
@@ -27,9 +26,6 @@ pub record OperatorRow : Type 0 where
   pub sequence : Option ℕ
   pub manner : Manner
   pub reads : Reads
-
-abbrev pub row_view : CodeRow → OperatorRow
-row_view r = record { text = r.text.now; is_outside = r.is_outside; arity = r.arity; layout = r.layout; wants = r.wants; sequence = r.sequence; manner = r.manner; reads = r.reads }
 
 -- an operator all of whose elements are arguments, which are all evaluated and are all that it reads
 abbrev pub plain : List ℕ → Arity → Wants → OperatorRow

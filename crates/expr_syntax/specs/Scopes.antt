@@ -3,7 +3,6 @@ use Rattle.std.specs.Prelude.{ℕ, List, Bool, false, ◌||◌, Option}
 use Rattle.prop_values.specs.Data.{Data, pairs_of}
 use Rattle.prop_values.specs.Equality.{at_key}
 use Rattle.expr_syntax.specs.BoundNames.{is_among}
-use Rattle.expr_syntax.specs.declared.scope.Scope.{Scope as CodeScope, Globals, Inside'}
 
 -- The values of the global state, and inside of them the names of each `let`, the innermost first.
 pub data Scope : Type 0 where
@@ -19,8 +18,3 @@ is_known (frame names outer) name = is_among names name || is_known outer name
 abbrev pub global_at : Scope → List ℕ → Option Data
 global_at (globals values) name = at_key name (pairs_of values)
 global_at (frame names outer) name = global_at outer name
-
--- the scope of the program's own
-abbrev pub scope_of : CodeScope → Scope
-scope_of (Globals values) = globals values.now
-scope_of (Inside' bound p outer) = frame bound.now (scope_of outer)

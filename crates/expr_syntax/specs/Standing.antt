@@ -146,7 +146,3 @@ abbrev mutual
 -- whether an expression is outside of what is evaluated: one of its nodes is
 abbrev pub is_outside : Tree → Bool
 is_outside t = stands t Outside true
-
--- whether an expression contains a `global-state` node
-abbrev pub uses_globals : Tree → Bool
-uses_globals t = stands t Global true

@@ -1,7 +1,8 @@
 -- An expression of the program and its term.
 use Rattle.std.specs.Prelude.{ℕ, List, map}
 use Rattle.prop_values.specs.View.{data_of}
-use Rattle.expr_syntax.specs.Term.{Term, literal, node, Terms, terms_of, terms_nodes}
+use Rattle.expr_syntax.specs.Term.{Term, literal, node, Terms, terms_of}
+use Rattle.expr_syntax.specs.TermSize.{terms_nodes}
 use Rattle.expr_syntax.specs.declared.expression.Expr.{Expr}
 use Rattle.expr_syntax.specs.declared.expression.Expr.TheVariants.{Literal, Node}
 

@@ -1,8 +1,7 @@
 //! The names that a `let` binds.
 
 ghost use Rattle.std.specs.Prelude.{◌≡◌, ◌<◌, ◌^◌, IfOk, IfSome, length};
-ghost use Rattle.expr_syntax.specs.BoundNames.{last_place};
-ghost use Rattle.expr_syntax.specs.NameIndex.{ArePlacesOf, IsIndexOf};
+ghost use Rattle.expr_syntax.specs.NameIndex.{last_place, ArePlacesOf, IsIndexOf};
 
 use crate::text_numbers::{TextNumbers, note_text, number_of_text};
 use decimal_json::Text;

@@ -1,7 +1,7 @@
 ghost use Rattle.std.specs.Prelude.{◌≡◌, ◌<◌, ◌^◌, [], ◌∷◌, ◌++◌, OnOk, OnErr};
 ghost use Rattle.expr_syntax.specs.Names.{row};
 ghost use Rattle.expr_syntax.specs.Operators.{operator_name, plain_operator, wanted_by};
-ghost use Rattle.expr_syntax.specs.Rows.{row_view};
+ghost use Rattle.expr_syntax.specs.ReadView.{row_view};
 ghost use Rattle.expr_syntax.specs.TermView.{term_of, terms_view};
 
 use crate::bound_names::Names;

@@ -2,7 +2,7 @@
 
 ghost use Rattle.std.specs.Prelude.{◌≡◌, ◌<◌};
 ghost use Rattle.expr_syntax.specs.Names.{row, name_of};
-ghost use Rattle.expr_syntax.specs.Rows.{row_view};
+ghost use Rattle.expr_syntax.specs.ReadView.{row_view};
 ghost use Rattle.expr_syntax.specs.Slots.{slot_of, name_in};
 
 use crate::rows::Arity::{AtLeast, Between, EvenFrom, Exactly, OddFrom};

@@ -6,8 +6,7 @@ ghost use Rattle.expr_syntax.specs.Chosen.{output_of};
 ghost use Rattle.expr_syntax.specs.LabelIndex.{distinct_labels};
 ghost use Rattle.expr_syntax.specs.Operators.{role_want};
 ghost use Rattle.expr_syntax.specs.Stops.{IsAboveLast};
-ghost use Rattle.interpolate_fixed.specs.Places.{IsAscending};
-ghost use Rattle.interpolate_fixed.specs.Warp.{HasPositiveBase};
+ghost use Rattle.interpolate_fixed.specs.PlaceFacts.{IsAscending, HasPositiveBase};
 
 use crate::label_index::{LabelIndex, LabelList, index_of, value_output};
 use decimal_json::Text;
@@ -87,7 +86,7 @@ pub struct Inputs {
 
 impl Model for Inputs {
     ghost use Rattle.std.specs.Prelude.{List, ℤ};
-    ghost use Rattle.interpolate_fixed.specs.Places.{IsAscending};
+    ghost use Rattle.interpolate_fixed.specs.PlaceFacts.{IsAscending};
 
     ghost Value = { List ℤ };
 
@@ -134,7 +133,7 @@ pub struct Ramp {
 impl Model for Ramp {
     ghost use Rattle.std.specs.Prelude.{List, ℤ, ◌<◌, length};
     ghost use Rattle.prop_values.specs.declared.outcome.Curve.{Curve};
-    ghost use Rattle.interpolate_fixed.specs.Warp.{HasPositiveBase};
+    ghost use Rattle.interpolate_fixed.specs.PlaceFacts.{HasPositiveBase};
 
     ghost Value = { Curve × List ℤ };
 

@@ -1,17 +1,14 @@
 //! The reading of expressions from JSON.
 
 ghost use Rattle.std.specs.Prelude.{◌≡◌, ◌<◌, ◌^◌, IfOk};
-ghost use Rattle.decimal_json.specs.Place.{path_of};
+ghost use Rattle.decimal_json.specs.View.{path_of, tree_of, trees};
 ghost use Rattle.decimal_json.specs.Tree.{list};
-ghost use Rattle.decimal_json.specs.View.{tree_of, trees};
 ghost use Rattle.expr_syntax.specs.Elements.{second, second_text};
-ghost use Rattle.expr_syntax.specs.ReadView.{read_of, reading_of, read_at, arguments_of, arguments_within, elements_of, members_of, value_view};
-ghost use Rattle.expr_syntax.specs.Reading.{read, node_of, reading, reading_with, fault, number_read, literal_read};
+ghost use Rattle.expr_syntax.specs.ReadView.{read_of, reading_of, read_at, arguments_of, arguments_within, elements_of, members_of, value_view, node_of, section_of, scope_of, uses_globals};
+ghost use Rattle.expr_syntax.specs.Reading.{read, reading, reading_with, fault, number_read, literal_read};
 ghost use Rattle.expr_syntax.specs.Reading.{global_read, global_term, is_value_layout, is_global_layout, is_part};
-ghost use Rattle.expr_syntax.specs.Reading.{then_node, all_sections, section_of, options_read};
+ghost use Rattle.expr_syntax.specs.Reading.{then_node, all_sections, options_read};
 ghost use Rattle.expr_syntax.specs.Rows.{element_place};
-ghost use Rattle.expr_syntax.specs.Scopes.{scope_of};
-ghost use Rattle.expr_syntax.specs.Standing.{uses_globals};
 ghost use Rattle.expr_syntax.specs.TermView.{term_of};
 
 use crate::elements::{head_text, second, second_text};

@@ -2,7 +2,8 @@
 
 ghost use Rattle.std.specs.Prelude.{◌≡◌, option_map};
 ghost use Rattle.prop_values.specs.View.{data_of};
-ghost use Rattle.expr_syntax.specs.Scopes.{scope_of, is_known, global_at};
+ghost use Rattle.expr_syntax.specs.Scopes.{is_known, global_at};
+ghost use Rattle.expr_syntax.specs.ReadView.{scope_of};
 ghost use Rattle.expr_syntax.specs.BoundNames.{is_among};
 
 use crate::bound_names::Names;

@@ -5,10 +5,10 @@ ghost use Rattle.std.specs.Prelude.{◌≡◌, ◌<◌, IfOk, IfSome, length, �
 ghost use Rattle.std.specs.List.{list_all};
 ghost use Rattle.decimal_json.specs.Tree.{Tree};
 ghost use Rattle.decimal_json.specs.View.{tree_of, trees};
-ghost use Rattle.interpolate_fixed.specs.Warp.{HasPositiveBase};
+ghost use Rattle.interpolate_fixed.specs.PlaceFacts.{HasPositiveBase};
 ghost use Rattle.expr_syntax.specs.declared.rows.ElementLayout.TheVariants as layouts;
 ghost use Rattle.expr_syntax.specs.Elements.{after_head, second, second_text, option_named};
-ghost use Rattle.expr_syntax.specs.Scopes.{scope_of};
+ghost use Rattle.expr_syntax.specs.ReadView.{scope_of};
 ghost use Rattle.expr_syntax.specs.Parts.{operator_of, or_unknown, array_operator, with_item, with_length, item_named, item_of};
 ghost use Rattle.expr_syntax.specs.Parts.{whole_units, length_in, length_of, step_operator, interpolate_operator, inputs_among};
 ghost use Rattle.expr_syntax.specs.Parts.{value_in, steps_up, base_of, curve_of, curve_from, linear, exponential, curve_in};

@@ -2,7 +2,8 @@
 use Rattle.std.proofs.Common.{◌≡◌, ◌≢◌, ◌<◌, suc, List, [], ◌∷◌, length, refl, ap, arith, false, true, ◌∙◌, ℤ}
 use Rattle.std.specs.Prelude.{Bool, ◌&&◌, Option, Some}
 use Rattle.prop_values.specs.Data.{list}
-use Rattle.prop_values.specs.View.{items, data_of}
+use Rattle.prop_values.specs.View.{data_of}
+use Rattle.prop_values.specs.ViewParts.{items}
 use Rattle.prop_values.specs.declared.kinds.Item.TheVariants as any
 use Rattle.prop_values.specs.declared.kinds.Kind.TheVariants as kinds
 use Rattle.prop_values.specs.declared.value.Value.{Value}

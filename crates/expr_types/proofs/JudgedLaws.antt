@@ -7,7 +7,8 @@ use Rattle.property_tables.specs.Rows.{RowData}
 use Rattle.expr_syntax.specs.Term.{Term}
 use Rattle.expr_types.specs.Allowed.{allowed_by, first_unread, first_stray_zoom}
 use Rattle.expr_types.specs.Checked.{allowed, checked}
-use Rattle.expr_types.specs.Judged.{Judged, found_kind, found_may, found_places, places_in, judged, zoom_or, stray_or}
+use Rattle.expr_types.specs.Judged.{Judged}
+use Rattle.expr_types.specs.JudgedFacts.{found_kind, found_may, found_places, places_in, judged, zoom_or, stray_or}
 use Rattle.expr_types.specs.Typing.{Typed, TypedNodes, fault, typed}
 use Rattle.expr_types.specs.TypedView.{root_of, added}
 use Rattle.expr_types.specs.Visits.{Visit, visits}

@@ -3,7 +3,7 @@ use Rattle.std.specs.Prelude.{List, [], ◌∷◌, true, false, Some, None, slic
 use Rattle.std.proofs.Common.{◌≡◌, ℕ, ◌+◌, length, refl, zero, suc, arith, inl, inr}
 use Rattle.prop_values.specs.declared.kinds.Kind.{Kind}
 use Rattle.prop_values.specs.Equality.{same_text}
-use Rattle.expr_syntax.specs.BoundNames.{last_place}
+use Rattle.expr_syntax.specs.NameIndex.{last_place}
 use Rattle.expr_syntax.proofs.LastPlaces.{none_first, some_cases, last_above}
 use Rattle.expr_types.specs.Typing.{frame, last_kind}
 

@@ -16,6 +16,7 @@ pub mod Visits
 pub mod Allowed
 pub mod Checked
 pub mod Judged
+pub mod JudgedFacts
 -- What only contracts of private functions, models and proofs use.
 pub mod LiteralView
 pub mod CommonKinds

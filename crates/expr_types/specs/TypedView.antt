@@ -3,7 +3,7 @@
 use Rattle.std.specs.Prelude.{ℕ, List, [], ◌∷◌, ◌++◌, ◌+◌, length, Bool, Result, Ok, Err}
 use Rattle.decimal_json.specs.declared.paths.Here.{Here}
 use Rattle.decimal_json.specs.declared.paths.PathPart.{PathPart}
-use Rattle.decimal_json.specs.Place.{path_of}
+use Rattle.decimal_json.specs.View.{path_of}
 use Rattle.prop_values.specs.declared.fault.FaultSet.{FaultSet}
 use Rattle.prop_values.specs.declared.kinds.Kind.{Kind}
 use Rattle.prop_values.specs.declared.kinds.Want.{Want}

@@ -1,7 +1,7 @@
 //! The kind of an expression and the faults that it may give, or its first type fault.
 
 ghost use Rattle.std.specs.Prelude.{◌≡◌, ◌<◌, ◌^◌, [], length, take, drop, IfOk, Ok};
-ghost use Rattle.decimal_json.specs.Place.{path_of};
+ghost use Rattle.decimal_json.specs.View.{path_of};
 ghost use Rattle.expr_syntax.specs.declared.expression.Operator.TheVariants as operators;
 ghost use Rattle.expr_types.specs.Typing.{argument_want, handed, finished_node, own_where, sequence_if, is_sequence_of};
 ghost use Rattle.prop_values.specs.Faults.{no_faults};

@@ -24,7 +24,8 @@
 //! kinds of arguments, and for what is known of each node.
 //!
 //! The text to believe is in `specs/`: `Fits`, `Literals`, `Own`, `Assertions`, `Sequences`, `Comparing`,
-//! `Ramping`, `Arithmetics`, `OwnTable`, `ArgumentPaths`, `Typing`, `Visits`, `Allowed`, `Checked`, `Judged`.
+//! `Ramping`, `Arithmetics`, `OwnTable`, `ArgumentPaths`, `Typing`, `Visits`, `Allowed`, `Checked`, `Judged`,
+//! `JudgedFacts`.
 #![tactic(auto)]
 
 mod argument_paths;

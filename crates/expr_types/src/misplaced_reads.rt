@@ -1,7 +1,7 @@
 //! The first nodes that are where they may not be.
 
 ghost use Rattle.std.specs.Prelude.{◌≡◌, IfOk, option_map};
-ghost use Rattle.decimal_json.specs.Place.{path_of};
+ghost use Rattle.decimal_json.specs.View.{path_of};
 ghost use Rattle.property_tables.specs.RowView.{row_seen};
 ghost use Rattle.expr_types.specs.Allowed.{allowed_by, is_input};
 ghost use Rattle.expr_types.specs.MisplacedReads.{first_path, path_if, noted_if, none_noted};

@@ -1,7 +1,7 @@
 //! A node or literal under its want.
 
 ghost use Rattle.std.specs.Prelude.{◌≡◌, ◌<◌, length, true, IfOk, slice_set};
-ghost use Rattle.decimal_json.specs.Place.{path_of};
+ghost use Rattle.decimal_json.specs.View.{path_of};
 ghost use Rattle.prop_values.specs.Faults.{union};
 ghost use Rattle.prop_values.specs.View.{data_of};
 ghost use Rattle.expr_types.specs.Fits.{branch_kind};

@@ -1,7 +1,8 @@
 //! `interpolate`: what may be interpolated, and when a number may pass the bound.
 
 ghost use Rattle.std.specs.Prelude.{◌≡◌, ◌-ℤ◌, unsigned_abs, IfOk, option_map};
-ghost use Rattle.prop_values.specs.View.{data_of, items};
+ghost use Rattle.prop_values.specs.View.{data_of};
+ghost use Rattle.prop_values.specs.ViewParts.{items};
 ghost use Rattle.expr_types.specs.Ramping.{is_ramp_kind, is_interpolable, is_near, is_item_near, are_items_near, are_near, is_fitting, are_next_near, first_near, next_from, steps_are_near, may_pass, unless_interpolable, own_ramp};
 ghost use Rattle.expr_types.specs.LiteralView.{literals_of};
 

@@ -5,7 +5,7 @@ ghost use Rattle.prop_values.specs.declared.kinds.Want.TheVariants as wants;
 ghost use Rattle.property_tables.specs.RowView.{row_seen};
 ghost use Rattle.expr_syntax.specs.TermView.{term_of};
 ghost use Rattle.expr_types.specs.Checked.{checked, checked_free};
-ghost use Rattle.expr_types.specs.Judged.{kind_of, may_of, places_in, want_in, always_in, judged, stray_or};
+ghost use Rattle.expr_types.specs.JudgedFacts.{kind_of, may_of, places_in, want_in, always_in, judged, stray_or};
 ghost use Rattle.expr_types.specs.Typing.{typed};
 
 use crate::checking::Checking;
@@ -44,7 +44,7 @@ impl<'a> Model for Typed<'a> {
     ghost view = { λ a. (term_of a.expression.now, a.want) };
 
     ghost use Rattle.std.specs.Prelude.{◌≡◌};
-    ghost use Rattle.expr_types.specs.Judged.{kind_of, may_of, places_in};
+    ghost use Rattle.expr_types.specs.JudgedFacts.{kind_of, may_of, places_in};
 
     ghost invariant = { λ a. (a.node.kind ≡ kind_of (term_of a.expression.now, a.want)) × ((a.node.may ≡ may_of (term_of a.expression.now, a.want)) × (a.places.items ≡ places_in (term_of a.expression.now, a.want))) };
 }

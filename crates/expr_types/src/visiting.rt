@@ -1,7 +1,7 @@
 //! A walk over the nodes of an expression in document order.
 
 ghost use Rattle.std.specs.Prelude.{◌≡◌, ◌<◌, ◌^◌, IfOk};
-ghost use Rattle.decimal_json.specs.Place.{path_of};
+ghost use Rattle.decimal_json.specs.View.{path_of};
 ghost use Rattle.expr_syntax.specs.TermView.{term_of, terms};
 ghost use Rattle.expr_syntax.specs.Mentioned.{count};
 ghost use Rattle.expr_types.specs.MisplacedReads.{all_noted};

@@ -23,12 +23,14 @@ use Rattle.decimal_json.specs.Tree.{Tree, object}
 use Rattle.prop_values.specs.Data.{Data, null, boolean, number, text, color, list, map, Items, no_items, item, items_of, list_of, Pairs, no_pairs}
 use Rattle.prop_values.specs.Equality.{at_key}
 use Rattle.prop_values.specs.JsonData.{json_data}
-use Rattle.prop_values.specs.View.{data_of, items, value_of}
+use Rattle.prop_values.specs.View.{data_of, value_of}
+use Rattle.prop_values.specs.ViewParts.{items}
 use Rattle.prop_values.proofs.ViewLaws.{value_again}
 use Rattle.prop_values.specs.declared.value.Value.{Value}
 use Rattle.format_text.specs.ReadText.{AreTexts, IsFont, IsSection, AreSections, EachTextIsOfOneList}
 use Rattle.format_text.specs.Reading.{font_in, section_by, section_in, section_said, joined, sections_in, sections_said, sections_of_json, after, AreFonts, SaysSections}
-use Rattle.format_text.specs.Sections.{with_option, section_of, sections_values, sections_data, sections_text, are_texts, is_font}
+use Rattle.format_text.specs.Sections.{with_option, section_of}
+use Rattle.format_text.specs.SectionLists.{sections_values, sections_data, sections_text, are_texts, is_font}
 use Rattle.format_text.specs.declared.formatted.Section.{Section}
 use Rattle.format_text.proofs.ColorTexts.{ascii_utf8, number_is, color_read, color_utf8}
 use Rattle.format_text.proofs.JsonTrees.{tree_of_data, trees_of_items, fields_of_pairs, data_text, uncolored, items_uncolored, pairs_uncolored, IsWithin, AreWithin, HasWithin, data_said}

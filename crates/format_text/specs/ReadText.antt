@@ -4,7 +4,7 @@ use Rattle.fixed_num.specs.ColorRange.{IsInRange}
 use Rattle.fixed_num.specs.Number.{bound}
 use Rattle.prop_values.specs.Data.{Data, text, list, Items, no_items, item}
 use Rattle.prop_values.specs.View.{data_of}
-use Rattle.format_text.specs.Sections.{sections_text, HaveFonts}
+use Rattle.format_text.specs.SectionLists.{sections_text, HaveFonts}
 use Rattle.format_text.specs.declared.formatted.Section.{Section}
 
 -- a font is a list of texts, each UTF-8

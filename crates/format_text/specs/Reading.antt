@@ -9,7 +9,7 @@ use Rattle.prop_values.specs.Equality.{at_key}
 use Rattle.prop_values.specs.View.{value_of}
 use Rattle.prop_values.specs.declared.value.Value.{Value}
 use Rattle.format_text.specs.ReadText.{AreSections}
-use Rattle.format_text.specs.Sections.{is_font, sections_text, HaveFonts}
+use Rattle.format_text.specs.SectionLists.{is_font, sections_text, HaveFonts}
 use Rattle.format_text.specs.declared.formatted.Section.{Section}
 
 -- ---- the text of a color

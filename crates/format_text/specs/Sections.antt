@@ -1,9 +1,8 @@
 -- Sections of formatted texts, as values and as texts. Source: MapLibre style specification, version 8,
 -- expressions, `format`; the form of the value is own.
-use Rattle.std.specs.Prelude.{ℕ, List, [], ◌∷◌, ◌++◌, Bool, true, false, ◌&&◌, codes, Option, Some, None, option_map, IfSome, IsTrue}
-use Rattle.prop_values.specs.Data.{Data, number, text, color, list, map, Items, no_items, item, items_of, Pairs, no_pairs, pair}
+use Rattle.std.specs.Prelude.{ℕ, List, codes, Option, Some, None, option_map}
+use Rattle.prop_values.specs.Data.{Data, number, text, color, list, map, no_items, item, Pairs, no_pairs, pair}
 use Rattle.prop_values.specs.View.{data_of}
-use Rattle.prop_values.specs.ValueText.{shown_text}
 use Rattle.format_text.specs.declared.formatted.Section.{Section}
 
 -- a section without options
@@ -27,35 +26,4 @@ section_of s = list (item (text s.content) (item (map (options_map s)) no_items)
 
 -- ---- all sections: a list, its text, and the contents joined
 
-abbrev pub sections_values : List Section → List Data
-sections_values [] = []
-sections_values (s ∷ ss) = section_of s ∷ sections_values ss
-
-abbrev pub sections_data : List Section → Data
-sections_data ss = list (items_of (sections_values ss))
-
-abbrev pub sections_text : List Section → List ℕ
-sections_text ss = shown_text (sections_data ss)
-
-abbrev pub plain_text : List Section → List ℕ
-plain_text [] = []
-plain_text (s ∷ ss) = s.content ++ plain_text ss
-
 -- ---- a font is a list of texts
-
-abbrev pub is_text : Data → Bool
-is_text (text s) = true
-is_text _ = false
-
-abbrev pub are_texts : Items → Bool
-are_texts no_items = true
-are_texts (item d ds) = is_text d && are_texts ds
-
-abbrev pub is_font : Data → Bool
-is_font (list ds) = are_texts ds
-is_font _ = false
-
--- Fonts are lists of texts.
-abbrev pub HaveFonts : List Section → Type 0
-HaveFonts [] = Unit {0}
-HaveFonts (s ∷ ss) = IfSome s.font (λ font. IsTrue (is_font (data_of font))) × HaveFonts ss

@@ -1,5 +1,5 @@
 ghost use Rattle.std.specs.Prelude.{◌≡◌, IfOk};
-ghost use Rattle.format_text.specs.Sections.{plain_text};
+ghost use Rattle.format_text.specs.SectionLists.{plain_text};
 
 use crate::formatted::Sections;
 use decimal_json::Text;

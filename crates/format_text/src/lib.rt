@@ -16,7 +16,7 @@
 //!   (`texts_are_of_one_list`).
 //! - `plain` joins the contents.
 //!
-//! The text to believe is in `specs/`: `Sections`, `ReadText`.
+//! The text to believe is in `specs/`: `Sections`, `SectionLists`, `ReadText`.
 #![tactic(auto)]
 
 mod colors;

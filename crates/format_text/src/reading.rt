@@ -5,8 +5,10 @@ ghost use Rattle.std.specs.Option.{option_map};
 ghost use Rattle.decimal_json.specs.View.{tree_of};
 ghost use Rattle.prop_values.specs.JsonData.{json_data};
 ghost use Rattle.prop_values.specs.Data.{item, no_items, pairs_of};
-ghost use Rattle.prop_values.specs.View.{data_of, items};
-ghost use Rattle.format_text.specs.Sections.{is_text, are_texts, is_font, section_of, sections_values, sections_text};
+ghost use Rattle.prop_values.specs.View.{data_of};
+ghost use Rattle.prop_values.specs.ViewParts.{items};
+ghost use Rattle.format_text.specs.Sections.{section_of};
+ghost use Rattle.format_text.specs.SectionLists.{is_text, are_texts, is_font, sections_values, sections_text};
 ghost use Rattle.format_text.specs.ReadText.{ReadsSections};
 ghost use Rattle.format_text.specs.Reading.{SaysSections, scale_in, font_in, color_of_option, section_by, section_in, section_said, sections_in, sections_said, sections_of_json};
 

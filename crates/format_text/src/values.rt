@@ -1,7 +1,8 @@
 //! Sections as values.
 
 ghost use Rattle.std.specs.Prelude.{◌≡◌, ◌++◌, IfOk, OnOk, option_map};
-ghost use Rattle.prop_values.specs.Data.{LacksKey, number, color as a_color, list};
+ghost use Rattle.prop_values.specs.Data.{number, color as a_color, list};
+ghost use Rattle.prop_values.specs.Keys.{LacksKey};
 ghost use Rattle.prop_values.specs.View.{data_of};
 ghost use Rattle.format_text.specs.Reading.{option_entry};
 ghost use Rattle.format_text.specs.Sections.{section_of};

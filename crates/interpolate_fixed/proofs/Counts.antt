@@ -8,7 +8,8 @@ use Rattle.std.specs.Int.Signed.{≤ℤ_refl, clash_ℤ}
 use Rattle.std.proofs.lemmas.Int.{ints, by_lt_z}
 use Rattle.std.proofs.lemmas.List.{take_all}
 use Rattle.std.proofs.lemmas.List.Sums.{count_by_more_yes, count_by_more_no}
-use Rattle.interpolate_fixed.specs.Places.{IsAscending, input_at, first_of, last_of, count_not_above, place_of, IsBetween, IsGreatestNotAbove}
+use Rattle.interpolate_fixed.specs.Places.{input_at, first_of, last_of, count_not_above, place_of}
+use Rattle.interpolate_fixed.specs.PlaceFacts.{IsAscending, IsBetween, IsGreatestNotAbove}
 use Rattle.interpolate_fixed.specs.declared.place.StopPlace.TheVariants.{First, Last, Between}
 
 -- tests on numbers

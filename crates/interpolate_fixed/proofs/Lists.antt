@@ -2,7 +2,8 @@
 use Rattle.std.proofs.Common.{◌≡◌, ℕ, ◌+◌, ◌<◌, ℤ, pos, List, [], ◌∷◌, ◌++◌, length, drop, get_or, refl, sym, ap, ◌∙◌, append_assoc, append-nil, drop-cons, add-one}
 use Rattle.std.specs.Prelude.{Result, Ok, Err}
 use Rattle.fixed_num.specs.declared.fixed.Arith.{Arith}
-use Rattle.interpolate_fixed.specs.Linear.{linear_of, with_first, list_of}
+use Rattle.interpolate_fixed.specs.Linear.{linear_of}
+use Rattle.interpolate_fixed.specs.LinearLists.{with_first, list_of}
 
 -- items before those of an answer
 abbrev pub after_items : List ℤ → Result (List ℤ) Arith → Result (List ℤ) Arith

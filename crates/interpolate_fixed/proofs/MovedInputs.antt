@@ -9,7 +9,8 @@ use Rattle.prop_values.specs.declared.outcome.Curve.{Curve}
 use Rattle.prop_values.specs.declared.outcome.Curve.TheVariants.{Linear, Exponential}
 use Rattle.power_fixed.specs.Power.{one, power_of}
 use Rattle.power_fixed.proofs.FixedBases.{power_one}
-use Rattle.interpolate_fixed.specs.Places.{IsAscending, input_at, first_of, last_of, count_not_above, IsBetween}
+use Rattle.interpolate_fixed.specs.Places.{input_at, first_of, last_of, count_not_above}
+use Rattle.interpolate_fixed.specs.PlaceFacts.{IsAscending, IsBetween}
 use Rattle.interpolate_fixed.specs.Warp.{and_then, held, growth_of, moved_by, moved_between, warp_of}
 use Rattle.interpolate_fixed.proofs.Counts.{count_is}
 

@@ -1,5 +1,5 @@
 -- Interpolation along a line, on whole counts of millionths. Source: own.
-use Rattle.std.specs.Prelude.{ℕ, ℤ, ◌+ℤ◌, ◌-ℤ◌, ◌*ℤ◌, unsigned_abs, nat_le, List, [], ◌∷◌, Result, Ok, Err, if◌then◌else◌}
+use Rattle.std.specs.Prelude.{ℕ, ℤ, ◌+ℤ◌, ◌-ℤ◌, ◌*ℤ◌, unsigned_abs, nat_le, Result, Ok, Err, if◌then◌else◌}
 use Rattle.std.specs.Result.{result_unwrap_or}
 use Rattle.fixed_num.specs.Rounding.{rounded}
 use Rattle.fixed_num.specs.declared.color.Color.{Color}
@@ -30,15 +30,3 @@ color_of x x0 a x1 b = record {
   b = component_of x x0 a.b x1 b.b;
   a = component_of x x0 a.a x1 b.a;
 }
-
--- an item before further ones, or the first fault
-abbrev pub with_first : Result ℤ Arith → Result (List ℤ) Arith → Result (List ℤ) Arith
-with_first (Err fault) rest = Err fault
-with_first (Ok item) (Err fault) = Err fault
-with_first (Ok item) (Ok items) = Ok (item ∷ items)
-
--- a list, item by item, with the fault of the first item that has one; the lists are equally long
-unfoldable pub list_of : ℤ → ℤ → List ℤ → ℤ → List ℤ → Result (List ℤ) Arith
-list_of x x0 [] x1 bs = Ok []
-list_of x x0 (a ∷ as_) x1 [] = Ok []
-list_of x x0 (a ∷ as_) x1 (b ∷ bs) = with_first (linear_of x x0 a x1 b) (list_of x x0 as_ x1 bs)

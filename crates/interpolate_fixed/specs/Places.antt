@@ -1,13 +1,9 @@
 -- Places among the inputs of stops. Each input is a number, seen as its whole count of millionths.
 -- Source: own.
-use Rattle.std.specs.Prelude.{ℕ, ◌+◌, ◌-◌, ◌<◌, ℤ, pos, ◌≤ℤ◌, ◌<ℤ◌, int_le, List, length, slice_index_or, if◌then◌else◌, ⊤}
-use Rattle.std.specs.List.{AllPairs, count_by}
+use Rattle.std.specs.Prelude.{ℕ, ◌-◌, ℤ, pos, int_le, List, length, slice_index_or, if◌then◌else◌}
+use Rattle.std.specs.List.{count_by}
 use Rattle.interpolate_fixed.specs.declared.place.StopPlace.{StopPlace}
 use Rattle.interpolate_fixed.specs.declared.place.StopPlace.TheVariants.{First, Last, Between}
-
--- each input is below all later ones
-abbrev pub IsAscending : List ℤ → Type 0
-IsAscending inputs = AllPairs (λ a b. a <ℤ b) inputs
 
 -- the input at a place from 0, which is within the list where this is cited
 abbrev pub input_at : List ℤ → ℕ → ℤ
@@ -30,21 +26,3 @@ place_of inputs x =
     if int_le x (first_of inputs) then First else
     (if int_le (last_of inputs) x then Last else
     Between (count_not_above x inputs - 1))
-
--- x is at or above input i and below the next
-pub record IsBetween (inputs : List ℤ) (x : ℤ) (i : ℕ) : Type 0 where
-  pub within : i + 1 < length inputs
-  pub not_below : input_at inputs i ≤ℤ x
-  pub below_next : x <ℤ input_at inputs (i + 1)
-
--- a fact of the place, where it is between two inputs
-abbrev pub IfBetween : StopPlace → (ℕ → Type 0) → Type 0
-IfBetween First P = ⊤
-IfBetween Last P = ⊤
-IfBetween (Between i) P = P i
-
--- i is the place of the greatest input that is not above x
-pub record IsGreatestNotAbove (inputs : List ℤ) (x : ℤ) (i : ℕ) : Type 0 where
-  pub within : i < length inputs
-  pub not_above : input_at inputs i ≤ℤ x
-  pub greatest : (k : ℕ) → k < length inputs → input_at inputs k ≤ℤ x → input_at inputs k ≤ℤ input_at inputs i

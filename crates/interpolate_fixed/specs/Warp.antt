@@ -1,6 +1,6 @@
 -- The input of an interpolation, moved between its neighbours so that a line through the stops is the
 -- curve. Source: own.
-use Rattle.std.specs.Prelude.{◌+◌, ℤ, pos, unsigned_abs, ◌<ℤ◌, List, Result, Ok, Err, nat_eq, ◌-ℤ◌, if◌then◌else◌, ⊤}
+use Rattle.std.specs.Prelude.{◌+◌, ℤ, unsigned_abs, List, Result, Ok, Err, nat_eq, ◌-ℤ◌, if◌then◌else◌}
 use Rattle.std.specs.Int.{int_min, int_max}
 use Rattle.fixed_num.specs.Number.{sum, difference, product, quotient}
 use Rattle.fixed_num.specs.declared.fixed.Arith.{Arith}
@@ -47,8 +47,3 @@ moved_at base inputs x (Between i) = moved_between base (input_at inputs i) (inp
 abbrev pub warp_of : Curve → List ℤ → ℤ → Result ℤ Arith
 warp_of Linear inputs x = Ok x
 warp_of (Exponential base) inputs x = moved_at base inputs x (place_of inputs x)
-
--- the base of the curve, where it has one, is above 0
-abbrev pub HasPositiveBase : Curve → Type 0
-HasPositiveBase Linear = ⊤
-HasPositiveBase (Exponential base) = pos 0 <ℤ base

@@ -1,6 +1,7 @@
 ghost use Rattle.std.specs.Prelude.{◌≡◌, ◌<◌, pos, ◌≤ℤ◌, ◌<ℤ◌, length};
-ghost use Rattle.interpolate_fixed.specs.Places.{IsAscending, place_of};
-ghost use Rattle.interpolate_fixed.specs.Warp.{growth_of, moved_by, moved_between, held, moved_at, warp_of, HasPositiveBase};
+ghost use Rattle.interpolate_fixed.specs.Places.{place_of};
+ghost use Rattle.interpolate_fixed.specs.PlaceFacts.{IsAscending, HasPositiveBase};
+ghost use Rattle.interpolate_fixed.specs.Warp.{growth_of, moved_by, moved_between, held, moved_at, warp_of};
 
 use crate::place::{StopPlace, stop_place};
 use fixed_num::{Arith, Fixed};

@@ -14,7 +14,7 @@
 //!
 //! Only `linear_list` takes memory.
 //!
-//! The text to believe is in `specs/`: `Places`, `Linear`, `Warp`, `Items`.
+//! The text to believe is in `specs/`: `Places`, `PlaceFacts`, `Linear`, `LinearLists`, `Warp`, `Items`.
 #![tactic(auto)]
 
 mod color;

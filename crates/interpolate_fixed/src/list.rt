@@ -1,5 +1,5 @@
 ghost use Rattle.std.specs.Prelude.{◌≡◌, ◌≤ℤ◌, ◌<ℤ◌, length, IfOk};
-ghost use Rattle.interpolate_fixed.specs.Linear.{list_of};
+ghost use Rattle.interpolate_fixed.specs.LinearLists.{list_of};
 ghost use Rattle.interpolate_fixed.specs.Items.{items_of};
 
 use crate::line::linear;

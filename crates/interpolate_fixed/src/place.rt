@@ -1,5 +1,6 @@
 ghost use Rattle.std.specs.Prelude.{◌≡◌, ◌+◌, ◌<◌, ◌<ℤ◌, length};
-ghost use Rattle.interpolate_fixed.specs.Places.{IsAscending, first_of, last_of, count_not_above, place_of, IsBetween, IfBetween};
+ghost use Rattle.interpolate_fixed.specs.Places.{first_of, last_of, count_not_above, place_of};
+ghost use Rattle.interpolate_fixed.specs.PlaceFacts.{IsAscending, IsBetween, IfBetween};
 
 use fixed_num::Fixed;
 

@@ -1,7 +1,7 @@
 ghost use Rattle.std.specs.Prelude.{◌≡◌, ◌≤◌, [], ◌∷◌, ◌++◌, ℕ, List, length, take, drop, Some, None, IfOk, IsUtf8};
 ghost use Rattle.std.specs.Bool.{OnTrue, OnFalse};
-ghost use Rattle.json_tokens.specs.Runs.{first_of};
-ghost use Rattle.json_tokens.specs.Sequence.{IsSkipped};
+ghost use Rattle.json_tokens.specs.RunLengths.{first_of};
+ghost use Rattle.json_tokens.specs.SequenceReaders.{IsSkipped};
 
 use crate::runs::{Spaces, run_length};
 use shared_text::{Document, Text};

@@ -1,8 +1,7 @@
 //! How a legacy filter is read.
 
 ghost use Rattle.std.specs.Prelude.{◌≡◌, Ok, Err, IfOk, option_map};
-ghost use Rattle.decimal_json.specs.Place.{path_of};
-ghost use Rattle.decimal_json.specs.View.{tree_of, trees};
+ghost use Rattle.decimal_json.specs.View.{path_of, tree_of, trees};
 ghost use Rattle.legacy_filters.specs.declared.filter.Test.TheVariants as tests;
 ghost use Rattle.legacy_filters.specs.Form.{key_named, shape_scalar, plain_scalar, number_scalar, scalar_form, one_scalar, ordered_scalar, scalars_form, alone, test_form, keyed_form, or_ill_formed, group_named, group_form, named_form, array_form, form, forms, ill_formed, reading};
 ghost use Rattle.legacy_filters.specs.View.{part_filter, part_read, read_of};

@@ -3,7 +3,7 @@ use Rattle.std.proofs.Common.{◌≡◌, ℕ, zero, suc, ◌<◌, ℤ, List, [],
 use Rattle.std.proofs.lemmas.Int.{ints}
 use Rattle.std.specs.Prelude.{Bool, ◌&&◌, ◌<ℤ◌, int_le, Option, Some, None, map, option_map, if◌then◌else◌}
 use Rattle.std.specs.Ordering.{int_eq}
-use Rattle.interpolate_fixed.specs.Places.{IsAscending}
+use Rattle.interpolate_fixed.specs.PlaceFacts.{IsAscending}
 use Rattle.std.proofs.lemmas.Bool.Decides.{Decides-int_eq}
 use Rattle.legacy_functions.specs.declared.function.NumberStop.{NumberStop}
 use Rattle.legacy_functions.specs.declared.function.ZoomRule.{ZoomRule}

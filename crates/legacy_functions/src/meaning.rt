@@ -2,9 +2,11 @@
 
 ghost use Rattle.std.specs.Prelude.{◌≡◌, ◌<◌, ◌-◌, length, map, option_map, unwrap_or, Ok, IfOk};
 ghost use Rattle.prop_values.specs.Data.{null as null_data};
-ghost use Rattle.prop_values.specs.View.{data_of, evaluated_of};
+ghost use Rattle.prop_values.specs.View.{data_of};
+ghost use Rattle.prop_values.specs.ViewParts.{evaluated_of};
 ghost use Rattle.prop_values.specs.declared.outcome.Curve.TheVariants.{Exponential};
-ghost use Rattle.interpolate_fixed.specs.Places.{IsAscending, IsBetween, count_not_above, place_of};
+ghost use Rattle.interpolate_fixed.specs.Places.{count_not_above, place_of};
+ghost use Rattle.interpolate_fixed.specs.PlaceFacts.{IsAscending, IsBetween};
 ghost use Rattle.interpolate_fixed.specs.declared.place.StopPlace.TheVariants.{Between};
 ghost use Rattle.interpolate_fixed.specs.Warp.{warp_of};
 ghost use Rattle.property_tables.specs.Fitting.{fit};

@@ -75,7 +75,7 @@ impl Model for NumberStops {
 
     ghost coded = { coded_list row.the_row.coded };
 
-    ghost use Rattle.interpolate_fixed.specs.Places.{IsAscending};
+    ghost use Rattle.interpolate_fixed.specs.PlaceFacts.{IsAscending};
     ghost use Rattle.legacy_functions.specs.Stops.{inputs_in};
 
     ghost view = { λ a. a.stops.items };
@@ -88,7 +88,7 @@ impl Model for NumberStops {
 
 impl NumberStops {
     ghost use Rattle.std.specs.Prelude.{◌≡◌, ◌<◌, length, IfOk};
-    ghost use Rattle.interpolate_fixed.specs.Places.{IsAscending};
+    ghost use Rattle.interpolate_fixed.specs.PlaceFacts.{IsAscending};
     ghost use Rattle.legacy_functions.specs.Form.{some_of};
     ghost use Rattle.legacy_functions.specs.Stops.{inputs_in};
 
@@ -141,7 +141,7 @@ impl Model for ZoomRules {
 
     ghost coded = { coded_list row.the_row.coded };
 
-    ghost use Rattle.interpolate_fixed.specs.Places.{IsAscending};
+    ghost use Rattle.interpolate_fixed.specs.PlaceFacts.{IsAscending};
     ghost use Rattle.legacy_functions.specs.Zooms.{zooms_seen};
 
     ghost view = { λ a. a.rules.items };
@@ -154,7 +154,7 @@ impl Model for ZoomRules {
 
 impl ZoomRules {
     ghost use Rattle.std.specs.Prelude.{◌≡◌, ◌<◌, length, IfOk};
-    ghost use Rattle.interpolate_fixed.specs.Places.{IsAscending};
+    ghost use Rattle.interpolate_fixed.specs.PlaceFacts.{IsAscending};
     ghost use Rattle.legacy_functions.specs.Form.{some_of};
     ghost use Rattle.legacy_functions.specs.Zooms.{zooms_seen};
 

@@ -3,7 +3,7 @@ use Rattle.std.proofs.Common.{◌≡◌, ℕ, ◌+◌, ◌<◌, suc, List, ◌�
 use Rattle.std.specs.Prelude.{Result, Ok, Err, OnErr, flat_map}
 use Rattle.std.proofs.lemmas.Grind.{flat_map-append}
 use Rattle.std.proofs.lemmas.List.{take-append-drop}
-use Rattle.decimal_json.specs.JsonText.{AppendsPrefix}
+use Rattle.decimal_json.specs.Writing.{AppendsPrefix}
 
 -- what holds after a refusal
 pub on_err : {A E : Type 0} (P : Type 0) (r : Result A E) → P → OnErr r P

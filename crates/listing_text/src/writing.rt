@@ -1,5 +1,5 @@
 ghost use Rattle.std.specs.Prelude.{◌≡◌, ◌++◌, OnOk, OnErr};
-ghost use Rattle.decimal_json.specs.JsonText.{AppendsPrefix};
+ghost use Rattle.decimal_json.specs.Writing.{AppendsPrefix};
 ghost use Rattle.fixed_num.specs.NumberText.{number_text};
 ghost use Rattle.prop_values.specs.ColorText.{color_text};
 ghost use Rattle.prop_values.specs.ValueText.{listed_text};

@@ -1,8 +1,7 @@
 -- The members of an object as a list, and back.
 use Rattle.std.proofs.Common.{◌≡◌, ℕ, List, [], ◌∷◌, refl, ap, sym, subst}
-use Rattle.decimal_json.specs.Sound.{members_of}
-use Rattle.decimal_json.specs.Tree.{Tree, object, Fields, no_fields, field, fields_of}
-use Rattle.decimal_json.specs.Tree.{LacksKey, HasDistinctKeys}
+use Rattle.decimal_json.specs.Tree.{members_of, Tree, object, Fields, no_fields, field, fields_of}
+use Rattle.decimal_json.specs.Sound.{LacksKey, HasDistinctKeys}
 use Rattle.style_migrate.specs.Migrated.{mapped_fields}
 use Rattle.migrate_soundness.specs.SoundnessLaw.{HasDistinctMembers}
 

@@ -7,9 +7,8 @@ use Rattle.std.specs.Prelude.{Bool, not, ◌&&◌, ◌||◌, if◌then◌else◌
 use Rattle.std.specs.Prelude.{Option, Some, None, is_some, option_map}
 use Rattle.std.specs.Str.{bytes_eq}
 use Rattle.std.specs.Option.{option_and_then}
-use Rattle.decimal_json.specs.Sound.{members_of}
-use Rattle.decimal_json.specs.Tree.{Tree, null, boolean, number, text, list, object, Trees, no_trees, tree}
-use Rattle.decimal_json.specs.Tree.{Fields, HasDistinctKeys}
+use Rattle.decimal_json.specs.Tree.{members_of, Tree, null, boolean, number, text, list, object, Trees, no_trees, tree, Fields}
+use Rattle.decimal_json.specs.Sound.{HasDistinctKeys}
 use Rattle.decimal_json.specs.declared.paths.PathPart.{PathPart}
 use Rattle.decimal_json.specs.declared.paths.PathPart.TheVariants.{Key, Index}
 use Rattle.decimal_json.specs.Accessors.{member, has, is_object, text_in, fields_in}

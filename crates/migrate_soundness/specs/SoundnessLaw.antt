@@ -1,7 +1,7 @@
 -- A document without findings has none after it was migrated. Source: own.
 use Rattle.std.specs.Prelude.{◌≡◌, []}
-use Rattle.decimal_json.specs.Sound.{members_of}
-use Rattle.decimal_json.specs.Tree.{Tree, object, HasDistinctKeys}
+use Rattle.decimal_json.specs.Tree.{members_of, Tree, object}
+use Rattle.decimal_json.specs.Sound.{HasDistinctKeys}
 use Rattle.style_migrate.specs.Migrated.{migrated}
 use Rattle.style_rules.specs.Findings.{findings, notes}
 

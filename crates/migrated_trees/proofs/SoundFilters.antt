@@ -11,8 +11,7 @@ use Rattle.json_tokens.specs.Number.{is_number}
 use Rattle.fixed_num.specs.Decimal.{read_text}
 use Rattle.fixed_num.specs.declared.decimal.NumFault.{NumFault}
 use Rattle.decimal_json.specs.Sound.{IsSound, AreSound}
-use Rattle.decimal_json.specs.Tree.{Tree, null, boolean, number, text, list, object, Trees, no_trees, tree}
-use Rattle.decimal_json.specs.Tree.{trees_of}
+use Rattle.decimal_json.specs.Tree.{Tree, null, boolean, number, text, list, object, Trees, no_trees, tree, trees_of}
 use Rattle.decimal_json.specs.declared.paths.PathPart.{PathPart}
 use Rattle.decimal_json.specs.declared.paths.PathPart.TheVariants.{Index}
 use Rattle.legacy_filters.specs.declared.filter.FilterFault.{FilterFault}

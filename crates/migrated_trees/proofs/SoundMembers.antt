@@ -1,9 +1,8 @@
 -- Members and items that are replaced by sound trees are sound: keys stay, so they are UTF-8, and none occurs
 -- twice.
 use Rattle.std.proofs.Common.{ℕ, suc, List}
-use Rattle.decimal_json.specs.Sound.{members_of, IsSound, AreSound, HasSoundMembers}
-use Rattle.decimal_json.specs.Tree.{Tree, null, boolean, number, text, list, object, Trees, no_trees, tree}
-use Rattle.decimal_json.specs.Tree.{Fields, no_fields, field, LacksKey, HasDistinctKeys}
+use Rattle.decimal_json.specs.Tree.{members_of, Tree, null, boolean, number, text, list, object, Trees, no_trees, tree, Fields, no_fields, field}
+use Rattle.decimal_json.specs.Sound.{IsSound, AreSound, HasSoundMembers, LacksKey, HasDistinctKeys}
 use Rattle.style_migrate.specs.Migrated.{mapped_fields, mapped_items, with_values, with_items}
 
 -- each sound tree at this place is replaced by a sound tree

@@ -17,7 +17,8 @@ use Rattle.prop_values.specs.Data.{Data, null, boolean, number, text, color, lis
 use Rattle.prop_values.specs.declared.value.Value.{Value}
 use Rattle.prop_values.specs.declared.fault.EvalFault.{EvalFault}
 use Rattle.prop_values.specs.declared.fault.EvalFault.TheVariants.{WrongType}
-use Rattle.prop_values.specs.View.{data_of, items, values_view}
+use Rattle.prop_values.specs.View.{data_of}
+use Rattle.prop_values.specs.ViewParts.{items, values_view}
 use Rattle.operator_values.specs.Sequences.{first_equal, equal_from, stretch}
 use Rattle.operator_values.specs.Evaluated.{Evaluated}
 use Rattle.operator_values.specs.Conversions.{is_within, are_parts}

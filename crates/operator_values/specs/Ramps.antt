@@ -6,7 +6,7 @@ use Rattle.prop_values.specs.Faults.{fault_of}
 use Rattle.prop_values.specs.declared.fault.EvalFault.{EvalFault}
 use Rattle.prop_values.specs.declared.fault.EvalFault.TheVariants.{WrongType}
 use Rattle.fixed_num.specs.declared.fixed.Arith.{Arith}
-use Rattle.interpolate_fixed.specs.Linear.{linear_of, color_of, list_of}
+use Rattle.interpolate_fixed.specs.Linear.{linear_of, color_of}
 use Rattle.operator_values.specs.Evaluated.{Evaluated}
 use Rattle.operator_values.specs.Arithmetic.{the_number}
 

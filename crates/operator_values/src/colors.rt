@@ -2,7 +2,7 @@
 
 ghost use Rattle.std.specs.Prelude.{◌≡◌, IfSome};
 ghost use Rattle.fixed_num.specs.ColorRange.{IsInRange};
-ghost use Rattle.prop_values.specs.View.{values_view, evaluated_of};
+ghost use Rattle.prop_values.specs.ViewParts.{values_view, evaluated_of};
 ghost use Rattle.operator_values.specs.Evaluated.{GivesValue};
 ghost use Rattle.operator_values.specs.Colors.{rgba_of, parts_of, color_or_range};
 

@@ -2,7 +2,8 @@
 
 ghost use Rattle.std.specs.Prelude.{◌≡◌, ◌≤ℤ◌, ◌<ℤ◌};
 ghost use Rattle.std.specs.Result.{is_ok};
-ghost use Rattle.prop_values.specs.View.{data_of, items, evaluated_of};
+ghost use Rattle.prop_values.specs.View.{data_of};
+ghost use Rattle.prop_values.specs.ViewParts.{items, evaluated_of};
 ghost use Rattle.operator_values.specs.Evaluated.{GivesValue};
 ghost use Rattle.operator_values.specs.Ramps.{between_of, list_between, number_between, pairs_in};
 

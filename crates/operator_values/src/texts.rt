@@ -2,7 +2,8 @@ ghost use Rattle.std.specs.Prelude.{◌≡◌, ◌++◌, OnOk, IfOk};
 ghost use Rattle.std.specs.String.{string_bytes};
 ghost use Rattle.prop_values.specs.Data.{text};
 ghost use Rattle.prop_values.specs.ValueText.{shown_text};
-ghost use Rattle.prop_values.specs.View.{data_of, values_view};
+ghost use Rattle.prop_values.specs.View.{data_of};
+ghost use Rattle.prop_values.specs.ViewParts.{values_view};
 ghost use Rattle.operator_values.specs.Texts.{joined};
 
 use decimal_json::Text;

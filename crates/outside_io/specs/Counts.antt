@@ -9,10 +9,6 @@ raised_by n count = min (count + n) 18446744073709551615
 abbrev pub raised : ℕ → ℕ
 raised count = raised_by 1 count
 
--- the count rose by more than n, or is at its counter's last value
-abbrev pub RoseBy : ℕ → ℕ → ℕ → Type 0
-RoseBy n old new = min (old + n) 18446744073709551614 < new
-
 -- the count rose, or is at its counter's last value, which counts as risen
 abbrev pub Rose : ℕ → ℕ → Type 0
 Rose old new = min old 18446744073709551614 < new

@@ -1,6 +1,7 @@
 -- To be believed.
 pub mod Counts
 pub mod Reading
+pub mod ReadAnswers
 pub mod Writing
 pub mod Contents
 pub mod FilesState

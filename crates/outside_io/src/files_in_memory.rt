@@ -1,6 +1,7 @@
 ghost use Rattle.std.specs.Prelude.{◌≡◌, ◌≢◌, ℕ, ◌≤◌, List, [], Some, None, length, IfOk, OnOk, OnErr};
 ghost use Rattle.outside_io.specs.Counts.{raised, raised_by};
-ghost use Rattle.outside_io.specs.Reading.{OnDone, OnNotDone, OnTooLong, OnFailed, IsAsked, IsContent, IsWithin, IsLonger};
+ghost use Rattle.outside_io.specs.Reading.{IsContent};
+ghost use Rattle.outside_io.specs.ReadAnswers.{OnDone, OnNotDone, OnTooLong, OnFailed, IsAsked, IsWithin, IsLonger};
 ghost use Rattle.outside_io.specs.Contents.{no_files, with_file, bytes_of};
 ghost use Rattle.outside_io.specs.FilesState.{read_end, after_read};
 

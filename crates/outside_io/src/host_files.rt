@@ -1,8 +1,9 @@
 ghost use Rattle.std.specs.Prelude.{◌≡◌, ◌⊎◌, ◌+◌, ◌<◌, ◌≤◌, [], Some, None, length, take, drop, vec_len, string_bytes, OnOk, IfOk, IfErr};
 ghost use Rattle.std.specs.Io.{StartsWith, appended_bytes};
 ghost use Rattle.std.specs.Io.KnownBytes.{Consumes, IsAtEnd};
-ghost use Rattle.outside_io.specs.Counts.{RoseBy, raised, raised_by};
-ghost use Rattle.outside_io.specs.Reading.{OnDone, OnNotDone, OnTooLong, IsContent, IsLongerIfTold};
+ghost use Rattle.outside_io.specs.Counts.{raised, raised_by};
+ghost use Rattle.outside_io.specs.ReadAnswers.{RoseBy, OnDone, OnNotDone, OnTooLong};
+ghost use Rattle.outside_io.specs.Reading.{IsContent, IsLongerIfTold};
 
 use crate::asked_names::AskedNames;
 use crate::reading::{Files, ReadAnswer};

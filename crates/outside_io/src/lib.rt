@@ -28,7 +28,7 @@
 //!   that is trusted.
 //! - [`Steps`] counts in the contracts alone. It takes no bytes and no time.
 //!
-//! The text to believe is in `specs/`: `Counts`, `Reading`, `Writing`, `Contents`, `FilesState`,
+//! The text to believe is in `specs/`: `Counts`, `Reading`, `ReadAnswers`, `Writing`, `Contents`, `FilesState`,
 //! `SinkState`, `HostState`.
 #![tactic(auto)]
 

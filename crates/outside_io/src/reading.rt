@@ -1,6 +1,7 @@
 ghost use Rattle.std.specs.Prelude.{◌≡◌, ℕ, ◌≤◌, List, [], Option, Some, length};
 ghost use Rattle.outside_io.specs.Counts.{raised, raised_by};
-ghost use Rattle.outside_io.specs.Reading.{OnDone, OnNotDone, OnTooLong, OnFailed, IsAsked, IsContent, IsWithin, IsLonger};
+ghost use Rattle.outside_io.specs.Reading.{IsContent};
+ghost use Rattle.outside_io.specs.ReadAnswers.{OnDone, OnNotDone, OnTooLong, OnFailed, IsAsked, IsWithin, IsLonger};
 
 use std::alloc::Global;
 

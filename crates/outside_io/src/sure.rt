@@ -1,6 +1,7 @@
 ghost use Rattle.std.specs.Prelude.{◌≡◌, ◌≢◌, ℕ, ◌≤◌, List, [], None, length, OnOk, OnErr};
 ghost use Rattle.outside_io.specs.Counts.{raised_by};
-ghost use Rattle.outside_io.specs.Reading.{OnDone, OnNotDone, OnTooLong, IsAsked, IsContent, IsWithin, IsLonger};
+ghost use Rattle.outside_io.specs.Reading.{IsContent};
+ghost use Rattle.outside_io.specs.ReadAnswers.{OnDone, OnNotDone, OnTooLong, IsAsked, IsWithin, IsLonger};
 ghost use Rattle.outside_io.specs.Contents.{no_files, with_file};
 ghost use Rattle.outside_io.specs.FilesState.{sure_bytes_of, told_of, sure_read_end, after_sure_read};
 

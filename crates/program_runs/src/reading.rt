@@ -1,7 +1,7 @@
 //! Parts of runs that read something, and hand it on or halt the run.
 
 ghost use Rattle.std.specs.Prelude.{◌≡◌, ℕ, List, Option, OnOk, IfOk, IfErr};
-ghost use Rattle.decimal_json.specs.Parses.{Parses};
+ghost use Rattle.decimal_json.specs.Parsed.{Parses};
 ghost use Rattle.decimal_json.specs.View.{tree_of};
 ghost use Rattle.program_runs.specs.Parts.{json_part};
 ghost use Rattle.program_runs.specs.FailedReads.{NoneFailed};

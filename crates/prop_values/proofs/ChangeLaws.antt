@@ -4,7 +4,8 @@ use Rattle.std.specs.Option.{option_or}
 use Rattle.std.proofs.Common.{refl, ap, sym, ◌∙◌, subst}
 use Rattle.std.proofs.lemmas.Bool.{both_ways}
 use Rattle.prop_values.specs.Changes.{with_member, merged, without_key}
-use Rattle.prop_values.specs.Data.{Data, pairs_of, LacksKey, HasDistinctKeys}
+use Rattle.prop_values.specs.Data.{Data, pairs_of}
+use Rattle.prop_values.specs.Keys.{LacksKey, HasDistinctKeys}
 use Rattle.prop_values.specs.Equality.{same_text, at_key}
 use Rattle.prop_values.proofs.KeyLaws.{same_texts, texts_same, none_at_lacking}
 

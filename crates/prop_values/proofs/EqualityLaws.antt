@@ -5,7 +5,8 @@ use Rattle.std.specs.Ordering.{int_eq}
 use Rattle.std.proofs.lemmas.Bool.{cond-true, cond-false}
 use Rattle.std.proofs.lemmas.Bool.Decides.{Decides-int_eq}
 use Rattle.fixed_num.specs.declared.color.Color.{Color}
-use Rattle.prop_values.specs.Data.{Data, null, boolean, number, text, color, list, map, Items, no_items, item, Pairs, no_pairs, pair, pairs_of, entries_of, LacksKey, HasDistinctKeys}
+use Rattle.prop_values.specs.Data.{Data, null, boolean, number, text, color, list, map, Items, no_items, item, Pairs, no_pairs, pair, pairs_of, entries_of}
+use Rattle.prop_values.specs.Keys.{LacksKey, HasDistinctKeys}
 use Rattle.prop_values.specs.Equality.{same_flag, same_text, same_color, at_key, keys_in, equal, items_equal, pairs_in}
 use Rattle.prop_values.specs.EqualityLaws.{IsKeyed, AreKeyed, HasKeyedData, both_equal, MapsAreEqualByKeys, EqualityIsReflexive, EqualityIsSymmetric}
 use Rattle.prop_values.proofs.KeyLaws.{texts_same, same_texts, texts_differ}

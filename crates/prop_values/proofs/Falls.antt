@@ -5,9 +5,11 @@ use denote.Param.Weighed.{at_most}
 use Rattle.prop_values.specs.declared.value.Value.{Value}
 use Rattle.prop_values.specs.declared.value.Entry.{Entry}
 use Rattle.prop_values.specs.declared.value.Entries.TheDeep.{deep-Value, deep-Entry}
-use Rattle.prop_values.specs.Data.{Data, nodes, items_nodes, pairs_nodes}
+use Rattle.prop_values.specs.Data.{Data}
+use Rattle.prop_values.specs.DataSize.{nodes, items_nodes, pairs_nodes}
 use Rattle.prop_values.specs.Falls.{values_fall, entries_fall}
-use Rattle.prop_values.specs.View.{data_of, values_view, entries_view, values_size, entries_size, items, pairs}
+use Rattle.prop_values.specs.View.{data_of}
+use Rattle.prop_values.specs.ViewParts.{values_view, entries_view, values_size, entries_size, items, pairs}
 
 -- A value of `as_slice` of `Values` is smaller than the values.
 pub value_falls : (vs : List Value) (ds : List Data) (i : ℕ) (v : Value) → values_view vs ≡ ds → i < length vs → v ≡ get_or vs i v → deep-Value v ≤ values_size ds

@@ -4,12 +4,13 @@ use Rattle.std.specs.Prelude.{Option, Some, None, if◌then◌else◌}
 use Rattle.std.proofs.lemmas.Bool.{cond-true, cond-false}
 use Rattle.std.proofs.lemmas.List.{length-map}
 use Rattle.key_index.proofs.Keys.{none_first}
-use Rattle.prop_values.specs.Data.{Data, LacksKey, HasDistinctKeys, pairs_of}
+use Rattle.prop_values.specs.Data.{Data, pairs_of}
+use Rattle.prop_values.specs.Keys.{LacksKey, HasDistinctKeys, keys}
 use Rattle.prop_values.specs.Equality.{same_text, at_key}
-use Rattle.prop_values.specs.Keys.{keys}
 use Rattle.key_index.specs.Keys as index
 use Rattle.key_index.specs.Keys.{place_from}
-use Rattle.prop_values.specs.View.{data_of, entry_view, entries_view, entry_keys, pairs}
+use Rattle.prop_values.specs.View.{data_of}
+use Rattle.prop_values.specs.ViewParts.{entry_view, entries_view, entry_keys, pairs}
 use Rattle.prop_values.specs.declared.value.Entry.{Entry}
 
 -- the keys of entries, as those of what they are seen as

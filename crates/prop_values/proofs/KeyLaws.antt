@@ -3,7 +3,8 @@ use Rattle.std.specs.Prelude.{◌≡◌, ◌≢◌, ℕ, List, [], ◌∷◌, Bo
 use Rattle.std.proofs.Common.{refl, ◌∙◌}
 use Rattle.std.proofs.lemmas.Bool.{both_ways, false_from_ne_true, cond-false}
 use Rattle.std.proofs.lemmas.Slice.Eq.{bytes_eq-Decides}
-use Rattle.prop_values.specs.Data.{Data, pairs_of, LacksKey}
+use Rattle.prop_values.specs.Data.{Data, pairs_of}
+use Rattle.prop_values.specs.Keys.{LacksKey}
 use Rattle.prop_values.specs.Equality.{same_text, at_key}
 
 -- texts are the same exactly where they are equal

@@ -2,8 +2,9 @@
 use Rattle.std.proofs.Common.{◌≡◌, ◌≢◌, ℕ, ◌<◌, List, [], ◌∷◌, ◌++◌, length, take, get_or, zero, suc, ap, sym, ◌∙◌, subst, arith}
 use Rattle.std.proofs.lemmas.List.{map-append}
 use Rattle.prop_values.specs.declared.value.Entry.{Entry}
-use Rattle.prop_values.specs.Data.{Data, LacksKey, HasDistinctKeys}
-use Rattle.prop_values.specs.View.{entry_view, entries_view}
+use Rattle.prop_values.specs.Data.{Data}
+use Rattle.prop_values.specs.Keys.{LacksKey, HasDistinctKeys}
+use Rattle.prop_values.specs.ViewParts.{entry_view, entries_view}
 
 lacks-push : (key : List ℕ) (ps : List (List ℕ × Data)) (p : List ℕ × Data) → LacksKey key ps → p.0 ≢ key → LacksKey key (ps ++ p ∷ [])
 lacks-push key [] p h k = (k, tt)

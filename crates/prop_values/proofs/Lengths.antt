@@ -2,7 +2,8 @@
 use Rattle.std.proofs.Common.{◌≡◌, ◌≢◌, List, [], ◌∷◌, length, false, refl, ap, suc}
 use Rattle.std.proofs.lemmas.Bool.{and_right}
 use Rattle.prop_values.specs.declared.value.Value.{Value}
-use Rattle.prop_values.specs.View.{items, data_of}
+use Rattle.prop_values.specs.View.{data_of}
+use Rattle.prop_values.specs.ViewParts.{items}
 use Rattle.prop_values.specs.Equality.{items_equal, equal}
 
 pub other_length : (a b : List Value) → length a ≢ length b → items_equal (items a) (items b) ≡ false

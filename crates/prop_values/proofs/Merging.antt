@@ -4,9 +4,9 @@ use Rattle.std.specs.Prelude.{Option, Some, None, is_some, if◌then◌else◌}
 use Rattle.std.proofs.lemmas.Bool.{cond-true, cond-false}
 use Rattle.std.proofs.lemmas.List.{append-nil, length-take, take-append-le}
 use Rattle.prop_values.specs.Changes.{with_member, merged}
-use Rattle.prop_values.specs.Data.{Data, null, pairs_of, LacksKey, HasDistinctKeys}
+use Rattle.prop_values.specs.Data.{Data, null, pairs_of}
+use Rattle.prop_values.specs.Keys.{LacksKey, HasDistinctKeys, keys}
 use Rattle.prop_values.specs.Equality.{same_text, at_key}
-use Rattle.prop_values.specs.Keys.{keys}
 use Rattle.prop_values.proofs.KeyLaws.{texts_same, texts_differ}
 use Rattle.prop_values.specs.MergeSteps.{with_key, with_keys, replaced, all_replaced}
 use Rattle.prop_values.proofs.Replacing.{keys_replaced}

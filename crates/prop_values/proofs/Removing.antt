@@ -4,12 +4,12 @@ use Rattle.std.specs.Prelude.{Some, None, remove, if◌then◌else◌}
 use Rattle.std.proofs.lemmas.Bool.{cond-false}
 use Rattle.std.proofs.lemmas.List.{take-map}
 use Rattle.prop_values.specs.Changes.{without_key}
-use Rattle.prop_values.specs.Data.{Data, LacksKey, HasDistinctKeys}
+use Rattle.prop_values.specs.Data.{Data}
+use Rattle.prop_values.specs.Keys.{LacksKey, HasDistinctKeys, keys}
 use Rattle.prop_values.specs.Equality.{same_text}
-use Rattle.prop_values.specs.Keys.{keys}
 use Rattle.key_index.specs.Keys.{place_from}
 use Rattle.key_index.proofs.Keys.{none_first, not_below}
-use Rattle.prop_values.specs.View.{entry_view, entries_view}
+use Rattle.prop_values.specs.ViewParts.{entry_view, entries_view}
 use Rattle.prop_values.specs.declared.value.Entry.{Entry}
 use Rattle.prop_values.proofs.Keys.{distinct-take}
 

@@ -2,13 +2,14 @@
 use Rattle.std.proofs.Common.{◌≡◌, ℕ, zero, suc, ◌+◌, List, [], ◌∷◌, get_or, set, refl, ap, ◌∙◌, subst, arith, Bool, true, false}
 use Rattle.std.specs.Prelude.{Some, None, if◌then◌else◌}
 use Rattle.std.proofs.lemmas.Bool.{cond-false}
-use Rattle.prop_values.specs.Data.{Data, LacksKey, HasDistinctKeys}
+use Rattle.prop_values.specs.Data.{Data}
+use Rattle.prop_values.specs.Keys.{LacksKey, HasDistinctKeys, keys}
 use Rattle.prop_values.specs.Equality.{same_text}
-use Rattle.prop_values.specs.Keys.{keys}
 use Rattle.prop_values.specs.MergeSteps.{replaced}
 use Rattle.key_index.specs.Keys.{place_from}
 use Rattle.key_index.proofs.Keys.{none_first, not_below}
-use Rattle.prop_values.specs.View.{data_of, entry_view, entries_view}
+use Rattle.prop_values.specs.View.{data_of}
+use Rattle.prop_values.specs.ViewParts.{entry_view, entries_view}
 use Rattle.prop_values.specs.declared.value.Entry.{Entry}
 use Rattle.prop_values.specs.declared.value.Value.{Value}
 

@@ -1,5 +1,5 @@
 -- What a value is to a clause: finite data.
-use Rattle.std.specs.Prelude.{◌≢◌, ℕ, ℤ, ◌+◌, List, [], ◌∷◌, Bool}
+use Rattle.std.specs.Prelude.{ℕ, ℤ, List, [], ◌∷◌, Bool}
 use Rattle.fixed_num.specs.declared.color.Color.{Color}
 
 -- The seven forms of a value. A number is its count of millionths, a text the list of its UTF-8
@@ -42,33 +42,3 @@ list_of (item d ds) = d ∷ list_of ds
 abbrev pub entries_of : Pairs → List (List ℕ × Data)
 entries_of no_pairs = []
 entries_of (pair k d ps) = (k, d) ∷ entries_of ps
-
--- The number of nodes: a list counts one more than its parts, and a map two, its entries and what shares
--- them.
-abbrev mutual
-  pub nodes : Data → ℕ
-  nodes null = 1
-  nodes (boolean b) = 1
-  nodes (number n) = 1
-  nodes (text s) = 1
-  nodes (color c) = 1
-  nodes (list ds) = 1 + items_nodes ds
-  nodes (map ps) = 2 + pairs_nodes ps
-
-  pub items_nodes : Items → ℕ
-  items_nodes no_items = 0
-  items_nodes (item d ds) = nodes d + items_nodes ds
-
-  pub pairs_nodes : Pairs → ℕ
-  pairs_nodes no_pairs = 0
-  pairs_nodes (pair k d ps) = nodes d + pairs_nodes ps
-
--- No entry has this key.
-abbrev pub LacksKey : List ℕ → List (List ℕ × Data) → Type 0
-LacksKey key [] = Unit {0}
-LacksKey key (p ∷ ps) = (p.0 ≢ key) × LacksKey key ps
-
--- No key occurs twice.
-abbrev pub HasDistinctKeys : List (List ℕ × Data) → Type 0
-HasDistinctKeys [] = Unit {0}
-HasDistinctKeys (p ∷ ps) = LacksKey p.0 ps × HasDistinctKeys ps

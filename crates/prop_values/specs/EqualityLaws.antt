@@ -1,6 +1,7 @@
 -- What equality of values means. The statements are to be believed; their proofs are in proofs/.
 use Rattle.std.specs.Prelude.{◌≡◌, ◌↔◌, ℕ, List, Bool, true, false, Option, Some, None}
-use Rattle.prop_values.specs.Data.{Data, null, boolean, number, text, color, list, map, Items, no_items, item, Pairs, no_pairs, pair, pairs_of, entries_of, HasDistinctKeys}
+use Rattle.prop_values.specs.Data.{Data, null, boolean, number, text, color, list, map, Items, no_items, item, Pairs, no_pairs, pair, pairs_of, entries_of}
+use Rattle.prop_values.specs.Keys.{HasDistinctKeys}
 use Rattle.prop_values.specs.Equality.{equal, at_key}
 
 -- No map in the data has a key twice. Source: own.

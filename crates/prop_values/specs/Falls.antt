@@ -9,8 +9,9 @@ use Rattle.prop_values.specs.declared.value.Value.TheVariants.{the_data, Null, B
 use Rattle.prop_values.specs.declared.value.Entry.{Entry}
 use Rattle.prop_values.specs.declared.value.Entries.TheDeep.{deep-Value, deep-Entry}
 use Rattle.prop_values.specs.declared.value.Entries.TheShapes.{weighed-Values-values}
-use Rattle.prop_values.specs.Data.{nodes}
-use Rattle.prop_values.specs.View.{data_of, values_view, entries_view, values_size, entries_size, kept}
+use Rattle.prop_values.specs.DataSize.{nodes}
+use Rattle.prop_values.specs.View.{data_of}
+use Rattle.prop_values.specs.ViewParts.{values_view, entries_view, values_size, entries_size, kept}
 
 deep_le-nodes : (v : Value) → deep-Value v ≤ nodes (data_of v)
 deep_le-nodes Null = omega arith

@@ -1,6 +1,7 @@
 -- To be believed.
 pub mod Data
 pub mod View
+pub mod ViewParts
 pub mod Faults
 pub mod Equality
 pub mod Choices
@@ -16,3 +17,4 @@ pub mod DataCode
 pub mod Falls
 pub mod Keys
 pub mod MergeSteps
+pub mod DataSize

@@ -5,7 +5,8 @@ ghost use Rattle.std.specs.Str.{chars};
 ghost use Rattle.prop_values.specs.Data.{pairs_of};
 ghost use Rattle.prop_values.specs.Equality.{equal, items_equal, pairs_in, keys_in};
 ghost use Rattle.prop_values.specs.Forms.{order_of, kind_name, is_true};
-ghost use Rattle.prop_values.specs.View.{data_of, items, pairs};
+ghost use Rattle.prop_values.specs.View.{data_of};
+ghost use Rattle.prop_values.specs.ViewParts.{items, pairs};
 
 use crate::value::{Entries, Entry, Value};
 use std::cmp::Ordering;

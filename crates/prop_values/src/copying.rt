@@ -5,7 +5,8 @@ ghost use Rattle.decimal_json.specs.View.{tree_of};
 ghost use Rattle.decimal_json.specs.Tree.{trees_of, fields_of};
 ghost use Rattle.prop_values.specs.Data.{items_of, pairs_of};
 ghost use Rattle.prop_values.specs.JsonData.{read_by, json_data, trees_data, fields_data};
-ghost use Rattle.prop_values.specs.View.{data_of, values_view};
+ghost use Rattle.prop_values.specs.View.{data_of};
+ghost use Rattle.prop_values.specs.ViewParts.{values_view};
 
 use crate::value::{Entries, SharedEntries, Value, Values};
 use decimal_json::{Items, Json, Members, NumText};

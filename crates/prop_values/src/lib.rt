@@ -31,7 +31,7 @@
 //! and data (`specs/Data.antt`, `specs/View.antt`). `proofs/Falls.antt` has the lemmas by which a recursion
 //! over values ends, and `proofs/KeyLaws.antt` those on what is at a key.
 //!
-//! The text to believe is in `specs/`: `Data`, `View`, `Faults`, `Equality`, `Choices`, `Forms`,
+//! The text to believe is in `specs/`: `Data`, `View`, `ViewParts`, `Faults`, `Equality`, `Choices`, `Forms`,
 //! `ColorText`, `ValueText`, `JsonData`, `Changes`. Laws of it: `EqualityLaws`.
 #![tactic(auto)]
 

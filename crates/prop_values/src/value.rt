@@ -2,11 +2,12 @@ ghost use Rattle.std.specs.Prelude.{◌≡◌, ◌↔◌, ◌<◌, ℕ, List, []
 ghost use Rattle.std.specs.Option.{option_or};
 ghost use Rattle.key_index.specs.Keys.{place_from};
 ghost use Rattle.prop_values.specs.Changes.{with_member, merged, without_key};
-ghost use Rattle.prop_values.specs.Data.{HasDistinctKeys, LacksKey, pairs_of};
+ghost use Rattle.prop_values.specs.Data.{pairs_of};
+ghost use Rattle.prop_values.specs.Keys.{HasDistinctKeys, LacksKey, keys};
 ghost use Rattle.prop_values.specs.Equality.{same_text, at_key};
-ghost use Rattle.prop_values.specs.Keys.{keys};
 ghost use Rattle.prop_values.specs.MergeSteps.{with_key, with_keys, replaced, all_replaced};
-ghost use Rattle.prop_values.specs.View.{data_of, values_view, entries_view};
+ghost use Rattle.prop_values.specs.View.{data_of};
+ghost use Rattle.prop_values.specs.ViewParts.{values_view, entries_view};
 ghost use Rattle.prop_values.specs.declared.value.Entry.{Entry};
 
 use crate::copying::{copy_entries, copy_values};
@@ -81,7 +82,7 @@ impl Model for Values {
 
     ghost coded = { items_code };
 
-    ghost use Rattle.prop_values.specs.View.{values_view, values_size, kept};
+    ghost use Rattle.prop_values.specs.ViewParts.{values_view, values_size, kept};
 
     ghost view = { λ a. values_view (kept a.values) };
 
@@ -95,7 +96,8 @@ impl Model for Values {
 
 impl Model for Entries {
     ghost use Rattle.std.specs.Prelude.{List, ℕ};
-    ghost use Rattle.prop_values.specs.Data.{Data, HasDistinctKeys};
+    ghost use Rattle.prop_values.specs.Data.{Data};
+    ghost use Rattle.prop_values.specs.Keys.{HasDistinctKeys};
     ghost use Rattle.prop_values.specs.DataCode.{pairs_code};
 
     ghost Value = { List (List ℕ × Data) };
@@ -103,7 +105,7 @@ impl Model for Entries {
     ghost coded = { pairs_code };
 
     ghost use Rattle.key_index.specs.Index.{IsIndexed};
-    ghost use Rattle.prop_values.specs.View.{entries_view, entry_keys, entries_size};
+    ghost use Rattle.prop_values.specs.ViewParts.{entries_view, entry_keys, entries_size};
 
     ghost view = { λ a. entries_view a.entries.items };
 
@@ -126,7 +128,7 @@ impl Model for SharedEntries {
 
     ghost coded = { pairs_code };
 
-    ghost use Rattle.prop_values.specs.View.{shared_size};
+    ghost use Rattle.prop_values.specs.ViewParts.{shared_size};
 
     ghost view = { λ a. a.entries.value };
 

@@ -1,6 +1,6 @@
 -- Items are as many as the values that they are of.
 use Rattle.std.proofs.Common.{◌≡◌, List, [], ◌∷◌, length, refl, arith}
-use Rattle.prop_values.specs.View.{items}
+use Rattle.prop_values.specs.ViewParts.{items}
 use Rattle.prop_values.specs.declared.value.Value.{Value}
 use Rattle.property_tables.specs.Fitting.{item_count}
 

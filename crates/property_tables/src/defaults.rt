@@ -1,6 +1,7 @@
 ghost use Rattle.std.specs.Prelude.{◌≡◌, IfOk, option_map, pos, replicate, [], ◌∷◌, codes};
 ghost use Rattle.prop_values.specs.Data.{number, text};
-ghost use Rattle.prop_values.specs.View.{data_of, evaluated_of};
+ghost use Rattle.prop_values.specs.View.{data_of};
+ghost use Rattle.prop_values.specs.ViewParts.{evaluated_of};
 ghost use Rattle.property_tables.specs.Defaults.{default_of, written_default, fitted};
 ghost use Rattle.property_tables.specs.RowView.{row_seen, fallback_seen};
 

@@ -2,7 +2,8 @@ ghost use Rattle.std.specs.Prelude.{◌≡◌, IfOk};
 ghost use Rattle.color_values.specs.ColorOf.{color_of};
 ghost use Rattle.prop_values.specs.Data.{text};
 ghost use Rattle.prop_values.specs.ValueText.{shown_text};
-ghost use Rattle.prop_values.specs.View.{data_of, evaluated_of, items};
+ghost use Rattle.prop_values.specs.View.{data_of};
+ghost use Rattle.prop_values.specs.ViewParts.{evaluated_of, items};
 ghost use Rattle.property_tables.specs.Fitting.{fit, fit_boolean, fit_number, fit_text, fit_color, fit_object, fit_image, fit_list, fit_choice, fit_choices, read_as_color, is_item, are_items, has_count, is_choice, are_choices};
 
 use color_values::read_color;

@@ -9,7 +9,8 @@ use Rattle.proto_wire.specs.declared.field.WireType.{WireType}
 use Rattle.proto_wire.specs.declared.field.WireType.TheVariants as wire
 use Rattle.proto_wire.specs.declared.field.WireFault.{WireFault}
 use Rattle.proto_wire.specs.Varint.{varint_at}
-use Rattle.proto_wire.specs.Message.{Payload, varint, bits64, bytes, bits32, WireField, content_of, ◌then◌, front_of, tag_of, tag_at, payload_at, field_at, AreFields}
+use Rattle.proto_wire.specs.Message.{Payload, varint, bits64, bytes, bits32, WireField, content_of, ◌then◌, front_of, tag_of, tag_at, payload_at, field_at}
+use Rattle.proto_wire.specs.Reading.{AreFields}
 use Rattle.proto_wire.specs.Laws.{Stands, FieldsStand, SomeFields, NoOtherFields}
 use Rattle.proto_wire.proofs.VarintLaws.{varint_front}
 

@@ -7,7 +7,8 @@ use Rattle.std.specs.Borrow.{Bor}
 use Rattle.proto_wire.specs.declared.wire.WireKind.{WireKind}
 use Rattle.proto_wire.specs.declared.wire.WireKind.TheVariants.{Varint, Truncated}
 use Rattle.proto_wire.specs.View.{GivesWire}
-use Rattle.proto_wire.specs.Varint.{above_digit, number_of, within_64_bits, varint_at, onto}
+use Rattle.proto_wire.specs.Varint.{above_digit, number_of, within_64_bits, varint_at}
+use Rattle.proto_wire.specs.Reading.{onto}
 
 abbrev pub Read : Type 0
 Read = Result (ℕ × List ℕ) WireKind

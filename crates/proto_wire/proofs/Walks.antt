@@ -3,8 +3,8 @@ use Rattle.std.proofs.Common.{◌≡◌, ℕ, ◌<◌, inl, inr, false, List, []
 use Rattle.std.specs.Prelude.{Ok, Err, Option, Some, None}
 use Rattle.std.proofs.lemmas.List.{append-nil}
 use Rattle.proto_wire.specs.declared.field.WireFault.{WireFault}
-use Rattle.proto_wire.specs.Message.{WireField, field_at, AreFields, ReadsFields}
-use Rattle.proto_wire.specs.Reading.{ReaderState, IsOver}
+use Rattle.proto_wire.specs.Message.{WireField, field_at}
+use Rattle.proto_wire.specs.Reading.{AreFields, ReadsFields, ReaderState, IsOver}
 
 pub leads_nowhere : (at : ℕ) (b : List ℕ) → ReadsFields at b [] at b
 leads_nowhere at b = (refl, refl)

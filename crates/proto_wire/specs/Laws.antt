@@ -4,7 +4,8 @@ use Rattle.proto_wire.specs.declared.wire.WireKind.{WireKind}
 use Rattle.proto_wire.specs.declared.wire.WireKind.TheVariants.{Varint, Truncated, WireType}
 use Rattle.proto_wire.specs.declared.field.WireFault.{WireFault}
 use Rattle.proto_wire.specs.Varint.{varint_at}
-use Rattle.proto_wire.specs.Message.{WireField, content_of, content_start, field_at, AreFields}
+use Rattle.proto_wire.specs.Message.{WireField, content_of, content_start, field_at}
+use Rattle.proto_wire.specs.Reading.{AreFields}
 
 -- each of these bytes has the high bit
 abbrev pub AllGoOn : List ℕ → Type 0

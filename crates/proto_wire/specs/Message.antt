@@ -1,12 +1,11 @@
 -- A message: a sequence of fields. Source: Protocol Buffers, "Encoding", Message Structure, which Vector Tile
 -- 2.1 takes over.
-use Rattle.std.specs.Prelude.{◌≡◌, ℕ, ◌+◌, ◌-◌, ◌/◌, ◌%◌, ◌^◌, ◌<◌, ◌⊎◌, List, [], ◌∷◌, length, take, drop, Option, Some, None, Result, Ok, Err, if◌then◌else◌, nat_le, nat_eq}
+use Rattle.std.specs.Prelude.{ℕ, ◌+◌, ◌-◌, ◌/◌, ◌%◌, ◌^◌, List, [], length, take, drop, Result, Ok, Err, if◌then◌else◌, nat_le, nat_eq}
 use Rattle.std.specs.Int.{w32, w64, from_le_bytes}
 use Rattle.proto_wire.specs.declared.wire.WireKind.{WireKind}
 use Rattle.proto_wire.specs.declared.wire.WireKind.TheVariants as kind
 use Rattle.proto_wire.specs.declared.field.WireType.{WireType}
 use Rattle.proto_wire.specs.declared.field.WireType.TheVariants as wire
-use Rattle.proto_wire.specs.declared.field.WireFault.{WireFault}
 use Rattle.proto_wire.specs.Varint.{varint_at}
 
 -- what a field holds
@@ -77,17 +76,3 @@ unfoldable pub field_at : ℕ → List ℕ → Result (WireField × List ℕ) Wi
 field_at at b =
     tag_at b then λ tag. payload_at tag.0.1 tag.1 then λ held.
     Ok (record { number = tag.0.0; at = at; end = at + (length b - length held.1); payload = held.0 }, held.1)
-
--- These are the fields of the bytes, which are at this offset, in order: up to the end, or up to a fault,
--- whose place is the tag of the field that it breaks.
-abbrev pub AreFields : ℕ → List ℕ → List WireField → Option WireFault → Type 0
-AreFields at b [] fault =
-    ((b ≡ []) × (fault ≡ None))
-    ⊎ ((kind : WireKind) × (0 < length b) × (field_at at b ≡ Err kind) × (fault ≡ Some (record { kind = kind; at = at })))
-AreFields at b (field ∷ fields) fault = (rest : List ℕ) × (field_at at b ≡ Ok (field, rest)) × AreFields field.end rest fields fault
-
--- Reading these fields in order leads from bytes at an offset to the bytes that are left, and their offset:
--- what a reader has read so far.
-abbrev pub ReadsFields : ℕ → List ℕ → List WireField → ℕ → List ℕ → Type 0
-ReadsFields at b [] left_at left = (left_at ≡ at) × (left ≡ b)
-ReadsFields at b (field ∷ fields) left_at left = (rest : List ℕ) × (field_at at b ≡ Ok (field, rest)) × ReadsFields field.end rest fields left_at left

@@ -25,9 +25,3 @@ within_64_bits (Err kind) = Err kind
 -- bytes than are needed are fine.
 unfoldable pub varint_at : List ℕ → Result (ℕ × List ℕ) WireKind
 varint_at b = within_64_bits (number_of 10 b)
-
--- For the reader: the digits so far, each below the weight of the next, and above them what is read after
--- them.
-abbrev pub onto : ℕ → ℕ → Result (ℕ × List ℕ) WireKind → Result (ℕ × List ℕ) WireKind
-onto value weight (Ok (n, rest)) = Ok (value + weight * n, rest)
-onto value weight (Err kind) = Err kind

@@ -1,5 +1,6 @@
 ghost use Rattle.std.specs.Prelude.{◌≡◌, ◌<◌, ◌^◌, length, OnOk, OnErr, IfOk, IfErr, Ok, Err};
-ghost use Rattle.proto_wire.specs.Varint.{varint_at, number_of, within_64_bits, onto};
+ghost use Rattle.proto_wire.specs.Varint.{varint_at, number_of, within_64_bits};
+ghost use Rattle.proto_wire.specs.Reading.{onto};
 ghost use Rattle.proto_wire.specs.View.{GivesWire};
 
 /// What is wrong with the bytes of a field.

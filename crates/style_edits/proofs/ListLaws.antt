@@ -3,7 +3,7 @@ use Rattle.std.proofs.Common.{◌≡◌, ◌<◌, ◌≤◌, ℕ, zero, suc, Lis
 use Rattle.std.specs.Prelude.{insert, remove}
 use Rattle.std.proofs.lemmas.List.{set-set, set-get_or}
 use Rattle.std.proofs.lemmas.List.Edits.{length-remove, get_or-insert_at}
-use Rattle.decimal_json.specs.Editing.{moved_items}
+use Rattle.decimal_json.specs.View.{moved_items}
 use Rattle.decimal_json.specs.Tree.{Tree, null}
 
 module _ {X : Type 0} where

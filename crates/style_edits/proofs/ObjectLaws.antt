@@ -5,8 +5,7 @@ use Rattle.std.specs.Str.{bytes_eq}
 use Rattle.std.proofs.lemmas.Bool.{cond-true, cond-false}
 use Rattle.decimal_json.specs.Accessors.{member}
 use Rattle.decimal_json.specs.Editing.{members_with, replaced_members, members_without}
-use Rattle.decimal_json.specs.Sound.{members_of}
-use Rattle.decimal_json.specs.Tree.{Tree, null, boolean, number, text, list, object, Fields, no_fields, field, fields_of, field_at}
+use Rattle.decimal_json.specs.Tree.{members_of, Tree, null, boolean, number, text, list, object, Fields, no_fields, field, fields_of, field_at}
 use Rattle.style_edits.specs.Objects.{object_with, object_replacing, object_without}
 
 -- ---- lists and the parts of a tree

@@ -9,9 +9,8 @@ use Rattle.std.proofs.lemmas.Iterator.Adapters.{position_from-zero}
 use Rattle.std.proofs.lemmas.List.{length-map}
 use Rattle.std.proofs.lemmas.List.Edits.{length-remove}
 use Rattle.std.proofs.lemmas.Slice.Eq.{bytes_eq-Decides}
-use Rattle.decimal_json.specs.Editing.{moved_items}
+use Rattle.decimal_json.specs.View.{moved_items, tree_of, items_view}
 use Rattle.decimal_json.specs.Tree.{Tree, null}
-use Rattle.decimal_json.specs.View.{tree_of, items_view}
 use Rattle.decimal_json.specs.declared.tree.Json.{Json}
 use Rattle.style_edits.specs.ByPlace.{layer_at, changed_at, removed_at, inserted_at, place_moved_to, is_own_place, moved_at}
 use Rattle.style_edits.specs.Places.{layer_place}

@@ -3,7 +3,7 @@ use Rattle.std.specs.Prelude.{ℕ, ◌-◌, List, [], ◌∷◌, ◌++◌, lengt
 use Rattle.std.specs.Bool.{then_some}
 use Rattle.std.specs.List.{list_all}
 use Rattle.std.specs.Option.{option_and_then}
-use Rattle.decimal_json.specs.Editing.{moved_items}
+use Rattle.decimal_json.specs.View.{moved_items}
 use Rattle.decimal_json.specs.Tree.{Tree, null}
 use Rattle.edit_script.specs.Edit.{Edit, set_paint, set_layout, set_filter, set_range, add_layer, remove_layer, move_layer}
 use Rattle.style_edits.specs.Causes.{first_cause}

@@ -1,8 +1,7 @@
 -- Objects that get, change or lose a member.
 use Rattle.std.specs.Prelude.{ℕ, List}
 use Rattle.decimal_json.specs.Editing.{members_with, replaced_members, members_without}
-use Rattle.decimal_json.specs.Sound.{members_of}
-use Rattle.decimal_json.specs.Tree.{Tree, object, no_fields, field, fields_of}
+use Rattle.decimal_json.specs.Tree.{members_of, Tree, object, no_fields, field, fields_of}
 
 -- An object with a tree at a key: in place of the one that is there, else in a new last member. What is no object
 -- becomes the object of this member alone. Source: own.

@@ -1,8 +1,7 @@
 -- The document after an edit was taken back.
 use Rattle.std.specs.Prelude.{◌≡◌, ◌<◌, ◌≤◌, List, length, insert, remove, slice_set, Bool, true, false}
-use Rattle.decimal_json.specs.Editing.{moved_items}
+use Rattle.decimal_json.specs.View.{moved_items, tree_of}
 use Rattle.decimal_json.specs.Tree.{Tree}
-use Rattle.decimal_json.specs.View.{tree_of}
 use Rattle.style_edits.specs.Layers.{layer_list, with_layers}
 use Rattle.style_edits.specs.declared.undo.Undo.{Undo}
 use Rattle.style_edits.specs.declared.undo.Undo.TheVariants.{Nothing, Changed, Added, Removed, Moved}

@@ -4,7 +4,7 @@ ghost use Rattle.std.specs.Prelude.{◌≡◌, [], IfOk};
 ghost use Rattle.expr_syntax.specs.TermView.{term_of};
 ghost use Rattle.eval_face.specs.Meaning.{mean};
 ghost use Rattle.eval_face.specs.World.{world_of};
-ghost use Rattle.prop_values.specs.View.{evaluated_of};
+ghost use Rattle.prop_values.specs.ViewParts.{evaluated_of};
 ghost use Rattle.style_layout.specs.Tests.{Tests};
 
 use crate::zoom::Zoom;

@@ -1,7 +1,8 @@
 //! What is listed for a property, and which features pass.
 
 ghost use Rattle.std.specs.Prelude.{◌≡◌, Ok, Err, IfOk, option_map};
-ghost use Rattle.prop_values.specs.View.{data_of, evaluated_of};
+ghost use Rattle.prop_values.specs.View.{data_of};
+ghost use Rattle.prop_values.specs.ViewParts.{evaluated_of};
 ghost use Rattle.fixed_num.specs.Number.{floor_of};
 ghost use Rattle.eval_face.specs.World.{state_of};
 ghost use Rattle.style_layout.specs.CodeView.{filter_seen, property_seen, scene_seen};

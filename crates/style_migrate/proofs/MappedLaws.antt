@@ -1,6 +1,7 @@
 -- Members and items that are replaced one after the other.
 use Rattle.std.proofs.Common.{◌≡◌, ℕ, ◌+◌, ◌<◌, List, [], ◌∷◌, ◌++◌, length, take, get_or, zero, suc, ap, sym, subst, refl, ◌∙◌, arith}
-use Rattle.decimal_json.specs.Tree.{Tree, field, tree, fields_of, trees_of, LacksKey, HasDistinctKeys}
+use Rattle.decimal_json.specs.Tree.{Tree, field, tree, fields_of, trees_of}
+use Rattle.decimal_json.specs.Sound.{LacksKey, HasDistinctKeys}
 use Rattle.decimal_json.specs.View.{tree_of, items_view, members_view}
 use Rattle.decimal_json.specs.declared.tree.Json.{Json}
 use Rattle.decimal_json.specs.declared.tree.Member.{Member}

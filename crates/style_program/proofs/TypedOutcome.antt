@@ -2,7 +2,7 @@
 use Rattle.std.specs.Prelude.{◌≡◌, ℕ, List, Bool, Ok, Err, refl}
 use Rattle.prop_values.specs.declared.kinds.Want.TheVariants.{Any}
 use Rattle.expr_syntax.specs.Term.{Term}
-use Rattle.expr_types.specs.Judged.{judged}
+use Rattle.expr_types.specs.JudgedFacts.{judged}
 use Rattle.expr_types.specs.Typing.{Typed}
 use Rattle.style_program.specs.ValueRun.{typed_outcome, judged_outcome}
 

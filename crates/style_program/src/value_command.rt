@@ -1,7 +1,7 @@
 //! `value`: the value of an expression.
 
 ghost use Rattle.std.specs.Prelude.{◌≡◌, ℕ, pos, List, Option, IfOk, IfErr};
-ghost use Rattle.prop_values.specs.View.{evaluated_of};
+ghost use Rattle.prop_values.specs.ViewParts.{evaluated_of};
 ghost use Rattle.expr_syntax.specs.ReadView.{reading_of};
 ghost use Rattle.expr_syntax.specs.TermView.{term_of};
 ghost use Rattle.program_runs.specs.Progress.{outcome_of, HaltsAt};

@@ -6,7 +6,8 @@ use Rattle.std.proofs.lemmas.Bool.{cases_Bool}
 use Rattle.std.proofs.Math.Nat.{zero-add, add-zero}
 use Rattle.std.proofs.lemmas.List.{append_assoc}
 use Rattle.std.proofs.lemmas.Slice.Eq.{bytes_eq-Decides}
-use Rattle.decimal_json.specs.Tree.{Tree, null, boolean, number, text, list, object, Trees, no_trees, tree, Fields, no_fields, field, fields_of, field_at, LacksKey, HasDistinctKeys}
+use Rattle.decimal_json.specs.Tree.{Tree, null, boolean, number, text, list, object, Trees, no_trees, tree, Fields, no_fields, field, fields_of, field_at}
+use Rattle.decimal_json.specs.Sound.{LacksKey, HasDistinctKeys}
 use Rattle.decimal_json.specs.View.{fields, members_view}
 use Rattle.decimal_json.specs.declared.paths.PathPart.{PathPart}
 use Rattle.decimal_json.specs.declared.paths.PathPart.TheVariants.{Key, Index}

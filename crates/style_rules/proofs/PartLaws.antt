@@ -4,7 +4,8 @@ use Rattle.std.specs.Str.{bytes_eq}
 use Rattle.std.proofs.Common.{refl, sym, ap, subst, ◌∙◌, inl, inr}
 use Rattle.std.proofs.lemmas.Bool.{cases_Bool}
 use Rattle.std.proofs.lemmas.Slice.Eq.{bytes_eq-Decides}
-use Rattle.decimal_json.specs.Tree.{Tree, object, fields_of, field_at, LacksKey, HasDistinctKeys}
+use Rattle.decimal_json.specs.Tree.{Tree, object, fields_of, field_at}
+use Rattle.decimal_json.specs.Sound.{LacksKey, HasDistinctKeys}
 use Rattle.style_rules.specs.CodeView.{MemberTrees}
 use Rattle.style_rules.specs.LayerParts.{parts_of, with_member}
 

@@ -7,7 +7,8 @@ use Rattle.property_tables.specs.Rows.{RowData}
 use Rattle.expr_syntax.specs.Term.{Term}
 use Rattle.expr_types.specs.Allowed.{allowed_by, first_unread, stray_zoom_by}
 use Rattle.expr_types.specs.Checked.{unless_at, allowed, checked}
-use Rattle.expr_types.specs.Judged.{Judged, judged, may_of, found_may}
+use Rattle.expr_types.specs.Judged.{Judged}
+use Rattle.expr_types.specs.JudgedFacts.{judged, may_of, found_may}
 use Rattle.expr_types.specs.Typing.{TypedNodes, Typed, typed}
 use Rattle.expr_types.specs.Visits.{Visit, visits}
 use Rattle.expr_types.specs.declared.fault.TypeCode.TheVariants as types

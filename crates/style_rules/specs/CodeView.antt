@@ -13,7 +13,8 @@ use Rattle.style_rules.specs.declared.layer_context.LayerMembers.{LayerMembers}
 use Rattle.style_rules.specs.declared.diagnostics.Mark.{Mark}
 use Rattle.style_rules.specs.declared.diagnostics.Mark.TheVariants.{Sound, Broken}
 use Rattle.style_rules.specs.Values.{rule_of}
-use Rattle.expr_types.specs.Judged.{Judged, may_of}
+use Rattle.expr_types.specs.Judged.{Judged}
+use Rattle.expr_types.specs.JudgedFacts.{may_of}
 use Rattle.expr_types.specs.declared.fault.TypeFault.{TypeFault}
 use Rattle.style_rules.specs.declared.lists.Finding.{Finding}
 use Rattle.style_rules.specs.declared.lists.MayLine.{MayLine}

@@ -1,7 +1,7 @@
 //! What is reported of places, while a document is walked.
 
 ghost use Rattle.std.specs.Prelude.{◌≡◌, [], ◌∷◌, ◌++◌, OnOk, IfOk};
-ghost use Rattle.decimal_json.specs.Place.{path_of};
+ghost use Rattle.decimal_json.specs.View.{path_of};
 ghost use Rattle.style_rules.specs.Findings.{reports_or};
 ghost use Rattle.style_rules.specs.Places.{unless_broken};
 

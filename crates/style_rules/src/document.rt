@@ -1,9 +1,8 @@
 //! The walk over a document.
 
 ghost use Rattle.std.specs.Prelude.{◌≡◌, ℕ, List, ◌++◌, ◌||◌, codes, Some, OnOk, IfOk};
-ghost use Rattle.decimal_json.specs.Place.{path_of};
+ghost use Rattle.decimal_json.specs.View.{path_of, tree_of, fields, members_view, trees};
 ghost use Rattle.decimal_json.specs.Tree.{list, object, fields_of, field_at};
-ghost use Rattle.decimal_json.specs.View.{tree_of, fields, members_view, trees};
 ghost use Rattle.decimal_json.specs.Accessors.{member};
 ghost use Rattle.style_parts.specs.Parts.{sources_of, is_id_of};
 ghost use Rattle.style_rules.specs.CodeView.{fields_at, has_name};

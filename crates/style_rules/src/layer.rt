@@ -1,9 +1,9 @@
 //! The rules on a layer.
 
 ghost use Rattle.std.specs.Prelude.{◌≡◌, [], ◌∷◌, ◌++◌, OnOk};
-ghost use Rattle.decimal_json.specs.Place.{path_of};
-ghost use Rattle.decimal_json.specs.Tree.{object, HasDistinctKeys};
-ghost use Rattle.decimal_json.specs.View.{tree_of, fields, members_view};
+ghost use Rattle.decimal_json.specs.View.{path_of, tree_of, fields, members_view};
+ghost use Rattle.decimal_json.specs.Tree.{object};
+ghost use Rattle.decimal_json.specs.Sound.{HasDistinctKeys};
 ghost use Rattle.style_rules.specs.CodeView.{fields_at, context_seen, has_name, parts_seen};
 ghost use Rattle.style_rules.specs.Findings.{reports_or};
 ghost use Rattle.style_rules.specs.Keys.{keyed_reports, placed_reports};

@@ -2,7 +2,8 @@
 
 ghost use Rattle.std.specs.Prelude.{◌≡◌, Some};
 ghost use Rattle.std.specs.Option.{option_and_then};
-ghost use Rattle.decimal_json.specs.Tree.{object, HasDistinctKeys};
+ghost use Rattle.decimal_json.specs.Tree.{object};
+ghost use Rattle.decimal_json.specs.Sound.{HasDistinctKeys};
 ghost use Rattle.decimal_json.specs.View.{tree_of, fields, members_view, tree_at};
 ghost use Rattle.decimal_json.specs.Accessors.{text_in};
 ghost use Rattle.style_parts.specs.Parts.{is_among};

@@ -1,8 +1,7 @@
 //! The rules on the members of `layout` and `paint`.
 
 ghost use Rattle.std.specs.Prelude.{◌≡◌, [], ◌++◌, Some, OnOk};
-ghost use Rattle.decimal_json.specs.Place.{path_of};
-ghost use Rattle.decimal_json.specs.View.{tree_of, fields};
+ghost use Rattle.decimal_json.specs.View.{path_of, tree_of, fields};
 ghost use Rattle.style_rules.specs.Findings.{reports_or};
 ghost use Rattle.style_rules.specs.Levels.{fields_reports, fields_or_none, property_reports};
 ghost use Rattle.style_rules.specs.Places.{properties_mark, unnamed_mark};

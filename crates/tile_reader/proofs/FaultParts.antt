@@ -3,7 +3,8 @@ use Rattle.std.proofs.Common.{◌≡◌, ◌≢◌, ℕ, inl, inr, List, [], ◌
 use Rattle.std.specs.Prelude.{◌⊎◌, Option, Some, None, Result, Ok, Err, if◌then◌else◌}
 use Rattle.std.specs.Str.{is_utf8}
 use Rattle.proto_wire.specs.declared.field.WireFault.{WireFault}
-use Rattle.proto_wire.specs.Message.{Payload, varint, bits64, bytes, bits32, WireField, AreFields}
+use Rattle.proto_wire.specs.Message.{Payload, varint, bits64, bytes, bits32, WireField}
+use Rattle.proto_wire.specs.Reading.{AreFields}
 use Rattle.tile_reader.specs.declared.fault.TileKind.TheVariants as kind
 use Rattle.tile_reader.specs.declared.fault.TileFault.{TileFault}
 use Rattle.tile_reader.specs.Message.{Message, message}

@@ -2,7 +2,8 @@
 use Rattle.std.proofs.Common.{◌≡◌, ℕ, zero, suc, ◌%◌, ◌<◌, List, [], ◌∷◌, refl, ap, ◌∙◌, subst, arith, length, Bool, true, false}
 use Rattle.std.specs.Prelude.{Option, Some, None, option_map, Ok, Err, if◌then◌else◌, nat_eq, slice_index_or}
 use Rattle.std.proofs.lemmas.Bool.Decides.{Decides-eqb}
-use Rattle.prop_values.specs.Data.{Data, HasDistinctKeys}
+use Rattle.prop_values.specs.Data.{Data}
+use Rattle.prop_values.specs.Keys.{HasDistinctKeys}
 use Rattle.tile_reader.specs.declared.fault.TileKind.TheVariants.{TagIndex, OddTags}
 use Rattle.tile_reader.specs.Read.{refused}
 use Rattle.tile_reader.specs.Feature.{Tagged}

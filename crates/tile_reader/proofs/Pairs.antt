@@ -4,7 +4,8 @@ use Rattle.std.specs.Prelude.{if◌then◌else◌, nat_eq, slice_index, slice_in
 use Rattle.std.specs.Str.{bytes_eq}
 use Rattle.std.proofs.lemmas.Slice.Eq.{bytes_eq-Decides}
 use Rattle.std.proofs.lemmas.List.{length-map, get_or-map, take-map, get_or_default}
-use Rattle.prop_values.specs.Data.{Data, LacksKey, HasDistinctKeys}
+use Rattle.prop_values.specs.Data.{Data}
+use Rattle.prop_values.specs.Keys.{LacksKey, HasDistinctKeys}
 use Rattle.tile_reader.specs.Lookup.{AreFirsts, AreInside, put_pair, pair_seen, pairs_seen}
 use Rattle.tile_reader.specs.Properties.{put, put_all}
 use Rattle.tile_reader.proofs.TextPlaces.{same_texts}

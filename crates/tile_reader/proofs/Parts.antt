@@ -5,7 +5,8 @@ use Rattle.std.specs.Str.{is_utf8}
 use Rattle.std.proofs.lemmas.Bool.{cases_eq, false_from_ne_true}
 use Rattle.std.proofs.lemmas.Bool.Decides.{Decides-eqb}
 use Rattle.proto_wire.specs.declared.field.WireFault.{WireFault}
-use Rattle.proto_wire.specs.Message.{Payload, varint, bits64, bytes, bits32, WireField, AreFields}
+use Rattle.proto_wire.specs.Message.{Payload, varint, bits64, bytes, bits32, WireField}
+use Rattle.proto_wire.specs.Reading.{AreFields}
 use Rattle.proto_wire.proofs.MessageLaws.{no_other_fields}
 use Rattle.tile_reader.specs.declared.fault.TileKind.TheVariants.{Utf8}
 use Rattle.tile_reader.specs.declared.fault.TileFault.{TileFault}

@@ -2,7 +2,8 @@
 use Rattle.std.proofs.Common.{◌≡◌, ℕ, zero, suc, ◌<◌, ◌≤◌, inl, inr, List, [], ◌∷◌, refl, arith, length}
 use Rattle.std.specs.Prelude.{Result, Ok, Err}
 use Rattle.proto_wire.specs.declared.wire.WireKind.{WireKind}
-use Rattle.proto_wire.specs.Message.{WireField, field_at, AreFields}
+use Rattle.proto_wire.specs.Message.{WireField, field_at}
+use Rattle.proto_wire.specs.Reading.{AreFields}
 use Rattle.proto_wire.proofs.MessageLaws.{field_takes}
 use Rattle.tile_reader.specs.Message.{Message, from_front, fields_within, message}
 use Rattle.tile_reader.specs.Laws.{MessagesAreCut, KeysDiffer}

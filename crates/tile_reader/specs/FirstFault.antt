@@ -6,7 +6,8 @@ use Rattle.std.specs.Str.{is_utf8}
 use Rattle.proto_wire.specs.declared.wire.WireKind.{WireKind}
 use Rattle.proto_wire.specs.declared.field.WireFault.{WireFault}
 use Rattle.proto_wire.specs.Varint.{varint_at}
-use Rattle.proto_wire.specs.Message.{varint, bits64, bytes, bits32, WireField, content_start, AreFields}
+use Rattle.proto_wire.specs.Message.{varint, bits64, bytes, bits32, WireField, content_start}
+use Rattle.proto_wire.specs.Reading.{AreFields}
 use Rattle.prop_values.specs.Data.{Data}
 use Rattle.tile_reader.specs.declared.fault.TileKind.{TileKind}
 use Rattle.tile_reader.specs.declared.fault.TileKind.TheVariants as kind

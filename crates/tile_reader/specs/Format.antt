@@ -4,7 +4,8 @@
 use Rattle.std.specs.Prelude.{◌≡◌, ◌≢◌, ℕ, pos, ◌⊎◌, not, List, [], ◌∷◌, ◌++◌, map, Bool, true, false, Option, Some, None, Ok, if◌then◌else◌, nat_eq, slice_get}
 use Rattle.std.specs.Str.{is_utf8, bytes_eq}
 use Rattle.proto_wire.specs.Varint.{varint_at}
-use Rattle.proto_wire.specs.Message.{varint, bytes, WireField, content_start, AreFields}
+use Rattle.proto_wire.specs.Message.{varint, bytes, WireField, content_start}
+use Rattle.proto_wire.specs.Reading.{AreFields}
 use Rattle.prop_values.specs.Data.{Data}
 use Rattle.prop_values.specs.Data as held
 use Rattle.tile_reader.specs.declared.tile.Shape as shape

@@ -1,7 +1,8 @@
 -- The laws that say what the definitions of this crate mean.
 use Rattle.std.specs.Prelude.{◌≡◌, ℕ, ◌⊎◌, ◌↔◌, List, [], Ok, Err}
-use Rattle.proto_wire.specs.Message.{AreFields}
-use Rattle.prop_values.specs.Data.{Data, HasDistinctKeys}
+use Rattle.proto_wire.specs.Reading.{AreFields}
+use Rattle.prop_values.specs.Data.{Data}
+use Rattle.prop_values.specs.Keys.{HasDistinctKeys}
 use Rattle.tile_reader.specs.declared.fault.TileFault.{TileFault}
 use Rattle.tile_reader.specs.declared.tile.TileLayer.{TileLayer}
 use Rattle.tile_reader.specs.Message.{message}

@@ -1,5 +1,5 @@
 ghost use Rattle.std.specs.Prelude.{◌≡◌, ◌⊎◌, ℕ, ◌+◌, ◌^◌, ◌<◌, ◌≤◌, ◌*ℤ◌, pos, ◌↔◌, List, [], ◌∷◌, length, map, IfOk, OnOk, Some, None, IfSome, IfNone, MatchOption, option_map, if◌then◌else◌, unsigned_abs, slice_index_or};
-ghost use Rattle.prop_values.specs.Data.{HasDistinctKeys};
+ghost use Rattle.prop_values.specs.Keys.{HasDistinctKeys};
 ghost use Rattle.prop_values.specs.View.{data_of};
 ghost use Rattle.tile_reader.specs.View.{GivesOrLacks, HasAllTags, tagged_seen, tagged_all, texts_seen, value_seen};
 ghost use Rattle.tile_reader.specs.Properties.{put_all, named, feature_of, features_of};

@@ -6,11 +6,12 @@ use Rattle.prop_values.specs.Faults.{no_faults}
 use Rattle.prop_values.specs.declared.kinds.Want.{Want}
 use Rattle.expr_syntax.specs.Mentioned.{count}
 use Rattle.expr_syntax.specs.ReadTerms.{HasSoundParts, names_within, IsRead, AreRead}
-use Rattle.expr_syntax.specs.Term.{Term, literal, node, nodes, Terms, no_terms, term, terms_nodes}
+use Rattle.expr_syntax.specs.Term.{Term, literal, node, Terms, no_terms, term}
+use Rattle.expr_syntax.specs.TermSize.{nodes, terms_nodes}
 use Rattle.expr_syntax.specs.declared.expression.Operator.{Operator}
 use Rattle.expr_syntax.specs.declared.expression.Operator.TheVariants as ops
 use Rattle.expr_types.specs.ArgumentPaths.{argument_path}
-use Rattle.expr_types.specs.Judged.{found_places}
+use Rattle.expr_types.specs.JudgedFacts.{found_places}
 use Rattle.expr_types.specs.OwnTable.{own}
 use Rattle.expr_types.specs.Typing.{TypedNodes, Typed, Node, KindScope, Typing, places_of, literal_node, with_below, own_where, sequence_if, is_sequence_of, looked_at, argument_want, argument_typed, and_found, founds_of, kinds_in, places_after, all_may, all_places, then_found, frame, own_named, fitted, finished_node, finished, plain_typed, with_bindings, body_typed, let_typed, node_typed, literals, typed_as, typings}
 use Rattle.expr_types.specs.declared.fault.TypeFault.{TypeFault}

@@ -17,7 +17,8 @@ use Rattle.prop_values.specs.declared.kinds.Want.TheVariants as wants
 use Rattle.prop_values.specs.declared.outcome.Curve.{Curve}
 use Rattle.prop_values.specs.declared.outcome.Curve.TheVariants.{Linear, Exponential}
 use Rattle.property_tables.specs.Fitting.{fit, are_items, has_count}
-use Rattle.interpolate_fixed.specs.Places.{IsAscending, input_at, place_of, IsBetween}
+use Rattle.interpolate_fixed.specs.Places.{input_at, place_of}
+use Rattle.interpolate_fixed.specs.PlaceFacts.{IsAscending, IsBetween}
 use Rattle.interpolate_fixed.specs.Warp.{warp_of}
 use Rattle.interpolate_fixed.specs.declared.place.StopPlace.{StopPlace}
 use Rattle.interpolate_fixed.specs.declared.place.StopPlace.TheVariants.{First, Last, Between}

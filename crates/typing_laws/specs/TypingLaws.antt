@@ -10,9 +10,11 @@ use Rattle.prop_values.specs.declared.kinds.Want.TheVariants as wants
 use Rattle.property_tables.specs.Fitting.{fit}
 use Rattle.property_tables.specs.Rows.{RowData}
 use Rattle.expr_syntax.specs.ReadTerms.{IsRead}
-use Rattle.expr_syntax.specs.Term.{Term, nodes}
+use Rattle.expr_syntax.specs.Term.{Term}
+use Rattle.expr_syntax.specs.TermSize.{nodes}
 use Rattle.expr_types.specs.Checked.{checked, checked_free}
-use Rattle.expr_types.specs.Judged.{Judged, judged, kind_of, may_of, places_in}
+use Rattle.expr_types.specs.Judged.{Judged}
+use Rattle.expr_types.specs.JudgedFacts.{judged, kind_of, may_of, places_in}
 use Rattle.expr_types.specs.Typing.{TypedNodes, typed}
 use Rattle.eval_face.specs.Meaning.{mean}
 use Rattle.eval_face.specs.World.{World}

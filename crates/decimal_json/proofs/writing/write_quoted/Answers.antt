@@ -1,4 +1,5 @@
-use Rattle.decimal_json.specs.JsonText.{text_json, AppendsPrefix}
+use Rattle.decimal_json.specs.JsonText.{text_json}
+use Rattle.decimal_json.specs.Writing.{AppendsPrefix}
 use Rattle.decimal_json.proofs.Appending.{quoted_stop, quoted_whole, on_err}
 use Rattle.decimal_json.proofs.writing.write_quoted.Goals as goal
 

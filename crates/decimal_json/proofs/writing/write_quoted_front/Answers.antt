@@ -1,5 +1,6 @@
 use Rattle.std.proofs.Common.{take}
-use Rattle.decimal_json.specs.JsonText.{text_json, AppendsPrefix}
+use Rattle.decimal_json.specs.JsonText.{text_json}
+use Rattle.decimal_json.specs.Writing.{AppendsPrefix}
 use Rattle.decimal_json.proofs.Appending.{quoted_stop, quoted_whole, on_err}
 use Rattle.decimal_json.proofs.writing.write_quoted_front.Goals as goal
 

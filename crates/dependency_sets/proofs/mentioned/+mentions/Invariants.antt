@@ -1,5 +1,5 @@
 use Rattle.std.proofs.Common.{◌≡◌, ◌+◌, ◌*◌, drop}
-use Rattle.expr_syntax.specs.Term.{nodes}
+use Rattle.expr_syntax.specs.TermSize.{nodes}
 use Rattle.expr_syntax.specs.TermView.{term_of, terms, weight}
 use Rattle.expr_syntax.specs.Mentioned.{either, all_mentions}
 use Rattle.dependency_sets.proofs.mentioned.+mentions.Given as goal

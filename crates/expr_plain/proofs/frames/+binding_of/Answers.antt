@@ -1,5 +1,5 @@
 use Rattle.std.proofs.Common.{◌≡◌, ℕ, ◌<◌, ◌∙◌, sym, ap, subst}
-use Rattle.expr_syntax.specs.BoundNames.{last_place}
+use Rattle.expr_syntax.specs.NameIndex.{last_place}
 use Rattle.expr_plain.specs.Frames.{IsWithin}
 use Rattle.expr_plain.specs.declared.frames.BindingScope.{BindingScope}
 use Rattle.expr_plain.proofs.NameLaws.{IsHere, named_here, IsLater, named_later}

@@ -1,7 +1,7 @@
 use Rattle.std.proofs.Common.{◌≡◌, ◌≤◌, ◌∙◌, ℕ, List, [], ◌∷◌, Ok, drop, length, refl, sym, ap}
 use Rattle.std.proofs.Math.ListN.{drop_of_length-le}
 use Rattle.prop_values.specs.Data.{Data, list, items_of}
-use Rattle.prop_values.specs.View.{values_view}
+use Rattle.prop_values.specs.ViewParts.{values_view}
 use Rattle.prop_values.specs.declared.value.Value.{Value}
 use Rattle.expr_syntax.specs.declared.parts.FormatPiece.{FormatPiece}
 use Rattle.eval_face.specs.Sections.{Open, add_pieces, closed}

@@ -1,5 +1,5 @@
 use Rattle.std.proofs.Common.{◌≡◌, ◌-◌, [], drop, length}
-use Rattle.prop_values.specs.View.{values_view}
+use Rattle.prop_values.specs.ViewParts.{values_view}
 use Rattle.format_text.specs.Sections.{section_with}
 use Rattle.eval_face.specs.Sections.{add_pieces}
 use Rattle.expr_plain.proofs.sections.listed.Given as goal

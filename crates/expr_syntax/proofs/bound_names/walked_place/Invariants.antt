@@ -1,5 +1,5 @@
 use Rattle.std.proofs.Common.{◌≡◌, drop}
-use Rattle.expr_syntax.specs.BoundNames.{last_place, or_last}
+use Rattle.expr_syntax.specs.NameIndex.{last_place, or_last}
 use Rattle.expr_syntax.proofs.bound_names.walked_place.Given as goal
 
 abbrev pub invariant-loop-place : goal.invariant-loop-place

@@ -1,8 +1,7 @@
 use Rattle.std.proofs.Common.{◌≡◌, ◌+◌, ◌*◌, drop, length, false}
-use Rattle.decimal_json.specs.Place.{path_of}
-use Rattle.decimal_json.specs.Tree.{nodes, trees_nodes, fields_nodes}
-use Rattle.decimal_json.specs.View.{tree_of, trees, fields}
-use Rattle.expr_syntax.specs.Scopes.{scope_of}
+use Rattle.decimal_json.specs.View.{path_of, tree_of, trees, fields}
+use Rattle.decimal_json.specs.TreeSize.{nodes, trees_nodes, fields_nodes}
+use Rattle.expr_syntax.specs.ReadView.{scope_of}
 use Rattle.expr_syntax.specs.Reading.{elements, members, arguments, sections_read, options_read, no_sections}
 use Rattle.expr_syntax.proofs.ElementLaws.{after_terms}
 use Rattle.expr_syntax.proofs.reading.+reading.Given as goal

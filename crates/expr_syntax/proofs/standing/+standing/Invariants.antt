@@ -1,5 +1,5 @@
 use Rattle.std.proofs.Common.{◌≡◌, ◌+◌, ◌*◌, drop, length, false}
-use Rattle.decimal_json.specs.Tree.{nodes, trees_nodes, fields_nodes}
+use Rattle.decimal_json.specs.TreeSize.{nodes, trees_nodes, fields_nodes}
 use Rattle.decimal_json.specs.View.{tree_of, trees, fields}
 use Rattle.expr_syntax.specs.Standing.{elements, members, some_element, some_section, some_option}
 use Rattle.expr_syntax.proofs.standing.+standing.Given as goal

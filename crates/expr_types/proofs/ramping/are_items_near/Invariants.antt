@@ -1,5 +1,5 @@
 use Rattle.std.proofs.Common.{◌≡◌, drop, length}
-use Rattle.prop_values.specs.View.{items}
+use Rattle.prop_values.specs.ViewParts.{items}
 use Rattle.expr_types.specs.Ramping.{are_items_near}
 use Rattle.expr_types.proofs.ramping.are_items_near.Given as goal
 

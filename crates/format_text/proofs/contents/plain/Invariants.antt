@@ -1,6 +1,6 @@
 use Rattle.std.proofs.Common.{◌≡◌, ◌++◌, drop}
 use Rattle.std.specs.Prelude.{string_bytes}
-use Rattle.format_text.specs.Sections.{plain_text}
+use Rattle.format_text.specs.SectionLists.{plain_text}
 use Rattle.format_text.proofs.contents.plain.Given as goal
 
 abbrev pub invariant-loop-section : goal.invariant-loop-section

@@ -1,6 +1,6 @@
 use Rattle.std.proofs.Common.{◌≡◌, drop}
-use Rattle.prop_values.specs.View.{items}
-use Rattle.format_text.specs.Sections.{are_texts}
+use Rattle.prop_values.specs.ViewParts.{items}
+use Rattle.format_text.specs.SectionLists.{are_texts}
 use Rattle.format_text.proofs.reading.are_texts.Given as goal
 
 abbrev pub invariant-loop-value : goal.invariant-loop-value

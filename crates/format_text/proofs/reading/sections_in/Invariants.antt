@@ -1,5 +1,5 @@
 use Rattle.std.proofs.Common.{◌≡◌, drop}
-use Rattle.prop_values.specs.View.{items}
+use Rattle.prop_values.specs.ViewParts.{items}
 use Rattle.format_text.specs.Reading.{sections_in, after}
 use Rattle.format_text.proofs.reading.sections_in.Given as goal
 

@@ -1,6 +1,6 @@
 use Rattle.std.proofs.Common.{subst, sym, None}
 use Rattle.std.proofs.lemmas.Result.{IfOk-weaker}
-use Rattle.decimal_json.specs.Parses.{Parses}
+use Rattle.decimal_json.specs.Parsed.{Parses}
 use Rattle.decimal_json.specs.View.{tree_of}
 use Rattle.prop_values.specs.JsonData.{json_data}
 use Rattle.format_text.specs.Reading.{SaysSections, sections_of_json}

@@ -1,5 +1,5 @@
 use Rattle.std.proofs.Common.{◌≡◌, ◌++◌, drop}
-use Rattle.format_text.specs.Sections.{sections_values}
+use Rattle.format_text.specs.SectionLists.{sections_values}
 use Rattle.format_text.proofs.reading.values_of.Given as goal
 
 abbrev pub invariant-loop-section : goal.invariant-loop-section

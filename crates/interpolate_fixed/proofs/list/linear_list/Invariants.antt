@@ -1,5 +1,5 @@
 use Rattle.std.proofs.Common.{◌≡◌, drop}
-use Rattle.interpolate_fixed.specs.Linear.{list_of}
+use Rattle.interpolate_fixed.specs.LinearLists.{list_of}
 use Rattle.interpolate_fixed.proofs.Lists.{after_items}
 use Rattle.interpolate_fixed.proofs.list.linear_list.Given as goal
 

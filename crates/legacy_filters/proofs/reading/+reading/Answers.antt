@@ -1,5 +1,5 @@
 use Rattle.std.proofs.Common.{◌∙◌, ◌+◌, sym, ap, Ok}
-use Rattle.decimal_json.specs.Place.{path_of}
+use Rattle.decimal_json.specs.View.{path_of}
 use Rattle.legacy_filters.specs.View.{part_read}
 use Rattle.legacy_filters.proofs.PartLists.{part_kept, group_filter, group_read, group_refused}
 use Rattle.legacy_filters.proofs.reading.+reading.Goals as goal

@@ -1,8 +1,7 @@
 use Rattle.std.proofs.Common.{◌≡◌, ◌+◌, ◌*◌, drop}
 use Rattle.std.specs.Prelude.{map}
-use Rattle.decimal_json.specs.Place.{path_of}
-use Rattle.decimal_json.specs.Tree.{nodes, trees_nodes}
-use Rattle.decimal_json.specs.View.{tree_of, trees}
+use Rattle.decimal_json.specs.View.{path_of, tree_of, trees}
+use Rattle.decimal_json.specs.TreeSize.{nodes, trees_nodes}
 use Rattle.legacy_filters.specs.Form.{forms, parts_form}
 use Rattle.legacy_filters.specs.View.{part_filter}
 use Rattle.legacy_filters.proofs.PartLists.{after_filters}

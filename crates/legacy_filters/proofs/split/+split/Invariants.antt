@@ -1,5 +1,5 @@
 use Rattle.std.proofs.Common.{◌≡◌, ◌+◌, ◌*◌, drop}
-use Rattle.decimal_json.specs.Tree.{nodes, trees_nodes}
+use Rattle.decimal_json.specs.TreeSize.{nodes, trees_nodes}
 use Rattle.decimal_json.specs.View.{tree_of, trees}
 use Rattle.legacy_filters.specs.Split.{some_legacy}
 use Rattle.legacy_filters.proofs.split.+split.Given as goal

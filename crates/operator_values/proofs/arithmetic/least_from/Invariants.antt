@@ -1,6 +1,6 @@
 use Rattle.std.proofs.Common.{◌≡◌, drop}
 use Rattle.std.specs.Int.{int_min}
-use Rattle.prop_values.specs.View.{values_view}
+use Rattle.prop_values.specs.ViewParts.{values_view}
 use Rattle.operator_values.specs.Arithmetic.{chosen}
 use Rattle.operator_values.proofs.arithmetic.least_from.Given as goal
 

@@ -1,6 +1,6 @@
 use Rattle.std.proofs.Common.{◌≡◌, drop}
 use Rattle.fixed_num.specs.Number.{product}
-use Rattle.prop_values.specs.View.{values_view}
+use Rattle.prop_values.specs.ViewParts.{values_view}
 use Rattle.operator_values.specs.Arithmetic.{folded, product_of}
 use Rattle.operator_values.proofs.arithmetic.product.Given as goal
 

@@ -1,6 +1,6 @@
 use Rattle.std.proofs.Common.{◌≡◌, drop}
 use Rattle.fixed_num.specs.Number.{sum}
-use Rattle.prop_values.specs.View.{values_view}
+use Rattle.prop_values.specs.ViewParts.{values_view}
 use Rattle.operator_values.specs.Arithmetic.{folded, sum_of}
 use Rattle.operator_values.proofs.arithmetic.sum.Given as goal
 

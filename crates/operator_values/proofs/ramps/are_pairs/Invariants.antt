@@ -1,6 +1,6 @@
 use Rattle.std.proofs.Common.{◌≡◌, drop, length}
 use Rattle.std.specs.Result.{is_ok}
-use Rattle.prop_values.specs.View.{items}
+use Rattle.prop_values.specs.ViewParts.{items}
 use Rattle.operator_values.specs.Ramps.{pairs_in}
 use Rattle.operator_values.proofs.ramps.are_pairs.Given as goal
 

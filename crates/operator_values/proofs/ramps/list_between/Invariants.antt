@@ -1,6 +1,6 @@
 use Rattle.std.proofs.Common.{◌≡◌, drop, true}
 use Rattle.std.specs.Result.{is_ok}
-use Rattle.prop_values.specs.View.{items}
+use Rattle.prop_values.specs.ViewParts.{items}
 use Rattle.operator_values.specs.Ramps.{list_between, pairs_in}
 use Rattle.operator_values.proofs.Lists.{after}
 use Rattle.operator_values.proofs.ramps.list_between.Given as goal

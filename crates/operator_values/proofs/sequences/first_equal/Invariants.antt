@@ -1,6 +1,7 @@
 use Rattle.std.proofs.Common.{◌≡◌, ◌+◌, drop}
 use Rattle.std.specs.Option.{option_map}
-use Rattle.prop_values.specs.View.{data_of, values_view}
+use Rattle.prop_values.specs.View.{data_of}
+use Rattle.prop_values.specs.ViewParts.{values_view}
 use Rattle.operator_values.specs.Sequences.{first_equal}
 use Rattle.operator_values.proofs.sequences.first_equal.Given as goal
 

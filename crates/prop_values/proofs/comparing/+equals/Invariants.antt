@@ -1,6 +1,8 @@
 use Rattle.std.proofs.Common.{◌≡◌, drop, length, ◌+◌, ◌*◌}
-use Rattle.prop_values.specs.Data.{pairs_of, nodes, items_nodes, pairs_nodes}
-use Rattle.prop_values.specs.View.{data_of, items, pairs}
+use Rattle.prop_values.specs.Data.{pairs_of}
+use Rattle.prop_values.specs.DataSize.{nodes, items_nodes, pairs_nodes}
+use Rattle.prop_values.specs.View.{data_of}
+use Rattle.prop_values.specs.ViewParts.{items, pairs}
 use Rattle.prop_values.specs.Equality.{pairs_in, items_equal}
 use Rattle.prop_values.proofs.comparing.+equals.Given as goal
 

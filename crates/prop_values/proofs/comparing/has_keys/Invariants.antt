@@ -1,6 +1,6 @@
 use Rattle.std.proofs.Common.{◌≡◌, drop}
 use Rattle.prop_values.specs.Data.{pairs_of}
-use Rattle.prop_values.specs.View.{pairs}
+use Rattle.prop_values.specs.ViewParts.{pairs}
 use Rattle.prop_values.specs.Equality.{keys_in}
 use Rattle.prop_values.proofs.comparing.has_keys.Given as goal
 

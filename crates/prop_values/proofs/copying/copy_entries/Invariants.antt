@@ -1,5 +1,5 @@
 use Rattle.std.proofs.Common.{◌≡◌, take}
-use Rattle.prop_values.specs.View.{entries_view}
+use Rattle.prop_values.specs.ViewParts.{entries_view}
 use Rattle.prop_values.proofs.copying.copy_entries.Given as goal
 
 abbrev pub invariant-loop-entry : goal.invariant-loop-entry

@@ -1,5 +1,5 @@
 use Rattle.std.proofs.Common.{◌≡◌, take}
-use Rattle.prop_values.specs.View.{values_view}
+use Rattle.prop_values.specs.ViewParts.{values_view}
 use Rattle.prop_values.proofs.copying.copy_values.Given as goal
 
 abbrev pub invariant-loop-value : goal.invariant-loop-value

@@ -2,7 +2,7 @@ use Rattle.std.proofs.Common.{◌≡◌, ◌++◌, ◌∷◌, [], drop}
 use Rattle.std.specs.Prelude.{string_bytes}
 use Rattle.prop_values.specs.Data.{list, map, items_of, pairs_of}
 use Rattle.prop_values.specs.ValueText.{data_json, items_json, pairs_json}
-use Rattle.prop_values.specs.View.{items, pairs}
+use Rattle.prop_values.specs.ViewParts.{items, pairs}
 use Rattle.prop_values.proofs.text.+append.Given as goal
 
 abbrev pub invariant-append_values-loop-value : goal.invariant-append_values-loop-value

@@ -1,5 +1,5 @@
 use Rattle.std.proofs.Common.{◌≡◌, drop}
-use Rattle.prop_values.specs.View.{items}
+use Rattle.prop_values.specs.ViewParts.{items}
 use Rattle.property_tables.specs.Fitting.{are_choices}
 use Rattle.property_tables.proofs.fitting.are_choices.Given as goal
 

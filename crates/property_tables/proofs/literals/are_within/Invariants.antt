@@ -1,5 +1,5 @@
 use Rattle.std.proofs.Common.{◌≡◌, drop}
-use Rattle.prop_values.specs.View.{items}
+use Rattle.prop_values.specs.ViewParts.{items}
 use Rattle.property_tables.specs.Literals.{items_within}
 use Rattle.property_tables.specs.RowView.{limits_seen}
 use Rattle.property_tables.proofs.literals.are_within.Given as goal

@@ -1,5 +1,6 @@
 use Rattle.std.proofs.Common.{◌≡◌, ◌-◌, ◌*◌, ◌^◌, ◌<◌, ◌≤◌, length}
-use Rattle.proto_wire.specs.Varint.{number_of, onto}
+use Rattle.proto_wire.specs.Varint.{number_of}
+use Rattle.proto_wire.specs.Reading.{onto}
 use Rattle.proto_wire.proofs.wire.digits.Given as goal
 
 abbrev pub invariant-loop-index : goal.invariant-loop-index

@@ -1,8 +1,7 @@
 use Rattle.std.proofs.Common.{◌<◌, ℕ, length, ap, ◌∙◌, subst, arith}
 use Rattle.std.specs.Prelude.{Option, IfSome}
 use Rattle.std.proofs.lemmas.List.{length-map}
-use Rattle.decimal_json.specs.Editing.{moved_items}
-use Rattle.decimal_json.specs.View.{tree_of}
+use Rattle.decimal_json.specs.View.{moved_items, tree_of}
 use Rattle.style_edits.proofs.ListLaws.{moved_back}
 use Rattle.style_edits.proofs.layers.move_layer.Goals as goal
 

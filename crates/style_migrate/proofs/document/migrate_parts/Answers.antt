@@ -1,5 +1,5 @@
 use Rattle.std.proofs.Common.{◌≡◌, subst, sym}
-use Rattle.decimal_json.specs.Tree.{HasDistinctKeys}
+use Rattle.decimal_json.specs.Sound.{HasDistinctKeys}
 use Rattle.decimal_json.specs.View.{tree_of, members_view}
 use Rattle.style_migrate.specs.Migrated.{migrated_part}
 use Rattle.style_migrate.proofs.MappedLaws.{lacks_key, members_step}

@@ -1,7 +1,6 @@
 use Rattle.std.specs.Prelude.{codes}
 use Rattle.std.proofs.Common.{◌≡◌, ◌++◌, drop}
-use Rattle.decimal_json.specs.Place.{path_of}
-use Rattle.decimal_json.specs.View.{fields}
+use Rattle.decimal_json.specs.View.{path_of, fields}
 use Rattle.style_rules.specs.Levels.{fields_reports, named_reports}
 use Rattle.style_rules.proofs.document.report_each_global.Given as goal
 

@@ -1,6 +1,5 @@
 use Rattle.std.proofs.Common.{refl}
-use Rattle.decimal_json.specs.Place.{path_of}
-use Rattle.decimal_json.specs.View.{trees}
+use Rattle.decimal_json.specs.View.{path_of, trees}
 use Rattle.style_rules.specs.CodeView.{fields_at}
 use Rattle.style_rules.proofs.DocumentLaws.{IsNext, none_used, used_next, layers_next}
 use Rattle.style_rules.proofs.document.report_each_layer.Goals as goal

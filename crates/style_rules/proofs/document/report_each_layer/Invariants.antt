@@ -1,7 +1,6 @@
 use Rattle.std.specs.Prelude.{ℕ, List}
 use Rattle.std.proofs.Common.{◌≡◌, ◌++◌, drop}
-use Rattle.decimal_json.specs.Place.{path_of}
-use Rattle.decimal_json.specs.View.{trees}
+use Rattle.decimal_json.specs.View.{path_of, trees}
 use Rattle.style_rules.specs.CodeView.{fields_at, has_name}
 use Rattle.style_rules.specs.Levels.{layers_reports}
 use Rattle.style_rules.specs.Places.{used_in}

@@ -1,6 +1,5 @@
 use Rattle.std.proofs.Common.{◌≡◌, ◌++◌, drop}
-use Rattle.decimal_json.specs.Place.{path_of}
-use Rattle.decimal_json.specs.View.{fields}
+use Rattle.decimal_json.specs.View.{path_of, fields}
 use Rattle.style_rules.specs.CodeView.{context_seen, has_name}
 use Rattle.style_rules.specs.Levels.{fields_reports, member_reports}
 use Rattle.style_rules.proofs.layer.report_each_member.Given as goal

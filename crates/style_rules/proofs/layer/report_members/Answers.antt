@@ -1,7 +1,6 @@
 use Rattle.std.specs.Prelude.{OnOk}
 use Rattle.std.proofs.Common.{◌≡◌, ◌++◌, sym, subst, ◌∙◌}
-use Rattle.decimal_json.specs.Place.{path_of}
-use Rattle.decimal_json.specs.View.{fields}
+use Rattle.decimal_json.specs.View.{path_of, fields}
 use Rattle.style_rules.specs.CodeView.{fields_at, context_seen, has_name, parts_seen}
 use Rattle.style_rules.proofs.LayerLaws.{broken_layer, sound_layer}
 use Rattle.style_rules.proofs.layer.report_members.Goals as goal

@@ -1,7 +1,6 @@
 use Rattle.std.specs.Prelude.{Some}
 use Rattle.std.proofs.Common.{◌≡◌, ◌++◌, drop}
-use Rattle.decimal_json.specs.Place.{path_of}
-use Rattle.decimal_json.specs.View.{fields}
+use Rattle.decimal_json.specs.View.{path_of, fields}
 use Rattle.style_rules.specs.Levels.{fields_reports, property_reports}
 use Rattle.style_rules.proofs.properties.report_each_property.Given as goal
 

@@ -1,5 +1,4 @@
-use Rattle.decimal_json.specs.Place.{path_of}
-use Rattle.decimal_json.specs.View.{tree_of}
+use Rattle.decimal_json.specs.View.{path_of, tree_of}
 use Rattle.style_rules.proofs.PropertyLaws.{untested_reports}
 use Rattle.style_rules.proofs.properties.report_properties.Goals as goal
 

@@ -1,6 +1,7 @@
 use Rattle.std.proofs.Common.{◌≡◌, ℕ, ◌<◌, List, length, ap, sym, ◌∙◌, subst}
 use Rattle.std.specs.Prelude.{Some, map, slice_index_or}
-use Rattle.prop_values.specs.Data.{Data, HasDistinctKeys}
+use Rattle.prop_values.specs.Data.{Data}
+use Rattle.prop_values.specs.Keys.{HasDistinctKeys}
 use Rattle.tile_reader.specs.Lookup.{IndicesWithin, pairs_seen}
 use Rattle.prop_values.specs.View.{data_of}
 use Rattle.tile_reader.specs.View.{tagged_seen}

@@ -4,7 +4,7 @@ use Rattle.std.specs.Prelude.{insert}
 use Rattle.key_index.specs.Index.{IsIndexed}
 use Rattle.key_index.specs.Keys as key
 use Rattle.decimal_json.specs.declared.tree.Member.{Member}
-use Rattle.decimal_json.specs.Tree.{LacksKey, HasDistinctKeys}
+use Rattle.decimal_json.specs.Sound.{LacksKey, HasDistinctKeys}
 use Rattle.decimal_json.specs.View.{member_view, members_view, member_keys}
 use Rattle.decimal_json.proofs.Places.{distinct_member_keys}
 use Rattle.decimal_json.proofs.Edits.{map_insert, distinct_inserted}

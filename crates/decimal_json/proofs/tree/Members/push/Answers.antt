@@ -4,7 +4,7 @@ use Rattle.std.proofs.lemmas.List.{map-append}
 use Rattle.key_index.specs.Index.{IsIndexed}
 use Rattle.key_index.specs.Keys as key
 use Rattle.decimal_json.specs.declared.tree.Member.{Member}
-use Rattle.decimal_json.specs.Tree.{LacksKey, HasDistinctKeys}
+use Rattle.decimal_json.specs.Sound.{LacksKey, HasDistinctKeys}
 use Rattle.decimal_json.specs.View.{members_view, member_keys}
 use Rattle.decimal_json.proofs.Keys.{members_push}
 use Rattle.decimal_json.proofs.Places.{lacks_member_key, distinct_member_keys}

@@ -3,7 +3,7 @@ use Rattle.std.specs.Prelude.{OnOk}
 use Rattle.key_index.specs.Index.{IsIndexed}
 use Rattle.key_index.specs.Keys.{place_from}
 use Rattle.decimal_json.specs.declared.tree.Member.{Member}
-use Rattle.decimal_json.specs.Tree.{LacksKey, HasDistinctKeys}
+use Rattle.decimal_json.specs.Sound.{LacksKey, HasDistinctKeys}
 use Rattle.decimal_json.specs.Editing.{members_with}
 use Rattle.decimal_json.specs.View.{tree_of, members_view, member_keys}
 use Rattle.decimal_json.proofs.Places.{found_within}

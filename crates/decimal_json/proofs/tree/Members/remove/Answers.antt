@@ -3,7 +3,8 @@ use Rattle.std.specs.Prelude.{remove}
 use Rattle.key_index.specs.Index.{IsIndexed}
 use Rattle.key_index.specs.Keys as key
 use Rattle.key_index.specs.Keys.{place_from}
-use Rattle.decimal_json.specs.Tree.{HasDistinctKeys, fields_of, field_at}
+use Rattle.decimal_json.specs.Tree.{fields_of, field_at}
+use Rattle.decimal_json.specs.Sound.{HasDistinctKeys}
 use Rattle.decimal_json.specs.Editing.{members_without}
 use Rattle.decimal_json.specs.View.{members_view, member_keys}
 use Rattle.decimal_json.proofs.Places.{found_within, found_value, no_value, distinct_member_keys}

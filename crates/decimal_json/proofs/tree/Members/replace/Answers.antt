@@ -2,7 +2,8 @@ use Rattle.std.proofs.Common.{◌≡◌, sym, ap, ◌∙◌, subst, Some, None, 
 use Rattle.key_index.specs.Index.{IsIndexed}
 use Rattle.key_index.specs.Keys.{place_from}
 use Rattle.decimal_json.specs.declared.tree.Member.{Member}
-use Rattle.decimal_json.specs.Tree.{HasDistinctKeys, fields_of, field_at}
+use Rattle.decimal_json.specs.Tree.{fields_of, field_at}
+use Rattle.decimal_json.specs.Sound.{HasDistinctKeys}
 use Rattle.decimal_json.specs.Editing.{replaced_members}
 use Rattle.decimal_json.specs.View.{tree_of, members_view, member_keys}
 use Rattle.decimal_json.proofs.Places.{found_within, value_placed, no_value}

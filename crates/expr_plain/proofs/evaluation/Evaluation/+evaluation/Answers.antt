@@ -4,7 +4,7 @@ use Rattle.prop_values.specs.declared.value.Value.{Value}
 use Rattle.property_tables.specs.Fitting.{fit}
 use Rattle.expr_syntax.specs.Chosen.{output_of}
 use Rattle.expr_syntax.specs.Operators.{want_of}
-use Rattle.expr_syntax.specs.Term.{nodes}
+use Rattle.expr_syntax.specs.TermSize.{nodes}
 use Rattle.expr_syntax.specs.TermView.{term_of}
 use Rattle.expr_syntax.specs.TermView.{weight}
 use Rattle.operator_values.specs.Evaluated.{GivesValue, then_value}

@@ -1,5 +1,5 @@
 use Rattle.std.proofs.Common.{◌≡◌, ℕ, ◌≤◌, ◌+◌, ◌*◌, length}
-use Rattle.expr_syntax.specs.Term.{nodes}
+use Rattle.expr_syntax.specs.TermSize.{nodes}
 use Rattle.expr_syntax.specs.TermView.{term_of}
 use Rattle.expr_syntax.specs.TermView.{weight}
 use Rattle.eval_face.specs.Branches.{case_of}

@@ -1,6 +1,6 @@
 use Rattle.std.proofs.Common.{sym, subst}
 use Rattle.expr_syntax.specs.Stops.{IsAboveLast}
-use Rattle.interpolate_fixed.specs.Places.{IsAscending}
+use Rattle.interpolate_fixed.specs.PlaceFacts.{IsAscending}
 use Rattle.expr_syntax.proofs.StopLaws.{ascending_push}
 use Rattle.expr_syntax.proofs.parts.Inputs.push.Goals as goal
 

@@ -1,8 +1,8 @@
 use Rattle.std.specs.Prelude.{Ok, Err, IfOk, true, slice_set}
 use Rattle.std.proofs.Common.{◌≡◌, ◌<◌, ◌+◌, ◌*◌, ◌++◌, ◌∷◌, ap, sym, ◌∙◌, subst, length, drop, [], arith, rules}
-use Rattle.decimal_json.specs.Place.{path_of}
+use Rattle.decimal_json.specs.View.{path_of}
 use Rattle.prop_values.specs.Faults.{no_faults, union}
-use Rattle.expr_syntax.specs.Term.{nodes}
+use Rattle.expr_syntax.specs.TermSize.{nodes}
 use Rattle.expr_syntax.specs.TermView.{term_of, weight}
 use Rattle.expr_syntax.specs.declared.expression.Operator.TheVariants.{Let}
 use Rattle.expr_types.specs.LiteralView.{literals_of, typings_of}

@@ -1,6 +1,6 @@
 use Rattle.std.proofs.Common.{◌≡◌, ℕ, ◌+◌, ◌*◌, drop, []}
 use Rattle.prop_values.specs.Faults.{no_faults}
-use Rattle.expr_syntax.specs.Term.{nodes}
+use Rattle.expr_syntax.specs.TermSize.{nodes}
 use Rattle.expr_syntax.specs.TermView.{term_of, weight}
 use Rattle.expr_types.specs.TypedView.{kinds_after, all_added, founds_in}
 use Rattle.expr_types.proofs.checking.Checking.+checking.Given as goal

@@ -1,5 +1,5 @@
 use Rattle.std.proofs.Common.{◌≡◌, length, ap, sym, ◌∙◌, arith}
-use Rattle.decimal_json.specs.Place.{path_of}
+use Rattle.decimal_json.specs.View.{path_of}
 use Rattle.expr_syntax.proofs.Falls.{count_terms}
 use Rattle.expr_syntax.specs.TermView.{terms}
 use Rattle.expr_types.specs.MisplacedReads.{all_noted}

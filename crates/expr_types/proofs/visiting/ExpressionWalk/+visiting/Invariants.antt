@@ -1,7 +1,7 @@
 use Rattle.std.proofs.Common.{◌≡◌, ℕ, ◌+◌, ◌*◌, drop, length}
-use Rattle.decimal_json.specs.Place.{path_of}
+use Rattle.decimal_json.specs.View.{path_of}
 use Rattle.expr_syntax.specs.Mentioned.{count}
-use Rattle.expr_syntax.specs.Term.{nodes}
+use Rattle.expr_syntax.specs.TermSize.{nodes}
 use Rattle.expr_syntax.specs.TermView.{term_of, terms, weight}
 use Rattle.expr_types.specs.MisplacedReads.{all_noted}
 use Rattle.expr_types.specs.WalkView.{allowed_in}

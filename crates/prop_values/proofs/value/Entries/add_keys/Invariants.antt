@@ -1,6 +1,6 @@
 use Rattle.std.proofs.Common.{◌≡◌, drop, take, length}
 use Rattle.prop_values.specs.MergeSteps.{with_keys}
-use Rattle.prop_values.specs.View.{entries_view}
+use Rattle.prop_values.specs.ViewParts.{entries_view}
 use Rattle.prop_values.proofs.value.Entries.add_keys.Given as goal
 
 abbrev pub invariant-loop-entry : goal.invariant-loop-entry

@@ -4,7 +4,8 @@ use Rattle.prop_values.specs.Equality.{at_key}
 use Rattle.prop_values.specs.Keys.{keys}
 use Rattle.prop_values.proofs.KeyLaws.{none_at_lacking}
 use Rattle.key_index.specs.Keys.{place_from}
-use Rattle.prop_values.specs.View.{data_of, entries_view}
+use Rattle.prop_values.specs.View.{data_of}
+use Rattle.prop_values.specs.ViewParts.{entries_view}
 use Rattle.prop_values.proofs.IndexSteps.{found_within, found_value}
 use Rattle.prop_values.proofs.value.Entries.get.Goals as goal
 

@@ -6,7 +6,7 @@ use Rattle.prop_values.specs.Changes.{merged}
 use Rattle.prop_values.specs.Data.{pairs_of}
 use Rattle.prop_values.specs.Equality.{at_key}
 use Rattle.prop_values.specs.MergeSteps.{with_keys, all_replaced}
-use Rattle.prop_values.specs.View.{entries_view}
+use Rattle.prop_values.specs.ViewParts.{entries_view}
 use Rattle.prop_values.specs.declared.value.Entry.{Entry}
 use Rattle.prop_values.proofs.Merging.{merged_none, all_merged}
 use Rattle.prop_values.proofs.value.Entries.merge.Goals as goal

@@ -1,7 +1,7 @@
 use Rattle.std.proofs.Common.{sym, ap, ◌∙◌}
 use Rattle.key_index.specs.Keys.{place_from}
 use Rattle.prop_values.specs.Keys.{keys}
-use Rattle.prop_values.specs.View.{entry_keys}
+use Rattle.prop_values.specs.ViewParts.{entry_keys}
 use Rattle.prop_values.proofs.IndexSteps.{keys_seen}
 use Rattle.prop_values.proofs.value.Entries.place_of.Goals as goal
 

@@ -4,8 +4,8 @@ use Rattle.std.proofs.lemmas.List.{map-append}
 use Rattle.key_index.specs.Index.{IsIndexed}
 use Rattle.key_index.specs.Keys as index
 use Rattle.prop_values.specs.declared.value.Entry.{Entry}
-use Rattle.prop_values.specs.Data.{LacksKey, HasDistinctKeys}
-use Rattle.prop_values.specs.View.{entries_view, entry_keys}
+use Rattle.prop_values.specs.Keys.{LacksKey, HasDistinctKeys}
+use Rattle.prop_values.specs.ViewParts.{entries_view, entry_keys}
 use Rattle.prop_values.proofs.Keys.{entries_push}
 use Rattle.prop_values.proofs.IndexSteps.{lacks_entry_key, distinct_entry_keys}
 use Rattle.prop_values.proofs.value.Entries.push.Goals as goal

@@ -1,13 +1,13 @@
 use Rattle.std.proofs.Common.{◌≡◌, ◌+◌, Some, None, sym, ap, ◌∙◌, arith, subst, remove}
 use Rattle.prop_values.proofs.ChangeLaws.{at_without}
-use Rattle.prop_values.specs.Data.{HasDistinctKeys, pairs_of}
+use Rattle.prop_values.specs.Data.{pairs_of}
+use Rattle.prop_values.specs.Keys.{HasDistinctKeys, keys}
 use Rattle.prop_values.specs.Equality.{at_key}
 use Rattle.prop_values.specs.Changes.{without_key}
 use Rattle.key_index.specs.Index.{IsIndexed}
 use Rattle.key_index.specs.Keys as index
 use Rattle.key_index.specs.Keys.{place_from}
-use Rattle.prop_values.specs.Keys.{keys}
-use Rattle.prop_values.specs.View.{entries_view, entry_keys}
+use Rattle.prop_values.specs.ViewParts.{entries_view, entry_keys}
 use Rattle.prop_values.proofs.IndexSteps.{found_within, distinct_entry_keys}
 use Rattle.prop_values.proofs.Removing.{view_without, without_none, distinct_without}
 use Rattle.prop_values.proofs.value.Entries.remove.Goals as goal

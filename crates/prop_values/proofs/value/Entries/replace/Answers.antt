@@ -3,7 +3,8 @@ use Rattle.prop_values.specs.Keys.{keys}
 use Rattle.prop_values.specs.MergeSteps.{replaced}
 use Rattle.key_index.specs.Index.{IsIndexed}
 use Rattle.key_index.specs.Keys.{place_from}
-use Rattle.prop_values.specs.View.{data_of, entries_view}
+use Rattle.prop_values.specs.View.{data_of}
+use Rattle.prop_values.specs.ViewParts.{entries_view}
 use Rattle.prop_values.specs.declared.value.Entry.{Entry}
 use Rattle.prop_values.proofs.IndexSteps.{found_within, keys_seen}
 use Rattle.prop_values.proofs.Replacing.{view_replaced, replaced_none, keys_replaced, distinct_same}

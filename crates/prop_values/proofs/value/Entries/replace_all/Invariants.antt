@@ -1,7 +1,7 @@
 use Rattle.std.proofs.Common.{◌≡◌}
 use Rattle.std.specs.Vec.Iter.{into_iter_items}
 use Rattle.prop_values.specs.MergeSteps.{all_replaced}
-use Rattle.prop_values.specs.View.{entries_view}
+use Rattle.prop_values.specs.ViewParts.{entries_view}
 use Rattle.prop_values.proofs.value.Entries.replace_all.Given as goal
 
 abbrev pub invariant-loop-entry : goal.invariant-loop-entry

@@ -2,7 +2,8 @@ use Rattle.std.proofs.Common.{◌≡◌, OnOk, refl, true, ap, ◌∙◌, sym, s
 use Rattle.std.specs.Prelude.{is_some}
 use Rattle.std.proofs.lemmas.Result.{on_ok_weaker}
 use Rattle.prop_values.proofs.ChangeLaws.{at_member}
-use Rattle.prop_values.specs.Data.{LacksKey, pairs_of}
+use Rattle.prop_values.specs.Data.{pairs_of}
+use Rattle.prop_values.specs.Keys.{LacksKey}
 use Rattle.prop_values.specs.Equality.{at_key}
 use Rattle.prop_values.specs.MergeSteps.{replaced}
 use Rattle.prop_values.specs.View.{data_of}

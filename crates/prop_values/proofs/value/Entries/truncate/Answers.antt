@@ -2,8 +2,8 @@ use Rattle.std.proofs.Common.{◌≡◌, take, sym, ap, subst, ◌∙◌}
 use Rattle.std.proofs.lemmas.List.{take-map}
 use Rattle.key_index.specs.Index.{IsIndexed}
 use Rattle.key_index.specs.Keys as index
-use Rattle.prop_values.specs.Data.{HasDistinctKeys}
-use Rattle.prop_values.specs.View.{entry_view, entries_view, entry_keys}
+use Rattle.prop_values.specs.Keys.{HasDistinctKeys}
+use Rattle.prop_values.specs.ViewParts.{entry_view, entries_view, entry_keys}
 use Rattle.prop_values.proofs.IndexSteps.{distinct_entry_keys}
 use Rattle.prop_values.proofs.Removing.{distinct_front}
 use Rattle.prop_values.proofs.value.Entries.truncate.Goals as goal
