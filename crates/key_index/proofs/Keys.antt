@@ -32,7 +32,7 @@ place_step i q x k n rest true false e f h = refl
 place_step i q x k n rest false true e f h = ap Some (omega arith)
 place_step i q x k n rest false false e f h = refl
 
-place_push : (i : ℕ) (q : List ℕ) (ks : List (List ℕ)) (k : List ℕ) → LacksKey k ks → place_from i q (ks ++ k ∷ []) ≡ (if bytes_eq k q then Some (i + length ks) else place_from i q ks)
+pub place_push : (i : ℕ) (q : List ℕ) (ks : List (List ℕ)) (k : List ℕ) → LacksKey k ks → place_from i q (ks ++ k ∷ []) ≡ (if bytes_eq k q then Some (i + length ks) else place_from i q ks)
 place_push i q [] k h = ap (λ n. if bytes_eq k q then Some n else None) (omega arith)
 place_push i q (x ∷ ks) k h =
     ap (λ r. if bytes_eq x q then Some i else r) (place_push (i + 1) q ks k h.1) ∙ place_step i q x k (length ks) (place_from (i + 1) q ks) (bytes_eq x q) (bytes_eq k q) refl refl h.0

@@ -2,3 +2,4 @@ pub mod Keys
 pub mod AscendingKeys
 pub mod Slots
 pub mod Tables
+pub mod Taken

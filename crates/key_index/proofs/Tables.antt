@@ -15,7 +15,8 @@ use Rattle.key_index.specs.declared.table.Bucket.{Bucket}
 use Rattle.key_index.specs.declared.table.Table.{Table}
 use Rattle.key_index.specs.Keys.{place_from, LacksKey}
 use Rattle.key_index.specs.Hash.{hash_of}
-use Rattle.key_index.specs.Table.{slot_place, slots_at, noted, later_place, AllBelow, IsFree, IsTable}
+use Rattle.key_index.specs.Table.{slot_place, slots_at, later_place, AllBelow, IsFree, IsTable}
+use Rattle.key_index.specs.Places.{noted}
 use Rattle.key_index.proofs.Keys.{same_bytes, lacking_has_no_place, lacks-drop, place_more}
 use Rattle.key_index.proofs.Slots.{slot_of, slots_more, others_stay, new_is_found, slots_put, slots_other, all_more, all_put, below_at, slots_read, AreFree, free_have_none, same_buckets_free, same_buckets_below}
 

@@ -22,3 +22,24 @@ abbrev pub is_at : List ℕ → List (List ℕ) → ℕ → Bool
 is_at key [] place = false
 is_at key (k ∷ ks) zero = bytes_eq k key
 is_at key (k ∷ ks) (suc place) = is_at key ks place
+
+-- ---- a list without one of its elements, whose place the last one takes
+
+abbrev pub last_of : {X : Type 0} → X → List X → X
+last_of x [] = x
+last_of x (y ∷ ys) = last_of y ys
+
+abbrev pub but_last : {X : Type 0} → X → List X → List X
+but_last x [] = []
+but_last x (y ∷ ys) = x ∷ but_last y ys
+
+-- the last element, and the others after it
+abbrev pub last_first : {X : Type 0} → List X → List X
+last_first [] = []
+last_first (x ∷ xs) = last_of x xs ∷ but_last x xs
+
+-- A list from which the element at a place is taken out. Source: own.
+abbrev pub taken_out : {X : Type 0} → ℕ → List X → List X
+taken_out i [] = []
+taken_out zero (x ∷ xs) = last_first xs
+taken_out (suc i) (x ∷ xs) = x ∷ taken_out i xs

@@ -1,11 +1,9 @@
 -- A table of places, and the keys that it represents.
 use Rattle.std.specs.Prelude.{◌≡◌, ℕ, zero, suc, ◌%◌, ◌<◌, List, [], ◌∷◌, length, drop, Bool, ◌&&◌, not, nat_eq, Option, Some, None, if◌then◌else◌}
-use Rattle.std.specs.BTreeMap.{BTreeMap, get_by_text}
 use Rattle.std.specs.Option.{option_or}
-use Rattle.std.specs.declared.string.String.{String}
-use Rattle.std.specs.declared.alloc.Global.{Global}
 use Rattle.key_index.specs.Keys.{place_from, is_at}
 use Rattle.key_index.specs.Hash.{hash_of}
+use Rattle.key_index.specs.Places.{noted}
 use Rattle.key_index.specs.declared.table.Slot.{Slot}
 use Rattle.key_index.specs.declared.table.Bucket.{Bucket}
 use Rattle.key_index.specs.declared.table.Table.{Table}
@@ -24,10 +22,6 @@ abbrev pub slots_at : List Bucket → ℕ → List Slot
 slots_at [] home = []
 slots_at (b ∷ bs) zero = b.slots
 slots_at (b ∷ bs) (suc home) = slots_at bs home
-
--- the place that the ordered map has for a key
-abbrev pub noted : BTreeMap (String Global) ℕ → List ℕ → Option ℕ
-noted crowded key = get_by_text crowded key
 
 -- Where a table finds a key: in the bucket of its hash, else in the ordered map.
 abbrev pub later_place : Table → List (List ℕ) → List ℕ → Option ℕ

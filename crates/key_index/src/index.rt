@@ -1,12 +1,14 @@
-ghost use Rattle.std.specs.Prelude.{◌≡◌, ◌<◌, ◌≤◌, ◌++◌, ◌∷◌, [], length, map, IfOk, OnOk, OnErr};
+ghost use Rattle.std.specs.Prelude.{◌≡◌, ◌<◌, ◌≤◌, ◌++◌, ◌∷◌, [], true, length, map, IfOk, OnOk, OnErr};
 ghost use Rattle.std.specs.Result.{IsOk};
-ghost use Rattle.key_index.specs.Keys.{LacksKey, HasDistinctKeys, place_from};
+ghost use Rattle.key_index.specs.Keys.{LacksKey, HasDistinctKeys, place_from, taken_out};
 ghost use Rattle.key_index.specs.Ascending.{IsAscending};
 ghost use Rattle.key_index.specs.Index.{IsIndexed, IsSearch};
+ghost use Rattle.key_index.specs.Places.{ArePlacesOf, noted};
 ghost use Rattle.key_index.specs.Table.{IsTable};
 
 use crate::ascending::{are_ascending, ascending_place, is_above};
 use crate::keyed::{Keyed, first_place};
+use crate::places::{Places, note_ordered, places_of, take_place};
 use crate::table::Table;
 use std::alloc::{AllocError, Global};
 
@@ -27,6 +29,8 @@ enum Search {
     /// By halves: they ascend.
     ByHalves,
     ByTable(Box<Table>),
+    /// By their order: entries were taken out.
+    ByOrder(Box<Places>),
 }
 
 impl KeyIndex {
@@ -48,6 +52,7 @@ impl KeyIndex {
             Search::OneByOne => first_place(entries, key),
             Search::ByHalves => find_ascending(entries, key),
             Search::ByTable(table) => find_tabled(table, entries, key),
+            Search::ByOrder(places) => find_ordered(places, key),
         }
     }
 
@@ -68,6 +73,7 @@ impl KeyIndex {
     {
         let place = entries.len();
         if place < FIRST {
+            self.search = Search::OneByOne;
             return Ok(());
         }
         match &mut self.search {
@@ -75,10 +81,50 @@ impl KeyIndex {
                 alloc, key, place,
             ),
             Search::ByHalves if is_above(entries, key) => Ok(()),
+            Search::ByOrder(places) => note_ordered(alloc, places, entries, key),
             _ => {
                 self.search = search_with(alloc, entries, key)?;
                 Ok(())
             }
+        }
+    }
+
+    /// Notes that the entry at a place is taken out of these next, and that the last takes its place. When
+    /// allocation fails, entries are looked through one by one until the next key is noted.
+    pub fn note_taken<T: Keyed>(&mut self, alloc: Global, entries: &[T], place: usize)
+        requires indexed { IsIndexed self.old (map T.key entries.now) }
+        requires distinct { HasDistinctKeys (map T.key entries.now) }
+        requires within { place < length entries.now }
+        ensures { IsIndexed self.new (taken_out place (map T.key entries.now)) }
+    {
+        self.order(alloc, entries);
+        if !self.take_ordered(alloc, entries, place) {
+            self.search = Search::OneByOne;
+        }
+    }
+
+    // Takes the key at a place away where keys are looked for by their order, and says whether that is done.
+    fn take_ordered<T: Keyed>(&mut self, alloc: Global, entries: &[T], place: usize) -> bool
+        requires indexed { IsIndexed self.old (map T.key entries.now) }
+        requires distinct { HasDistinctKeys (map T.key entries.now) }
+        requires within { place < length entries.now }
+        ensures { result ≡ true → IsIndexed self.new (taken_out place (map T.key entries.now)) }
+    {
+        match &mut self.search {
+            Search::ByOrder(places) => take_place(alloc, places, entries, place).is_ok(),
+            _ => false,
+        }
+    }
+
+    // Looks for keys by their order, or one by one where they are few or there is no memory.
+    fn order<T: Keyed>(&mut self, alloc: Global, entries: &[T])
+        requires indexed { IsIndexed self.old (map T.key entries.now) }
+        requires distinct { HasDistinctKeys (map T.key entries.now) }
+        ensures { IsIndexed self.new (map T.key entries.now) }
+    {
+        match self.search {
+            Search::ByOrder(_) => {}
+            _ => self.search = ordered_search(alloc, entries),
         }
     }
 
@@ -116,6 +162,35 @@ fn find_tabled<T: Keyed>(table: &Table, entries: &[T], key: &str) -> Option<usiz
         Some(place) => Some(place),
         None => table.find(entries, key),
     }
+}
+
+// The place of a key that is noted for it.
+fn find_ordered(places: &Places, key: &str) -> Option<usize>
+    ensures { result ≡ noted places.now key.now }
+{
+    places.get(key).copied()
+}
+
+// How keys are looked for of which some are to be taken out.
+fn ordered_search<T: Keyed>(alloc: Global, entries: &[T]) -> Search
+    requires { HasDistinctKeys (map T.key entries.now) }
+    ensures { IsSearch result (map T.key entries.now) }
+{
+    if entries.len() <= FIRST {
+        return Search::OneByOne;
+    }
+    match boxed_places(alloc, entries) {
+        Ok(places) => Search::ByOrder(places),
+        Err(_) => Search::OneByOne,
+    }
+}
+
+fn boxed_places<T: Keyed>(alloc: Global, entries: &[T]) -> Result<Box<Places>, AllocError>
+    requires { HasDistinctKeys (map T.key entries.now) }
+    ensures { IfOk result (λ places. ArePlacesOf places.value (map T.key entries.now)) }
+{
+    let places = places_of(alloc, entries)?;
+    Ok(Box::new(alloc, places)?)
 }
 
 // How the keys of entries and one more are looked for.

@@ -7,20 +7,22 @@
 //! after the first sixteen are in buckets by a hash of their bytes, and a key whose bucket is full is in an
 //! ordered map. So a look-up takes constant time, or time logarithmic in the keys where these ascend or were
 //! chosen so that their hashes agree. Of a long key the hash takes the ends alone, so that noting it takes
-//! constant time too.
+//! constant time too. Once an entry is taken out of more than sixteen, all keys are in an ordered map until
+//! fewer are left: so many entries may go, each in time logarithmic in them.
 //!
 //! ```text
 //! let mut index = KeyIndex::new();
 //! index.note_next(alloc, entries.as_slice(), key)?;       // the key that is added to the entries next
 //! index.find(entries.as_slice(), key);                    // Some(the place of the entry that has the key)
-//! index.renew(alloc, entries.as_slice());                 // entries of which some were taken out
+//! index.note_taken(alloc, entries.as_slice(), place);     // the entry that goes next; the last takes its place
+//! index.renew(alloc, entries.as_slice());                 // entries that were changed in another way
 //! ```
 //!
 //! What is promised: an index that represents a list of keys (`IsIndexed`) finds each of them at its place,
 //! and no other key. `note_next` gives the index that represents the longer list, or one that still
 //! represents the list as it is: never while the list has fewer than sixteen keys, and else when allocation
-//! fails. `renew` gives one that represents any entries, and looks through them one by one when allocation
-//! fails.
+//! fails. `note_taken` gives the index of the list without one key, whose place the last has then (`taken_out`),
+//! and `renew` one that represents any entries: both look through them one by one when allocation fails.
 //!
 //! The text to believe is in `specs/`: `Keys`, `Index`.
 #![tactic(auto)]
@@ -29,6 +31,7 @@ mod ascending;
 mod hash;
 mod index;
 mod keyed;
+mod places;
 mod table;
 
 pub use index::KeyIndex;

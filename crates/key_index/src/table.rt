@@ -1,11 +1,11 @@
-ghost use Rattle.std.specs.Prelude.{◌≡◌, ℕ, ◌<◌, ◌≤◌, ◌++◌, ◌∷◌, [], List, length, map, slice_set, slice_index_or, OnOk, OnErr, IfOk, IfSome, Some, if◌then◌else◌};
-ghost use Rattle.std.specs.Str.{bytes_eq};
+ghost use Rattle.std.specs.Prelude.{◌≡◌, ℕ, ◌<◌, ◌≤◌, ◌++◌, ◌∷◌, [], List, length, map, slice_set, slice_index_or, OnOk, OnErr, IfOk, IfSome};
 ghost use Rattle.key_index.specs.Keys.{LacksKey, HasDistinctKeys, place_from};
-ghost use Rattle.key_index.specs.Table.{IsFree, IsTable, later_place, noted, slot_place};
+ghost use Rattle.key_index.specs.Table.{IsFree, IsTable, later_place, slot_place};
 
 use crate::hash::key_hash;
 use crate::index::FIRST;
 use crate::keyed::{Keyed, has_key};
+use crate::places::{Places, note_place};
 use std::alloc::{AllocError, Global};
 use std::collections::BTreeMap;
 
@@ -33,7 +33,7 @@ pub(crate) struct Bucket {
 pub(crate) struct Table {
     pub(crate) buckets: Vec<Bucket>,
     /// The keys whose buckets were full.
-    pub(crate) crowded: BTreeMap<String, usize>,
+    pub(crate) crowded: Places,
 }
 
 impl Table {
@@ -90,7 +90,7 @@ impl Table {
                 put_slot(&mut self.buckets, home, i, Slot { hash, place: short });
                 Ok(())
             }
-            None => note_crowded(alloc, &mut self.crowded, key, place),
+            None => note_place(alloc, &mut self.crowded, key, place),
         }
     }
 
@@ -140,21 +140,4 @@ fn put_slot(buckets: &mut Vec<Bucket>, home: usize, i: usize, slot: Slot)
     ensures { (b : Bucket) → buckets.new.items ≡ slice_set buckets.old.items home (record { slots = slice_set (slice_index_or buckets.old.items home b).slots i slot }) }
 {
     buckets[home].slots[i] = slot;
-}
-
-// Notes the place of a key whose bucket is full.
-fn note_crowded(
-    alloc: Global,
-    crowded: &mut BTreeMap<String, usize>,
-    key: &str,
-    place: usize,
-) -> Result<(), AllocError>
-    ensures ok { OnOk result ((q : List ℕ) → noted crowded.new q ≡ (if bytes_eq key.now q then Some place else noted crowded.old q)) }
-    ensures err { OnErr result ((q : List ℕ) → noted crowded.new q ≡ noted crowded.old q) }
-{
-    let name = String::from_str(alloc, key)?;
-    let Ok(_) = crowded.insert(name, place) else {
-        return Err(AllocError);
-    };
-    Ok(())
 }

@@ -3,11 +3,13 @@ use Rattle.std.specs.Prelude.{◌≡◌, ℕ, List, [], ◌∷◌, Bool, true, f
 use Rattle.std.specs.Option.{option_or}
 use Rattle.std.proofs.Common.{refl, ap, sym, ◌∙◌, subst}
 use Rattle.std.proofs.lemmas.Bool.{both_ways}
+use Rattle.key_index.specs.Keys.{last_of, but_last, last_first}
 use Rattle.prop_values.specs.Changes.{with_member, merged, without_key}
 use Rattle.prop_values.specs.Data.{Data, pairs_of}
 use Rattle.prop_values.specs.Keys.{LacksKey, HasDistinctKeys}
 use Rattle.prop_values.specs.Equality.{same_text, at_key}
-use Rattle.prop_values.proofs.KeyLaws.{same_texts, texts_same, none_at_lacking}
+use Rattle.prop_values.proofs.KeyLaws.{same_texts, texts_same, texts_differ, none_at_lacking}
+use Rattle.prop_values.proofs.Removing.{last_differs}
 
 -- two tests that do not both hold may be asked in either order
 either_first : (a b : Bool) (x y z : Option Data) → (a ≡ true → b ≡ true → x ≡ y) → (if a then x else (if b then y else z)) ≡ (if b then y else (if a then x else z))
@@ -55,10 +57,25 @@ gone_first true false x z e h = absurd (cc)
 gone_first false true x z e h = absurd (cc)
 gone_first false false x z e h = refl
 
-without_step : (key q : List ℕ) (p : List ℕ × Data) (ps : List (List ℕ × Data)) (same : Bool) → same_text p.0 key ≡ same → LacksKey p.0 ps → at_key q (pairs_of (without_key key ps)) ≡ (if same_text key q then None else at_key q (pairs_of ps)) → at_key q (pairs_of (if same then ps else p ∷ without_key key ps)) ≡ (if same_text key q then None else (if same_text p.0 q then Some p.1 else at_key q (pairs_of ps)))
-without_step key q p ps true e l h =
-    gone_first (same_text p.0 q) (same_text key q) (Some p.1) (at_key q (pairs_of ps)) (ap (λ k. same_text k q) (same_texts p.0 key e)) (λ f. none_at_lacking q ps (subst (λ k. LacksKey k ps) (same_texts p.0 q f) l))
-without_step key q p ps false e l h =
+apart_first : (a b q : List ℕ) (x y : Option Data) (z : Option Data) → same_text a b ≡ false → (if same_text a q then x else (if same_text b q then y else z)) ≡ (if same_text b q then y else (if same_text a q then x else z))
+apart_first a b q x y z e = either_first (same_text a q) (same_text b q) x y z (λ f g. not_both a b q e f g)
+
+-- The last entry may be looked at first.
+at_last_first : (q : List ℕ) (p : List ℕ × Data) (ps : List (List ℕ × Data)) → HasDistinctKeys (p ∷ ps) → at_key q (pairs_of (last_first (p ∷ ps))) ≡ at_key q (pairs_of (p ∷ ps))
+at_last_first q p [] h = refl
+at_last_first q p (r ∷ ps) h =
+    let last = last_of r ps in
+    apart_first last.0 p.0 q (Some last.1) (Some p.1) (at_key q (pairs_of (but_last r ps))) (texts_differ last.0 p.0 (λ e. last_differs p r ps h (sym e))) ∙
+    ap (λ x. if same_text p.0 q then Some p.1 else x) (at_last_first q r ps h.1)
+
+at_moved : (q : List ℕ) (ps : List (List ℕ × Data)) → HasDistinctKeys ps → at_key q (pairs_of (last_first ps)) ≡ at_key q (pairs_of ps)
+at_moved q [] h = refl
+at_moved q (p ∷ ps) h = at_last_first q p ps h
+
+without_step : (key q : List ℕ) (p : List ℕ × Data) (ps : List (List ℕ × Data)) (same : Bool) → same_text p.0 key ≡ same → LacksKey p.0 ps → HasDistinctKeys ps → at_key q (pairs_of (without_key key ps)) ≡ (if same_text key q then None else at_key q (pairs_of ps)) → at_key q (pairs_of (if same then last_first ps else p ∷ without_key key ps)) ≡ (if same_text key q then None else (if same_text p.0 q then Some p.1 else at_key q (pairs_of ps)))
+without_step key q p ps true e l d h =
+    at_moved q ps d ∙ gone_first (same_text p.0 q) (same_text key q) (Some p.1) (at_key q (pairs_of ps)) (ap (λ k. same_text k q) (same_texts p.0 key e)) (λ f. none_at_lacking q ps (subst (λ k. LacksKey k ps) (same_texts p.0 q f) l))
+without_step key q p ps false e l d h =
     ap (λ r. if same_text p.0 q then Some p.1 else r) h ∙ either_first (same_text p.0 q) (same_text key q) (Some p.1) None (at_key q (pairs_of ps)) (λ f g. not_both p.0 key q e f g)
 
 none_either : (b : Bool) (r : Option Data) → r ≡ None → r ≡ (if b then None else r)
@@ -68,4 +85,4 @@ none_either false r e = refl
 -- Without a key there is nothing at it, and at each other key is what was there.
 pub at_without : (key : List ℕ) (ps : List (List ℕ × Data)) → HasDistinctKeys ps → (q : List ℕ) → at_key q (pairs_of (without_key key ps)) ≡ (if same_text key q then None else at_key q (pairs_of ps))
 at_without key [] h q = none_either (same_text key q) None refl
-at_without key (p ∷ ps) h q = without_step key q p ps (same_text p.0 key) refl h.0 (at_without key ps h.1 q)
+at_without key (p ∷ ps) h q = without_step key q p ps (same_text p.0 key) refl h.0 h.1 (at_without key ps h.1 q)

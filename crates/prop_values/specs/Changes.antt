@@ -1,5 +1,6 @@
 -- Entries changed at their keys.
 use Rattle.std.specs.Prelude.{ℕ, List, [], ◌∷◌, if◌then◌else◌}
+use Rattle.key_index.specs.Keys.{last_first}
 use Rattle.prop_values.specs.Data.{Data}
 use Rattle.prop_values.specs.Equality.{same_text}
 
@@ -14,7 +15,7 @@ abbrev pub merged : List (List ℕ × Data) → List (List ℕ × Data) → List
 merged ps [] = ps
 merged ps (q ∷ qs) = merged (with_member q.0 q.1 ps) qs
 
--- The entries without that of a key, the others in their order. Source: own.
+-- The entries without that of a key, whose place the last one takes. Source: own.
 abbrev pub without_key : List ℕ → List (List ℕ × Data) → List (List ℕ × Data)
 without_key key [] = []
-without_key key (p ∷ ps) = if same_text p.0 key then ps else p ∷ without_key key ps
+without_key key (p ∷ ps) = if same_text p.0 key then last_first ps else p ∷ without_key key ps

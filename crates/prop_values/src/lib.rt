@@ -22,10 +22,10 @@
 //! changed. `Entries` by themselves are never shared, so that `remove` needs no memory.
 //!
 //! Maps change at their keys: `set` and `merge` replace a value in its place or add an entry at the end, and
-//! when allocation fails the map is as before. `merge` takes n log n of the members; `remove` needs no
-//! memory, and takes time linear in the entries. Where there was none for an index of the keys, they are
-//! looked for one by one until the next entry is added. The clauses `at` of the three say what is at each key
-//! then.
+//! when allocation fails the map is as before. `merge` takes n log n of the members. `remove` puts the last
+//! entry in the place of the one that goes, in time logarithmic in the entries, and can't fail: where there
+//! is no memory for an index of the keys, they are looked for one by one until the next entry is added. The
+//! clauses `at` of the three say what is at each key then.
 //!
 //! Contracts see a value through `data_of`, a list as a list of data, and a map as a list of pairs of a key
 //! and data (`specs/Data.antt`, `specs/View.antt`). `proofs/Falls.antt` has the lemmas by which a recursion

@@ -1,6 +1,6 @@
-ghost use Rattle.std.specs.Prelude.{◌≡◌, ◌↔◌, ◌<◌, ℕ, List, [], ◌∷◌, ◌++◌, length, take, remove, slice_set, slice_index_or, OnOk, OnErr, IfOk, Some, None, IsNone, option_map, if◌then◌else◌};
+ghost use Rattle.std.specs.Prelude.{◌≡◌, ◌↔◌, ◌<◌, ℕ, List, [], ◌∷◌, ◌++◌, length, take, slice_set, slice_index_or, OnOk, OnErr, IfOk, Some, None, IsNone, option_map, if◌then◌else◌};
 ghost use Rattle.std.specs.Option.{option_or};
-ghost use Rattle.key_index.specs.Keys.{place_from};
+ghost use Rattle.key_index.specs.Keys.{place_from, taken_out};
 ghost use Rattle.prop_values.specs.Changes.{with_member, merged, without_key};
 ghost use Rattle.prop_values.specs.Data.{pairs_of};
 ghost use Rattle.prop_values.specs.Keys.{HasDistinctKeys, LacksKey, keys};
@@ -334,9 +334,10 @@ impl Entries {
         }
     }
 
-    /// Removes the entry of a key, in time linear in the entries. Where no entry has the key, nothing
-    /// changes. It needs no memory: when allocation fails, keys are looked for one by one until the next
-    /// entry is added.
+    /// Removes the entry of a key, and the last entry takes its place. Where no entry has the key, nothing
+    /// changes. It takes time logarithmic in the entries, but for the first time that an entry of more than
+    /// sixteen is removed. It can't fail: when allocation fails, keys are looked for one by one until the
+    /// next entry is added.
     pub fn remove(&mut self, key: &str)
         ensures left { self.new ≡ without_key key.now self.old }
         ensures at { (q : List ℕ) → at_key q (pairs_of self.new) ≡ (if same_text key.now q then None else at_key q (pairs_of self.old)) }
@@ -344,9 +345,9 @@ impl Entries {
         let Some(place) = self.place_of(key) else {
             return;
         };
-        take_out(&mut self.entries, place);
         let alloc = *self.entries.allocator();
-        self.index.renew(alloc, self.entries.as_slice());
+        self.index.note_taken(alloc, self.entries.as_slice(), place);
+        take_out(&mut self.entries, place);
     }
 
     // The place of the entry of a key.
@@ -418,7 +419,7 @@ fn put_value(entries: &mut Vec<Entry>, place: usize, value: Value)
 
 fn take_out(entries: &mut Vec<Entry>, place: usize)
     requires { place < length entries.old.items }
-    ensures { entries.new.items ≡ remove entries.old.items place }
+    ensures { entries.new.items ≡ taken_out place entries.old.items }
 {
-    entries.remove(place);
+    let _ = entries.swap_remove(place);
 }

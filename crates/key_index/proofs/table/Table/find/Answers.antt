@@ -4,7 +4,8 @@ use Rattle.std.specs.Prelude.{map}
 use Rattle.std.specs.Option.{option_or}
 use Rattle.std.proofs.Math.Nat.{mod-lt}
 use Rattle.key_index.specs.Hash.{hash_of}
-use Rattle.key_index.specs.Table.{slot_place, slots_at, noted}
+use Rattle.key_index.specs.Table.{slot_place, slots_at}
+use Rattle.key_index.specs.Places.{noted}
 use Rattle.key_index.proofs.Tables.{bucket_read}
 use Rattle.key_index.proofs.table.Table.find.Goals as goal
 

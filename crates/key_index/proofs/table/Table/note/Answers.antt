@@ -5,7 +5,8 @@ use Rattle.std.proofs.Math.Nat.{mod-lt}
 use Rattle.std.proofs.lemmas.Result.{on_ok_weaker}
 use Rattle.key_index.specs.declared.table.Bucket.{Bucket}
 use Rattle.key_index.specs.Hash.{hash_of}
-use Rattle.key_index.specs.Table.{IsFree, slots_at, noted}
+use Rattle.key_index.specs.Table.{IsFree, slots_at}
+use Rattle.key_index.specs.Places.{noted}
 use Rattle.key_index.proofs.Slots.{slot_of, slots_read}
 use Rattle.key_index.proofs.Tables.{table_put, table_crowd}
 use Rattle.key_index.proofs.table.Table.note.Goals as goal
@@ -29,5 +30,5 @@ returns-in-Some-clause-ok c = λ keys h l n.
 
 pub returns-in-None-clause-ok : goal.returns-in-None-clause-ok
 returns-in-None-clause-ok c =
-    on_ok_weaker c.note_crowded.result
-    (λ ok keys h l n. table_crowd c.args.self.now _ keys c.args.key.now h l refl (λ q. ok q ∙ ap (λ p. if bytes_eq c.args.key.now q then Some p else noted c.args.self.now.crowded q) (sym n))) c.note_crowded.ensures.ok
+    on_ok_weaker c.note_place.result
+    (λ ok keys h l n. table_crowd c.args.self.now _ keys c.args.key.now h l refl (λ q. ok q ∙ ap (λ p. if bytes_eq c.args.key.now q then Some p else noted c.args.self.now.crowded q) (sym n))) c.note_place.ensures.ok
