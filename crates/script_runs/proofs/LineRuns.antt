@@ -48,3 +48,21 @@ module _ (files : List ℕ → Option (List ℕ)) (tiles : List SourceTile) (scr
       behind_line line read answers
       (subst (λ r. HasOutcome files (next_run (line_out tiles scripts can_change number p r)) asked all o) (sym is)
       (as_written p (refused_line number (fault_name fault)) new true true written refl made))
+
+-- From the run of the lines after a line to that of all, where the code has the same tiles and test of images by other names.
+pub goes_back : (files : List ℕ → Option (List ℕ)) (scripts : List ℕ → Bool) (asked all : List (List ℕ)) (o : RunOutcome)
+    → (own tiles : List SourceTile) → own ≡ tiles → (changes can_change : Bool) → changes ≡ can_change
+    → (number : ℕ) (p : SessionState) (out : List ℕ) (any : Bool) (lines rest : List (List ℕ)) {line : List ℕ} → lines ≡ line ∷ rest
+    → (after : SessionState) (new : List ℕ) (refused later : Bool) → (any || refused) ≡ later
+    → (HasOutcome files (lines_run own scripts changes (number + 1) after new (any || refused) rest) asked all o
+    → HasOutcome files (lines_run own scripts changes number p out any (line ∷ rest)) asked all o)
+    → HasOutcome files (lines_run tiles scripts can_change (number + 1) after new later rest) asked all o
+    → HasOutcome files (lines_run tiles scripts can_change number p out any lines) asked all o
+goes_back files scripts asked all o own tiles same changes can_change alike number p out any lines rest {line} cut after new refused later says leads made =
+    subst (λ ls. HasOutcome files (lines_run tiles scripts can_change number p out any ls) asked all o) (sym cut)
+    (subst (λ ts. HasOutcome files (lines_run ts scripts can_change number p out any (line ∷ rest)) asked all o) same
+    (subst (λ b. HasOutcome files (lines_run own scripts b number p out any (line ∷ rest)) asked all o) alike
+    (leads
+    (subst (λ b. HasOutcome files (lines_run own scripts b (number + 1) after new (any || refused) rest) asked all o) (sym alike)
+    (subst (λ ts. HasOutcome files (lines_run ts scripts can_change (number + 1) after new (any || refused) rest) asked all o) (sym same)
+    (subst (λ b. HasOutcome files (lines_run tiles scripts can_change (number + 1) after new b rest) asked all o) (sym says) made))))))

@@ -54,7 +54,7 @@ module _ (every_fault_is_listed : EveryFaultIsListed) (images scripts : List ℕ
 
 module _ (law : EveryFaultIsListed) (files : List ℕ → Option (List ℕ)) (images scripts : List ℕ → Bool) (can_change : Bool) where
   found_asked : (ask : words.Asked) (before after : List (List ℕ)) (o : RunOutcome) → HasOutcome files (asked_run images scripts can_change ask) before after o → EndsFound o → ListsItsFault images scripts ask
-  found_asked (words.Value expression) before after o (inl (t, spelled, is, same)) ends = found_reading law images scripts expression t spelled (reading t) refl (sym (ap (λ p. status_of p.ending) is) ∙ ends)
+  found_asked (words.Value expression) before after o (inl (t, spelled, is)) ends = found_reading law images scripts expression t spelled (reading t) refl (sym (ap (λ p. status_of p.ending) is.0) ∙ ends)
   found_asked (words.Value expression) before after o (inr (kind, at, none, place, cause, is, same)) ends = absurd (let refused = ap (λ p. status_of p.ending) is in cc)
   found_asked (words.Validate style) before after o defined ends = tt
   found_asked (words.Migrate style) before after o defined ends = tt

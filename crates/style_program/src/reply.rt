@@ -57,6 +57,7 @@ docs/MESSAGES.md explains each message, and docs/REFERENCE.md is the manual.
 
 const VERSION: &[u8] = b"pirgesh 0.1.0\n";
 
+#[tactic(auto, using(program_runs::proofs::Asked::none_asked))]
 pub fn answer_to<'a, F: Files>(
     alloc: Global,
     request: &Request<'a>,

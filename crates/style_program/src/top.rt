@@ -58,6 +58,7 @@ pub fn run_style<F: Files, O: Sink, E: Sink, L: Ledger>(
 }
 
 // The answer to the words, be it a refusal.
+#[tactic(auto, using(program_runs::proofs::Asked::none_asked))]
 fn settled<'a, F: Files>(
     alloc: Global,
     words: &'a [String],

@@ -1,6 +1,10 @@
+use Rattle.program_runs.specs.declared.halt.RunHalt.TheVariants.{Stopped}
+use Rattle.program_runs.specs.declared.halt.RunStop.TheVariants.{NoMemory}
+use Rattle.program_runs.proofs.Asked.{none_asked}
 use Rattle.program_runs.specs.Progress.{HaltsAt, outcome_of}
 use Rattle.program_runs.proofs.Going.{at_residual}
 use Rattle.style_program.specs.EvalRun.{eval_run, listed_run}
+use Rattle.style_program.specs.TileRunView.{shown_seen}
 use Rattle.style_program.specs.WordsView.{eval_words}
 use Rattle.style_program.proofs.eval_command.answer_eval.Goals as goal
 
@@ -18,3 +22,14 @@ returns-in_err-shown-clause-halt g c =
     let w = eval_words c.args.request.now in
     at_residual (λ h. HaltsAt (g.F.Files.told c.args.files.now) (eval_run w images scripts) _ _ _ _ _ _ h)
     c.in_err-shown.field-0.0 c.from_residual.result c.from_residual.ensures.1 (c.in_err-shown.ensures.halt (listed_run w images scripts))
+
+pub returns-in_err-answer_shown-clause-halt : goal.returns-in_err-answer_shown-clause-halt
+returns-in_err-answer_shown-clause-halt g c =
+    let files = g.F.Files.told c.args.files.now in
+    let images = (goal.HostOp-dyn g c.args.images.now).test c.args.images.now.1 in
+    let scripts = (goal.HostOp-dyn g c.args.scripts.now).test c.args.scripts.now.1 in
+    let w = eval_words c.args.request.now in
+    at_residual (λ h. HaltsAt files (eval_run w images scripts) _ _ _ _ _ _ h) (Stopped NoMemory)
+    c.from_residual-in_err-answer_shown.result c.from_residual-in_err-answer_shown.ensures.1
+    (c.in_ok-shown.ensures.failed,
+    (c.in_ok-shown.ensures.on (listed_run w images scripts)).reads _ (none_asked files (listed_run w images scripts (shown_seen c.in_ok-shown.shown)) _))
