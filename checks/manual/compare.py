@@ -219,6 +219,12 @@ def print_counts(counts):
             print(f"  {group}: {', '.join(found)}")
 
 
+def built_program():
+    """The program of this folder, built where it is missing or older than its sources."""
+    subprocess.run([TOP / "pirgesh", "--version"], check=True, capture_output=True)
+    return str(TOP / "crates" / "pirgesh" / "out" / "pirgesh")
+
+
 def main():
     words = argparse.ArgumentParser(description="Compares the program with a reading of the manual.")
     for kind in KINDS:
@@ -227,8 +233,9 @@ def main():
     words.add_argument("--seed", type=int, default=1)
     words.add_argument("--show", type=int, default=5, help="how many that differ are printed")
     words.add_argument("--counts", action="store_true", help="print how often each operator, code, fault, rule and form occurred")
-    words.add_argument("--program", default=str(TOP / "pirgesh"))
+    words.add_argument("--program", help="a built program, in place of the one of this folder")
     options = words.parse_args()
+    options.program = options.program or built_program()
     with concurrent.futures.ProcessPoolExecutor(os.cpu_count()) as pool:
         return 1 if sum([compare(kind, options, pool) for kind in KINDS]) else 0
 

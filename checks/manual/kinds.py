@@ -118,12 +118,13 @@ class Typer:
         return [self.kind(one, forms[min(place, len(forms) - 1)], names) for place, one in enumerate(node.arguments)]
 
     def choice(self, node, wanted, names):
-        """The kind of a node whose outputs are wanted as it is."""
+        """The kind of a node whose outputs are wanted as it is, and its own code. Such a node keeps no kind of a list."""
         inner = names
         if node.operator == "let":
             bound = [self.kind(one, ANY, names) for one in node.arguments[:-1]]
             inner = {**names, **dict(zip(node.parts["names"], bound))}
-            return self.kind(node.arguments[-1], wanted, inner), None
+            kind = self.kind(node.arguments[-1], wanted, inner)
+            return (kind if wanted == ANY else as_wanted(ANY, wanted)), None
         outputs, code = [], None
         for place, argument in enumerate(node.arguments):
             if is_output(node, place):
@@ -139,7 +140,7 @@ class Typer:
 
 
 def as_wanted(kind, wanted):
-    """The kind that a node has where it fits."""
+    """The kind that a node has where it fits: what is wanted of it, but for a list of anything, where a list keeps its own kind."""
     if wanted == ANY or wanted == SEQUENCE or (wanted == listed() and kind[0] == "array"):
         return kind
     if wanted == TEXT or wanted[0] == "enum":

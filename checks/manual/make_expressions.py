@@ -158,6 +158,8 @@ class Maker(making.Maker):
             return ["let", *(part for pair in zip(bound, values) for part in pair), body]
         if kind == "coalesce":
             return ["coalesce", *(self.expression(self.one([form, form, "any"]), levels, names) for _ in self.some(0, 2)), out()]
+        if kind == "at" and (self.rng.random() < 0.1 or self.slips()):
+            return ["at", self.index(levels, names), self.expression("array", levels, names)]
         if kind == "at":
             return ["at", self.index(levels, names), ["literal", [self.literal_item(form) for _ in self.some(1, 3)]]]
         if kind == "get":

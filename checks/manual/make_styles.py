@@ -168,8 +168,8 @@ class Maker(making.Maker):
         if kind in ("enum", "enums", "fonts", "nums") or self.chance(0.1):
             out = lambda: self.constant(row)
             free = "string" if kind in ("enum", "text", "image") else "unknown"
-            made = [lambda: maker.match(out, 1, ()), lambda: ["case", maker.expression("boolean", levels), out(), out()], out, lambda: maker.expression(free, 1)]
-            return self.one(made)()
+            made = [lambda: maker.match(out, 1, ()), lambda: ["case", maker.expression("boolean", levels), out(), out()], out]
+            return self.one([*made, lambda: maker.expression(free, 1), lambda: self.odd_list(row, maker)])()
         if kind == "text" and self.chance(0.4):
             return maker.root("any", levels)
         if kind == "image" and self.chance(0.5):
@@ -180,6 +180,13 @@ class Maker(making.Maker):
         """A literal of the row as an expression."""
         made = self.literal(row)
         return ["literal", made] if isinstance(made, list) else made
+
+    def odd_list(self, row, maker):
+        """A list that is perhaps none of the row's, or a text."""
+        if not (row.kind.startswith("nums") or row.kind in ("enums", "fonts")):
+            return self.one(TEXTS)
+        items = [self.one([self.one(row.texts or TEXTS), self.one(TEXTS), maker.scalar("boolean")]) for _ in range(self.rng.randint(0, 2))]
+        return ["literal", self.one([items, items, maker.items()])]
 
     # Legacy forms.
 

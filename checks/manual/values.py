@@ -118,8 +118,8 @@ def fitted(value, wanted):
         return colored(value)
     if name == "enum" and isinstance(value, str):
         return one_of(value, wanted[1])
-    if name == "enums" and isinstance(value, list):
-        return [fitted(item, ("enum", wanted[1])) for item in value]
+    if name == "enums" and fits(value, listed("string")):
+        return [one_of(text, wanted[1]) for text in value]
     if fits(value, wanted):
         return value
     raise Fault("WrongType")
