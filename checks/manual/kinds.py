@@ -178,7 +178,8 @@ def may_overflow(node, kind):
     if any(one.operator != "literal" or not values.fits(one.parts["value"], kind) for one in outputs):
         return True
     given = [one.parts["value"] if kind != NUMBER else [one.parts["value"]] for one in outputs]
-    steps = [abs(b - a) * (x1 - x0) for x0, x1, low, high in zip(inputs, inputs[1:], given, given[1:]) for a, b in zip(low, high)]
+    neighbours = zip(inputs, inputs[1:], given, given[1:])
+    steps = [abs(b - a) * (x1 - x0) for x0, x1, low, high in neighbours for a, b in zip(low, high)]
     return any(step > millionths.STEP_LIMIT for step in steps)
 
 
@@ -232,8 +233,9 @@ def to_number(typer, node, names):
 
 def to_color(typer, node, names):
     kinds = typer.arguments(node, names, [ANY])
-    texts = [one.parts["value"] for one in node.arguments if one.operator == "literal" and isinstance(one.parts["value"], str)]
-    typer.may.update([] if COLOR in kinds or any(map(values.color_of, texts)) else ["NotColor"])
+    literals = [one.parts["value"] for one in node.arguments if one.operator == "literal"]
+    is_color = any(isinstance(value, str) and values.color_of(value) for value in literals)
+    typer.may.update([] if COLOR in kinds or is_color else ["NotColor"])
     return COLOR, None
 
 

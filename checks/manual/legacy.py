@@ -158,7 +158,8 @@ class Function:
             return self.otherwise(world)
         outputs = [lambda output=output: self.output(output, world) for _, output in stops]
         base = trees.number(self.base)
-        return self.ramp(x[0], [trees.number(one) for one, _ in stops], outputs, self.kind == "exponential", None if base == ONE else base)
+        inputs = [trees.number(one) for one, _ in stops]
+        return self.ramp(x[0], inputs, outputs, self.kind == "exponential", None if base == ONE else base)
 
     def categorical(self, x, stops, world):
         for one, output in stops:
@@ -292,7 +293,8 @@ def put_zooms(function, tree):
 def are_inputs(function, inputs):
     """Whether inputs are of their form and in their order."""
     is_free = function.kind == "categorical"
-    if not all(trees.number(one) is not None or (is_free and (trees.is_text(one) or isinstance(one, bool))) for one in inputs):
+    is_input = lambda one: trees.number(one) is not None or (is_free and (trees.is_text(one) or isinstance(one, bool)))
+    if not all(map(is_input, inputs)):
         return False
     numbers = [trees.number(one) for one in inputs if isinstance(one, Number)]
     given = [trees.value(one) for one in inputs]

@@ -13,7 +13,10 @@ WHOLE = ["0", "1", "2", "3", "5", "7", "10", "-1", "-2", "100", "255", "4", "12"
 BROKEN = ["0.5", "1.50", "2.25", "-0.5", "0.1", "0.333333", "-0", "1e2", "1E-1", "0.0000005", "-0.0000004", "3.0", "254.999999"]
 LARGE = ["1e20", "-1e20", "99999999999999999999", "100000000000000000000.0000004", "1e13", "5e19", "123456789012.123456"]
 TOO_LARGE = ["1e21", "100000000000000000000.0000005", "-1e30", "1e999"]
-TEXTS = ["", "a", "b", "abc", "x", "Göteborg", "😀b😀", "abcb", '"\\\n', "1", " 12.5 ", "+3", "1e3", "0x10", "-7", "عد", "map", "Point", "number", "\u007f\u0001"]
+TEXTS = [
+    "", "a", "b", "abc", "x", "Göteborg", "😀b😀", "abcb", '"\\\n', "1", " 12.5 ", "+3", "1e3", "0x10", "-7", "عد", "map", "Point", "number",
+    "\u007f\u0001",
+]  # fmt: skip
 NUMBER_TEXTS = [
     "1", " 12.5 ", "+3", "-7", "1e3", "1E-7", "0x10", "+-3", "-+3", "- 3", "01", ".5", "5.", "\t\n7\r ", "1e20", "1e21", "+", "-", "", "  ", "Infinity", "1e400",
     "0.00000050000000000000000000000000000000000000000000000000000000000000000000001", "\u00a05", "१",
@@ -58,7 +61,6 @@ class Maker(making.Maker):
 
     def literal(self, form):
         """A bare literal, or one in `literal`."""
-        rng = self.rng
         if form == "array":
             return ["literal", self.items()]
         if form == "object":
@@ -69,8 +71,8 @@ class Maker(making.Maker):
             return None
         if form == "any":
             return self.one([None, self.literal(self.one(FORMS[:-1]))])
-        made = {"boolean": lambda: self.one([True, False]), "number": self.number_text, "string": lambda: self.one(TEXTS)}[form]()
-        return ["literal", made] if rng.random() < 0.05 else made
+        made = self.one([True, False]) if form == "boolean" else self.scalar(form)
+        return ["literal", made] if self.rng.random() < 0.05 else made
 
     def items(self):
         form = self.one(["number", "number", "string", "boolean", "mixed", "number2", "nested"])
@@ -81,7 +83,9 @@ class Maker(making.Maker):
         return [self.scalar(self.one(SCALARS) if form == "mixed" else form) for _ in self.some(0, 4)]
 
     def scalar(self, form):
-        return {"boolean": lambda: self.one([True, False, None]), "number": self.number_text, "string": lambda: self.one(TEXTS)}[form]()
+        if form == "number":
+            return self.number_text()
+        return self.one([True, False, None] if form == "boolean" else TEXTS)
 
     def map(self):
         keys = self.rng.sample(KEYS, self.rng.randint(0, 4))
@@ -100,7 +104,8 @@ class Maker(making.Maker):
                 return ["var", self.one(names)]
             return self.literal(form)
         if form in ("number", "string", "boolean", "object") and self.rng.random() < 0.15:
-            return [form, *(self.expression(self.one([form, "any"]), levels - 2, names) for _ in self.some(1, 2)), self.literal(form)]
+            tried = [self.expression(self.one([form, "any"]), levels - 2, names) for _ in self.some(1, 2)]
+            return [form, *tried, self.literal(form)]
         made = getattr(self, "of_" + form) if self.rng.random() < 0.7 else self.choice
         node = made(form, levels - 1, names)
         return self.broken(node) if isinstance(node, list) and self.slips(0.5) else node
@@ -126,8 +131,10 @@ class Maker(making.Maker):
         if len(node) < 2:
             return node + [Number("1")]
         place = self.rng.randrange(1, len(node))
-        changed = self.one([None, "a", Number("1.5"), Number("0"), [], ["a", "a"], True, (("x", True),), Number("1e25"), [Number("1e25"), Number("1e25")]])
-        return self.one([node[:place] + node[place + 1 :], node + [self.literal("any")], node[:place] + [changed] + node[place + 1 :]])
+        large = Number("1e25")
+        changed = self.one([None, "a", Number("1.5"), Number("0"), [], ["a", "a"], True, (("x", True),), large, [large, large]])
+        before, after = node[:place], node[place + 1 :]
+        return self.one([before + after, node + [self.literal("any")], before + [changed] + after])
 
     def call(self, name, forms, levels, names):
         return [name, *(self.expression(form, levels, names) for form in forms)]
@@ -148,7 +155,8 @@ class Maker(making.Maker):
         if kind == "interpolate":
             if form not in ("number", "color", "array") and not self.slips():
                 return out()
-            return self.interpolate(out if form != "array" else lambda: self.numbers(2, levels, names), levels, names)
+            outputs = (lambda: self.numbers(2, levels, names)) if form == "array" else out
+            return self.interpolate(outputs, levels, names)
         if kind == "let":
             bound = [self.one(BOUND) for _ in self.some(1, 2)]
             if self.slips(0.2):
@@ -199,8 +207,9 @@ class Maker(making.Maker):
     def stop_inputs(self, least, most):
         """Ascending inputs of a ramp."""
         count = self.rng.randint(least, most)
-        pool = ["-3", "-0.5", "0", "0.5", "1", "2", "2.5", "3", "5", "9", "10", "16", "24", "255"] + (["1e10", "1e20"] if self.rng.random() < 0.05 else [])
-        inputs = sorted(self.rng.sample(pool, min(count, len(pool))), key=float)
+        large = ["1e10", "1e20"] if self.rng.random() < 0.05 else []
+        pool = ["-3", "-0.5", "0", "0.5", "1", "2", "2.5", "3", "5", "9", "10", "16", "24", "255", *large]
+        inputs = sorted(self.rng.sample(pool, count), key=float)
         if self.slips(0.3):
             inputs.append(self.one([*inputs, "1e30", "-9"]))
         return [Number(x) for x in inputs]
@@ -212,7 +221,8 @@ class Maker(making.Maker):
         base = Number(self.one(["1", "2", "1.5", "0.5", "10", "1.2", "0.000001", "3.141593"]))
         curve = ["linear"] if self.rng.random() < 0.6 else ["exponential", base]
         if self.slips(0.5):
-            curve = self.one([["cubic-bezier", Number("0"), Number("0"), Number("1"), Number("1")], ["exponential", Number("0")], ["exponential"], "linear", ["linear", Number("1")], []])
+            bezier = ["cubic-bezier", *map(Number, "0011")]
+            curve = self.one([bezier, ["exponential", Number("0")], ["exponential"], "linear", ["linear", Number("1")], []])
         inputs = self.stop_inputs(1, 4)
         return ["interpolate", curve, self.input(levels, names), *(part for x in inputs for part in (x, out()))]
 
@@ -241,7 +251,8 @@ class Maker(making.Maker):
         return self.one(others + ([["feature-state", self.one(KEYS)]] * 4 if self.may_read("s") else []))
 
     def of_number(self, form, levels, names):
-        name = self.one(["+", "*", "-", "/", "%", "abs", "floor", "ceil", "round", "min", "max", "to-number", "index-of", "length", "number", "zoom"])
+        names_of_all = ["+", "*", "-", "/", "%", "abs", "floor", "ceil", "round", "min", "max", "to-number", "index-of", "length", "number", "zoom"]
+        name = self.one(names_of_all)
         if name in ("+", "*"):
             return self.call(name, ["number" for _ in self.some(0, 3)], levels, names)
         if name in ("min", "max"):
@@ -305,7 +316,9 @@ class Maker(making.Maker):
         parts = [Number(self.one(["0", "255", "127.5", "12", "255.000001" if self.slips() else "1"])) for _ in range(3)]
         if levels > 0 and self.rng.random() < 0.3:
             parts[0] = self.expression("number", levels, names)
-        return [name, *parts, *([Number(self.one(["0", "1", "0.5", "0.25"]))] if self.rng.random() < 0.5 else [])]
+        if self.rng.random() < 0.5:
+            parts.append(Number(self.one(["0", "1", "0.5", "0.25", "1.000001" if self.slips() else "1"])))
+        return [name, *parts]
 
     def of_array(self, form, levels, names):
         name = self.one(["array", "slice", "to-rgba", "literal", "numbers"])
@@ -339,7 +352,9 @@ class Maker(making.Maker):
     def options(self, levels):
         forms = {"font-scale": "number", "text-font": "array", "text-color": "color"}
         names = self.rng.sample(list(forms), self.rng.randint(0, 3))
-        options = [(name, ["literal", [self.one(TEXTS)]] if name == "text-font" and not self.slips() else self.expression(forms[name], levels)) for name in names]
+        options = [(name, self.expression(forms[name], levels)) for name in names]
+        if not self.slips():
+            options = [(name, ["literal", [self.one(TEXTS)]] if name == "text-font" else made) for name, made in options]
         return (*options, ("vertical-align", "top")) if self.slips(0.3) else tuple(options)
 
     def root(self, form, levels):

@@ -38,7 +38,8 @@ class Maker(making.Maker):
 
     def odd(self):
         """A tree that is rarely of a right form."""
-        return self.one([None, Number("5"), Number("-1"), "x", [], (), True, Number("1e25"), ["get"], [Number("1")], (("a", Number("1")),), "visible"])
+        numbers = [Number("5"), Number("-1"), Number("1e25")]
+        return self.one([None, *numbers, "x", "visible", [], (), True, ["get"], [Number("1")], (("a", Number("1")),)])
 
     def expressions(self, inputs, zoom=0.0):
         return make_expressions.Maker(self.rng, self.wrong, inputs, zoom, 0.02)
@@ -52,7 +53,9 @@ class Maker(making.Maker):
         members = [("version", self.odd() if self.slips(0.3) else Number(self.one(["8", "8.0", "80e-1"])))]
         members.append(("sources", self.sources()))
         layers = [self.layer(place) for place in range(self.rng.randint(1, 4))]
-        members.append(("layers", self.one([self.odd(), [True] * 65537 if self.slips(0.3) else ()]) if self.slips(0.1) else layers))
+        if self.slips(0.1):
+            layers = [True] * 65537 if self.slips() else self.odd()
+        members.append(("layers", layers))
         if self.chance(0.4):
             members.append(("state", self.odd() if self.slips(0.5) else self.state()))
         if self.slips(0.2):
@@ -68,7 +71,8 @@ class Maker(making.Maker):
 
     def state(self):
         value = lambda: self.one([Number("2"), "red", True, None, [Number("1")], (("r", Number("1.50")),), Number("1e25") if self.slips() else "b"])
-        return tuple((key, self.odd() if self.slips(0.3) else (("default", value()),)) for key in self.rng.sample(KEYS, self.rng.randint(0, 3)))
+        keys = self.rng.sample(KEYS, self.rng.randint(0, 3))
+        return tuple((key, self.odd() if self.slips(0.3) else (("default", value()),)) for key in keys)
 
     def layer(self, place):
         if self.slips(0.1):
@@ -111,7 +115,8 @@ class Maker(making.Maker):
         if place == "paint" and rows and self.chance(0.1):
             members.append((self.one(rows).name + "-transition", self.odd() if self.slips(2) else (("duration", Number("1")),)))
         if self.slips(0.5) or self.chance(0.02):
-            members.append((self.one(["foo", "heatmap-color", "line-gradient", "icon-padding", "text-variable-anchor-offset", "circle-radius"]), Number("1")))
+            unread = ["heatmap-color", "line-gradient", "icon-padding", "text-variable-anchor-offset"]
+            members.append((self.one(["foo", "circle-radius", *unread]), Number("1")))
         self.rng.shuffle(members)
         return tuple(dict(members).items())
 
@@ -131,7 +136,8 @@ class Maker(making.Maker):
 
     def literal(self, row):
         """A literal of the row."""
-        number = lambda: Number(self.one(["0", "1", "0.5", "0.25", "1.0", "2.5" if self.slips() or row.most is None else "1", "-1" if self.slips() or row.least is None else "1"]))
+        large, small = self.slips() or row.most is None, self.slips() or row.least is None
+        number = lambda: Number(self.one(["0", "1", "0.5", "0.25", "1.0", "2.5" if large else "1", "-1" if small else "1"]))
         text = lambda: self.one(TEXTS if self.slips(0.5) else row.texts)
         kind = row.kind
         if kind.startswith("nums"):
@@ -162,14 +168,16 @@ class Maker(making.Maker):
     def output(self, row, maker):
         kind, levels = row.kind, self.levels
         if self.chance(0.1):
-            return ["coalesce", maker.expression("unknown", 1), self.constant(row)] if self.chance(0.5) else maker.expression("any" if self.slips() else "unknown", levels)
+            if self.chance(0.5):
+                return ["coalesce", maker.expression("unknown", 1), self.constant(row)]
+            return maker.expression("any" if self.slips() else "unknown", levels)
         if kind in ("nums2", "nums4"):
             return maker.numbers(int(kind[4]), levels, ())
         if kind in ("enum", "enums", "fonts", "nums") or self.chance(0.1):
             out = lambda: self.constant(row)
             free = "string" if kind in ("enum", "text", "image") else "unknown"
-            made = [lambda: maker.match(out, 1, ()), lambda: ["case", maker.expression("boolean", levels), out(), out()], out]
-            return self.one([*made, lambda: maker.expression(free, 1), lambda: self.odd_list(row, maker)])()
+            case = lambda: ["case", maker.expression("boolean", levels), out(), out()]
+            return self.one([lambda: maker.match(out, 1, ()), case, out, lambda: maker.expression(free, 1), lambda: self.odd_list(row, maker)])()
         if kind == "text" and self.chance(0.4):
             return maker.root("any", levels)
         if kind == "image" and self.chance(0.5):
@@ -207,7 +215,8 @@ class Maker(making.Maker):
         if self.chance(0.3):
             members.append(("default", self.output_of_function(row)))
         if self.chance(0.25):
-            members.append(("base", self.odd() if self.slips(0.5) else Number(self.one(["1", "2", "1.50", "0.5", "10", "0" if self.chance(0.1) else "3"]))))
+            base = Number(self.one(["1", "2", "1.50", "0.5", "10", "0" if self.chance(0.1) else "3"]))
+            members.append(("base", self.odd() if self.slips(0.5) else base))
         if self.chance(0.02):
             members.append(("colorSpace", self.one(["lab", "rgb"])))
         if self.slips(0.2):
@@ -237,7 +246,8 @@ class Maker(making.Maker):
         if self.slips(0.5):
             numbers.append(self.one(["-7", "1e25"]))
         if is_categorical and self.chance(0.7):
-            return self.rng.sample([*TEXTS[:8], True, False, Number("1"), Number("12")], self.rng.randint(1, 4)) + (["a", "a"] if self.slips(0.3) else [])
+            inputs = self.rng.sample([*TEXTS[:8], True, False, Number("1"), Number("12")], self.rng.randint(1, 4))
+            return inputs + (["a", "a"] if self.slips(0.3) else [])
         if is_categorical and not self.slips():
             numbers = list(dict.fromkeys(numbers))
         return [Number(one) for one in numbers] + (["a"] if self.slips(0.2) else [])
@@ -256,7 +266,8 @@ class Maker(making.Maker):
         if levels and form < 0.4:
             return [self.one(["all", "any", "none"]), *(self.legacy_filter(levels - 1) for _ in range(self.rng.randint(0, 3)))]
         if self.slips(0.3):
-            return self.one([self.odd(), ["has"], ["has", "$type", "x"], ["==", "a", None], ["in"], ["<", "$type", "Point"], ["==", ["get", "r"], Number("1")]])
+            expression = ["==", ["get", "r"], Number("1")]
+            return self.one([self.odd(), ["has"], ["has", "$type", "x"], ["==", "a", None], ["in"], ["<", "$type", "Point"], expression])
         if self.chance(0.05):
             return self.one([True, False])
         key = self.one(FILTER_KEYS)
@@ -280,7 +291,7 @@ class Maker(making.Maker):
         return b"".join(self.tile_layer(name) for name in self.one([["p"], ["p", "q"], ["q", "p"], ["p"]]))
 
     def tile_layer(self, name):
-        values = [number_field(6, self.one([0, 1, 2, 3, 4, 6, 10, 20, 24, 48, 510]))for _ in range(6)]
+        values = [number_field(6, self.one([0, 1, 2, 3, 4, 6, 10, 20, 24, 48, 510])) for _ in range(6)]
         values += [number_field(4, self.one([(1 << 64) - 3, 7, (1 << 63) - 1])), number_field(5, self.one([(1 << 64) - 1, 3, 12]))]
         values += [bytes_field(1, self.one(TILE_TEXTS).encode()) for _ in range(8)] + [number_field(7, 0), number_field(7, 1)]
         parts = [bytes_field(1, name.encode()), number_field(15, 2)]
@@ -299,9 +310,10 @@ class Maker(making.Maker):
         return [*lines, ["list"]]
 
     def script_line(self):
-        name = self.one(["set-zoom", "set-state", "set-state", "set-state", "set-state", "remove-state", "add-image", "remove-image", "set-global", "list"])
+        name = self.one(["set-zoom", *["set-state"] * 4, "remove-state", "add-image", "remove-image", "set-global", "list"])
         scalar = lambda: self.one([Number(self.one(["1", "0.5", "7"])), self.one(TEXTS + COLORS), True, None, [Number("1"), "a"]])
-        place = [self.one(["t", "t", "u"]), self.one(["p", "p", "q"]), Number(self.one(["0", "1", "2.0", "3", "7", "18446744073709551615"]))]
+        identifier = Number(self.one(["0", "1", "2.0", "3", "7", "18446744073709551615"]))
+        place = [self.one(["t", "t", "u"]), self.one(["p", "p", "q"]), identifier]
         if name == "set-zoom":
             return [name, Number(self.one(ZOOMS))]
         if name == "set-state":

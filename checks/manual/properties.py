@@ -85,7 +85,8 @@ def read_table():
         if line and not line.startswith("#"):
             layer, _, place, name, kind, default, least, most, inputs = line.split("\t")
             kind, *texts = kind.split()
-            rows[layer, place, name] = Row(layer, place, name, kind, tuple(texts), default_tree(default), limit(least), limit(most), inputs)
+            limits = limit(least), limit(most)
+            rows[layer, place, name] = Row(layer, place, name, kind, tuple(texts), default_tree(default), *limits, inputs)
     return rows
 
 
