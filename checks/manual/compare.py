@@ -72,6 +72,7 @@ def value_answer(data, counts):
         counts.update(("operator", one.operator) for one in expressions.nodes(node))
         return 0, values.printed(meaning.evaluated(node, values.ANY, meaning.World())) + "\n", ""
     except trees.Refused as refused:
+        counts["json", str(refused).split()[0]] += 1
         return 3, "", f"refused expr json {refused}\n"
     except expressions.Refused as refused:
         counts["code", refused.args[0]] += 1
@@ -110,27 +111,35 @@ def count_lines(lines, counts):
             counts["listed", "feature"] += 1
         elif line.startswith("  "):
             last = line.rpartition("!")[2]
-            counts["listed", last if last in kinds.FAULTS else "?" if line.endswith(" ?") else "value"] += 1
+            what = last if last in kinds.FAULTS else "outside" if line.endswith(" ?") else "value"
+            counts["listed", what + (" of a feature" if line.startswith("    ") else " of a layer")] += 1
 
 
 def count_forms(style, counts):
-    """Counts filters, functions and operators of a style without findings."""
+    """Counts rows, filters, functions and operators of a style without findings."""
     for layer in trees.member(style, "layers"):
-        if trees.member(layer, "type") not in listing.UNREAD_TYPES:
-            made = listing.Layer(layer, None)
-            found = [checked for _, checked in made.values] + ([made.filter] if made.filter else [])
-            for form, meant in (checked.meant for checked in found if checked.meant):
-                counts["form", form] += 1
-                if form == "function":
-                    counts["function", function_name(meant[0])] += 1
-                elif form == "expression":
-                    counts.update(("operator", one.operator) for one in expressions.nodes(meant))
-                elif form == "legacy":
-                    counts.update(("filter", str(name)) for name in filter_names(meant))
+        if trees.member(layer, "type") in listing.UNREAD_TYPES:
+            continue
+        made = listing.Layer(layer, None)
+        counts.update(("row", row.name) for row, _ in made.values)
+        for checked in [checked for _, checked in made.values] + [made.filter]:
+            if checked and checked.meant:
+                count_form(*checked.meant, counts)
+
+
+def count_form(form, meant, counts):
+    counts["form", form] += 1
+    if form == "function":
+        counts["function", function_name(meant[0])] += 1
+    elif form == "expression":
+        counts.update(("operator", one.operator) for one in expressions.nodes(meant))
+    elif form == "legacy":
+        counts.update(("filter", str(name)) for name in filter_names(meant))
 
 
 def function_name(function):
-    return function.kind + (" by a property" if function.key is not None else " by the zoom") + (" with zooms" if function.zooms else "")
+    by = " by a property" if function.key is not None else " by the zoom"
+    return function.kind + by + (" with zooms" if function.zooms else "")
 
 
 def filter_names(tree):
@@ -155,7 +164,8 @@ def damaged(rng, data):
     """A text with a character less, or a text that breaks a rule of JSON."""
     text = data.decode()
     place = rng.randrange(len(text))
-    return rng.choice([text[:place] + text[place + 1 :], text[:place], '{"a":1,"a":2}', "[" * 65, "0" * 65, '"\\ud800x"', text + " ", "1." + "0" * 62]).encode()
+    others = ['{"a":1,"a":2}', "[" * 65, "1" * 65, '"\\ud800x"', text + " ", "1." + "0" * 62]
+    return rng.choice([text[:place] + text[place + 1 :], text[:place], *others]).encode()
 
 
 def validate_case(rng, counts):

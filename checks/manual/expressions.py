@@ -1,4 +1,7 @@
-"""Which JSON is an expression, by the manual's chapter on expressions: its nodes, or that it is outside, or the code and path of its first fault."""
+"""Which JSON is an expression, by the manual's chapter on expressions.
+
+It gives the nodes, or that the expression is outside, or the code and path of its first fault.
+"""
 
 import dataclasses
 import re

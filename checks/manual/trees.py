@@ -1,4 +1,7 @@
-"""JSON trees: arrays are lists, objects tuples of pairs, and numbers have their texts. They are read by Python's json with the rules that it lacks."""
+"""JSON trees: arrays are lists, objects tuples of pairs, and numbers have their texts.
+
+They are read by Python's json with the rules that it lacks, and refused by the definition of a fault (checks/json).
+"""
 
 import pathlib
 import sys
