@@ -85,7 +85,8 @@ class Typer:
         if node.operator in OUTPUTS:
             # Outputs are wanted as the node is, but for a text or list, and for the text of what is interpolated.
             as_it_is = wanted == SEQUENCE or (wanted == TEXT and node.operator == "interpolate")
-            kind, code = self.choice(node, ANY if as_it_is else wanted, names)
+            typed = {"let": self.let, "interpolate": self.interpolate}.get(node.operator, self.choice)
+            kind, code = typed(node, ANY if as_it_is else wanted, names)
             made = self.fitted(node, kind, wanted) if as_it_is else kind
         else:
             kind, code = OWN_KINDS[node.operator](self, node, names)
@@ -119,24 +120,23 @@ class Typer:
 
     def choice(self, node, wanted, names):
         """The kind of a node whose outputs are wanted as it is, and its own code. Such a node keeps no kind of a list."""
-        inner = names
-        if node.operator == "let":
-            bound = [self.kind(one, ANY, names) for one in node.arguments[:-1]]
-            inner = {**names, **dict(zip(node.parts["names"], bound))}
-            kind = self.kind(node.arguments[-1], wanted, inner)
-            return (kind if wanted == ANY else as_wanted(ANY, wanted)), None
-        outputs, code = [], None
-        for place, argument in enumerate(node.arguments):
-            if is_output(node, place):
-                outputs.append(self.kind(argument, wanted, names))
-            else:
-                given = self.kind(argument, {"case": BOOLEAN, "match": ANY}.get(node.operator, NUMBER), names)
-                code = "NotComparable" if node.operator == "match" and not may_match(given, node.parts["labels"]) else code
-        kind = joined(outputs) if wanted == ANY else as_wanted(ANY, wanted)
-        if node.operator == "interpolate":
-            code = None if is_interpolable(kind, wanted) else "NotInterpolable"
-            self.may.update(["Overflow"] if code is None and may_overflow(node, kind) else [])
-        return kind, code
+        form = {"case": BOOLEAN, "match": ANY}.get(node.operator, NUMBER)
+        kinds = [self.kind(one, wanted if is_output(node, place) else form, names) for place, one in enumerate(node.arguments)]
+        outputs = [kind for place, kind in enumerate(kinds) if is_output(node, place)]
+        is_bad = node.operator == "match" and not may_match(kinds[0], node.parts["labels"])
+        return joined(outputs) if wanted == ANY else as_wanted(ANY, wanted), "NotComparable" if is_bad else None
+
+    def interpolate(self, node, wanted, names):
+        kind, _ = self.choice(node, wanted, names)
+        if not is_interpolable(kind, wanted):
+            return kind, "NotInterpolable"
+        self.may.update(["Overflow"] if may_overflow(node, kind) else [])
+        return kind, None
+
+    def let(self, node, wanted, names):
+        bound = [self.kind(one, ANY, names) for one in node.arguments[:-1]]
+        kind = self.kind(node.arguments[-1], wanted, {**names, **dict(zip(node.parts["names"], bound))})
+        return kind if wanted == ANY else as_wanted(ANY, wanted), None
 
 
 def as_wanted(kind, wanted):
