@@ -154,7 +154,8 @@ def filter_names(tree):
 
 def value_case(rng, counts):
     maker = make_expressions.Maker(rng, rng.choice([0, 0, 0.03, 0.1]), large=rng.choice([0.02, 0.02, 0.3]))
-    data = trees.written(maker.root(rng.choice(make_expressions.FORMS), rng.randint(1, 4))).encode()
+    made = maker.exact() if rng.random() < 0.2 else maker.root(rng.choice(make_expressions.FORMS), rng.randint(1, 4))
+    data = trees.written(made).encode()
     if rng.random() < 0.02:
         data = damaged(rng, data)
     return Case(["value", data.decode()], [], value_answer(data, counts))

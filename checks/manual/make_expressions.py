@@ -6,6 +6,7 @@ import sys
 sys.path.append(str(pathlib.Path(__file__).resolve().parents[1] / "shared"))
 
 import making
+import millionths
 from expressions import NAMES, OUTSIDE
 from trees import Number
 
@@ -356,6 +357,28 @@ class Maker(making.Maker):
         if not self.slips():
             options = [(name, ["literal", [self.one(TEXTS)]] if name == "text-font" else made) for name, made in options]
         return (*options, ("vertical-align", "top")) if self.slips(0.3) else tuple(options)
+
+    def digits(self, least=1, most=26):
+        """A number of some digits, often with a half at its end."""
+        most = 10 ** self.rng.randint(least, most)
+        number = self.rng.randint(-most, most)
+        return Number(millionths.written(number // millionths.ONE * millionths.ONE + 500000 if self.rng.random() < 0.2 else number))
+
+    def exact(self):
+        """An operation on numbers of many digits, or a ramp between such."""
+        name = self.one(["+", "-", "*", "/", "%", "round", "floor", "ceil", "interpolate", "interpolate", "interpolate"])
+        if name in ("round", "floor", "ceil"):
+            return [name, self.digits()]
+        if name != "interpolate":
+            return [name, self.digits(), self.digits()]
+        most = 10 ** (26 if self.slips() else self.one([7, 7, 8, 13]))
+        inputs = sorted(self.rng.sample(range(most), self.rng.randint(2, 4)))
+        x = Number(millionths.written(self.rng.randint(inputs[0], inputs[-1])))
+        base = Number(millionths.written(self.rng.randint(1, 3 * millionths.ONE)))
+        curve = self.one([["linear"], ["exponential", base]])
+        color = lambda: ["rgb", *map(Number, self.rng.sample(["0", "1", "0.000001", "254.5", "255"], 3))]
+        output = self.one([lambda: self.digits(1, 8), self.digits, color])
+        return ["interpolate", curve, x, *(part for one in inputs for part in (Number(millionths.written(one)), output()))]
 
     def root(self, form, levels):
         """A whole expression; some are a `format`, or choose among such."""
