@@ -371,9 +371,12 @@ class Maker(making.Maker):
             return [name, self.digits()]
         if name != "interpolate":
             return [name, self.digits(), self.digits()]
-        most = 10 ** (26 if self.slips() else self.one([7, 7, 8, 13]))
-        inputs = sorted(self.rng.sample(range(most), self.rng.randint(2, 4)))
+        most = 10 ** self.one([7, 7, 7, 8, 8, 13, 26])
+        inputs = sorted({self.rng.randrange(most) for _ in self.some(2, 4)})
         x = Number(millionths.written(self.rng.randint(inputs[0], inputs[-1])))
+        if self.rng.random() < 0.3:
+            # In the middle, where the exact result often has half a millionth.
+            inputs, x = [0, 2 * millionths.ONE], Number("1")
         base = Number(millionths.written(self.rng.randint(1, 3 * millionths.ONE)))
         curve = self.one([["linear"], ["exponential", base]])
         color = lambda: ["rgb", *map(Number, self.rng.sample(["0", "1", "0.000001", "254.5", "255"], 3))]
