@@ -1,0 +1,2 @@
+//! Expressions without names, as counted evaluators have them.
+#![tactic(auto)]
