@@ -28,4 +28,4 @@ EachAsksBelow limit (n ∷ ns) = AsksBelow limit n × EachAsksBelow limit ns
 
 -- Each binding asks for earlier ones alone.
 abbrev pub AskEarlier : List Node → Type 0
-AskEarlier bindings = (i : ℕ) (binding : Node) → slice_get bindings i ≡ Some binding → AsksBelow i binding
+AskEarlier ns = (i : ℕ) (n : Node) → slice_get ns i ≡ Some n → AsksBelow i n
