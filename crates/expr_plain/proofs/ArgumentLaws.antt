@@ -1,6 +1,5 @@
 -- The arguments of a node, one after the other.
 use Rattle.std.proofs.Common.{◌≡◌, ℕ, ◌+◌, ◌<◌, ◌≤◌, zero, suc, List, [], ◌∷◌, ◌++◌, length, drop, get_or, Bool, true, false, Option, Some, None, Result, Ok, Err, IsErrAnd, refl, arith, sym, ap, ◌∙◌, subst, append_assoc, append-nil}
-use Rattle.std.proofs.lemmas.List.{drop_all, length-take, take-append-le, drop-append-le}
 use Rattle.std.specs.List.{slice_get}
 use Rattle.prop_values.specs.Data.{Data}
 use Rattle.prop_values.specs.View.{data_of}
@@ -20,18 +19,19 @@ use Rattle.operator_values.specs.Evaluated.{Evaluated, GivesValue, then_value}
 use Rattle.eval_face.specs.World.{World}
 use Rattle.eval_face.specs.Names.{BoundOutcomes}
 use Rattle.eval_face.specs.Branches.{the_output}
-use Rattle.eval_face.specs.Decisions.{first_of, or_later}
-use Rattle.eval_face.specs.Meanings.{Meaning, values_of, and_values, then_values, looked_at, is_sequence, as_sequence}
+use Rattle.eval_face.specs.Meanings.{Meaning, values_of, looked_at, is_sequence, as_sequence}
 use Rattle.eval_face.specs.Meaning.{mean}
 use Rattle.eval_face.specs.Rules.{rule_of}
-use Rattle.expr_plain.specs.Evaluates.{Evaluates, EvaluatesAll, IsBelow, added}
+use Rattle.operator_rules.specs.RuleParts.{argument_at, decided_by, each_of, deciding_of}
+use Rattle.operator_rules.specs.ValueStack.{added, EndsAll}
+use Rattle.operator_rules.proofs.Halts.{then_halted}
+use Rattle.operator_rules.proofs.ArgumentLaws.{after, values_from, made_of, one_given, two_given, one_halted, two_halted, second_halted, values_halted_at, decision_from, decision_halted, decision_found}
+use Rattle.expr_plain.specs.Evaluates.{Evaluates, EvaluatesAll}
 use Rattle.expr_plain.specs.Frames.{names_of}
-use Rattle.expr_plain.specs.RuleParts.{argument_at, applied_by, decided_by, undecided_by, each_of, deciding_of}
-use Rattle.expr_plain.specs.Terms.{meanings, EndsAll}
+use Rattle.expr_plain.specs.Terms.{meanings}
 use Rattle.expr_plain.specs.declared.evaluation.Evaluation.{Evaluation}
 use Rattle.expr_plain.specs.declared.frames.Frames.{Frames}
 use Rattle.expr_plain.proofs.Evaluating.{meant_in, values_in, as_meant, given, halted}
-use Rattle.expr_plain.proofs.Halts.{then_halted}
 
 pub meanings_length : (es : List Expr) → length (meanings es) ≡ length es
 meanings_length [] = refl
@@ -50,184 +50,27 @@ argument_here op es k e own want names world p h w =
     ap (λ x. looked (mean (term_of e) x names world)) w
     ∙ (ap (λ a. meant a (length es)) (sym (meaning_at es k e p h)) ∙ ap (λ n. meant (slice_get (meanings es) k) n) (sym (meanings_length es)))
 
-drop_at : (ms : List Meaning) (k : ℕ) → k < length ms → drop k ms ≡ the_output (slice_get ms k) ∷ drop (k + 1) ms
-drop_at [] k h = absurd (omega arith)
-drop_at (m ∷ ms) zero h = refl
-drop_at (m ∷ ms) (suc k) h =
-    let q : suc (k + 1) ≡ suc k + 1 = omega arith in
-    subst (λ (n : ℕ). drop k ms ≡ the_output (slice_get ms k) ∷ drop n (m ∷ ms)) q (drop_at ms k (omega arith))
-
--- ---- operators that evaluate all their arguments
-
--- values before those that are left
-abbrev pub after : List Data → Result (List Data) EvalFault → Result (List Data) EvalFault
-after ds (Ok es) = Ok (ds ++ es)
-after ds (Err fault) = Err fault
-
--- the values from place k on
-abbrev pub values_from : Operator → List Meaning → ℕ → Want → BoundOutcomes → World → Result (List Data) EvalFault
-values_from op ms k want names world = values_of op (length ms) k (drop k ms) want names world
-
-pub values_next : (op : Operator) (ms : List Meaning) (k : ℕ) (want : Want) (names : BoundOutcomes) (world : World) → k < length ms → values_from op ms k want names world ≡ and_values (argument_at op ms k want names world) (values_from op ms (k + 1) want names world)
-values_next op ms k want names world h = ap (λ xs. values_of op (length ms) k xs want names world) (drop_at ms k h)
-
-pub no_values : (op : Operator) (ms : List Meaning) (k : ℕ) (want : Want) (names : BoundOutcomes) (world : World) → length ms ≤ k → values_from op ms k want names world ≡ Ok []
-no_values op ms k want names world h = ap (λ xs. values_of op (length ms) k xs want names world) (drop_all k ms h)
-
-one_then : (a : Evaluated) (rest : Result (List Data) EvalFault) (go : List Data → Evaluated) → rest ≡ Ok [] → then_values (and_values a rest) go ≡ then_value a (λ d. go (d ∷ []))
-one_then (Ok d) rest go p = ap (λ r. then_values (and_values (Ok d) r) go) p
-one_then (Err f) rest go p = refl
-
-two_then : (a b : Evaluated) (rest : Result (List Data) EvalFault) (go : List Data → Evaluated) → rest ≡ Ok [] → then_values (and_values a (and_values b rest)) go ≡ then_value a (λ d. then_value b (λ e. go (d ∷ e ∷ [])))
-two_then (Ok d) (Ok e) rest go p = ap (λ r. then_values (and_values (Ok d) (and_values (Ok e) r)) go) p
-two_then (Ok d) (Err f) rest go p = refl
-two_then (Err f) b rest go p = refl
-
--- what the operator makes of values
-abbrev pub made_of : Operator → Want → World → List Data → Evaluated
-made_of op want world ds = then_value (applied_by (rule_of op) world ds) (fit want)
-
--- a node of one argument, and of two, by the values of its arguments
-each_one : (op : Operator) (ms : List Meaning) (want : Want) (names : BoundOutcomes) (world : World) → length ms ≡ 1 → then_value (argument_at op ms 0 want names world) (λ d. made_of op want world (d ∷ [])) ≡ each_of op ms want names world
-each_one op ms want names world h =
-    sym (ap (λ r. then_values r (made_of op want world)) (values_next op ms 0 want names world (omega arith))
-    ∙ one_then (argument_at op ms 0 want names world) (values_from op ms 1 want names world) (made_of op want world) (no_values op ms 1 want names world (omega arith)))
-
-each_two : (op : Operator) (ms : List Meaning) (want : Want) (names : BoundOutcomes) (world : World) → length ms ≡ 2 → then_value (argument_at op ms 0 want names world) (λ d. then_value (argument_at op ms 1 want names world) (λ e. made_of op want world (d ∷ e ∷ []))) ≡ each_of op ms want names world
-each_two op ms want names world h =
-    let first = argument_at op ms 0 want names world in
-    let second = argument_at op ms 1 want names world in
-    sym (ap (λ r. then_values r (made_of op want world)) (values_next op ms 0 want names world (omega arith))
-    ∙ (ap (λ r. then_values (and_values first r) (made_of op want world)) (values_next op ms 1 want names world (omega arith))
-    ∙ two_then first second (values_from op ms 2 want names world) (made_of op want world) (no_values op ms 2 want names world (omega arith))))
-
-pub one_given : (op : Operator) (es : List Expr) (want : Want) (names : BoundOutcomes) (world : World) (d : Data) → length es ≡ 1 → argument_at op (meanings es) 0 want names world ≡ Ok d → made_of op want world (d ∷ []) ≡ each_of op (meanings es) want names world
-one_given op es want names world d h a =
-    ap (λ x. then_value x (λ y. made_of op want world (y ∷ []))) (sym a) ∙ each_one op (meanings es) want names world (meanings_length es ∙ h)
-
-pub two_given : (op : Operator) (es : List Expr) (want : Want) (names : BoundOutcomes) (world : World) (d e : Data) → length es ≡ 2 → argument_at op (meanings es) 0 want names world ≡ Ok d → argument_at op (meanings es) 1 want names world ≡ Ok e → made_of op want world (d ∷ e ∷ []) ≡ each_of op (meanings es) want names world
-two_given op es want names world d e h a b =
-    let second = argument_at op (meanings es) 1 want names world in
-    ap (λ x. then_value x (λ z. made_of op want world (d ∷ z ∷ []))) (sym b)
-    ∙ (ap (λ x. then_value x (λ y. then_value second (λ z. made_of op want world (y ∷ z ∷ [])))) (sym a)
-    ∙ each_two op (meanings es) want names world (meanings_length es ∙ h))
-
--- or by the argument that halts
-pub one_halted : (h : Halt EvalFault) (op : Operator) (es : List Expr) (want : Want) (names : BoundOutcomes) (world : World) → length es ≡ 1 → GivesValue (Err h) (argument_at op (meanings es) 0 want names world) → GivesValue (Err h) (each_of op (meanings es) want names world)
-one_halted h op es want names world l g =
-    subst (GivesValue (Err h)) (each_one op (meanings es) want names world (meanings_length es ∙ l))
-    (then_halted h (argument_at op (meanings es) 0 want names world) (λ d. made_of op want world (d ∷ [])) g)
-
-pub two_halted : (h : Halt EvalFault) (op : Operator) (es : List Expr) (want : Want) (names : BoundOutcomes) (world : World) → length es ≡ 2 → GivesValue (Err h) (argument_at op (meanings es) 0 want names world) → GivesValue (Err h) (each_of op (meanings es) want names world)
-two_halted h op es want names world l g =
-    let second = argument_at op (meanings es) 1 want names world in
-    subst (GivesValue (Err h)) (each_two op (meanings es) want names world (meanings_length es ∙ l))
-    (then_halted h (argument_at op (meanings es) 0 want names world) (λ d. then_value second (λ e. made_of op want world (d ∷ e ∷ []))) g)
-
-pub second_halted : (h : Halt EvalFault) (op : Operator) (es : List Expr) (want : Want) (names : BoundOutcomes) (world : World) (d : Data) → length es ≡ 2 → argument_at op (meanings es) 0 want names world ≡ Ok d → GivesValue (Err h) (argument_at op (meanings es) 1 want names world) → GivesValue (Err h) (each_of op (meanings es) want names world)
-second_halted h op es want names world d l a g =
-    let second = argument_at op (meanings es) 1 want names world in
-    subst (GivesValue (Err h))
-    (ap (λ x. then_value x (λ y. then_value second (λ e. made_of op want world (y ∷ e ∷ [])))) (sym a) ∙ each_two op (meanings es) want names world (meanings_length es ∙ l))
-    (then_halted h second (λ e. made_of op want world (d ∷ e ∷ [])) g)
-
--- one value more
-and_one : (ds : List Data) (d : Data) (rest : Result (List Data) EvalFault) → after (ds ++ d ∷ []) rest ≡ after ds (and_values (Ok d) rest)
-and_one ds d (Ok es) = ap Ok (append_assoc ds (d ∷ []) es)
-and_one ds d (Err f) = refl
-
-pub below_length : (old vs : List Value) → IsBelow old vs → length old ≤ length vs
-below_length old vs b = omega (arith, length-take (length old) vs, ap length b)
-
-view_one : (vs : List Value) (v : Value) → values_view (vs ++ v ∷ []) ≡ values_view vs ++ data_of v ∷ []
-view_one [] v = refl
-view_one (w ∷ vs) v = ap (λ ds. data_of w ∷ ds) (view_one vs v)
-
-added_one : (old vs : List Value) (v : Value) → IsBelow old vs → added old (vs ++ v ∷ []) ≡ added old vs ++ data_of v ∷ []
-added_one old vs v b = ap values_view (drop-append-le (length old) vs (v ∷ []) (below_length old vs b)) ∙ view_one (drop (length old) vs) v
-
-pub below_one : (old vs : List Value) (v : Value) → IsBelow old vs → IsBelow old (vs ++ v ∷ [])
-below_one old vs v b = take-append-le (length old) vs (v ∷ []) (below_length old vs b) ∙ b
-
-pub values_more : (op : Operator) (ms : List Meaning) (k : ℕ) (want : Want) (names : BoundOutcomes) (world : World) (old vs : List Value) (v : Value) (whole : Result (List Data) EvalFault) → k < length ms → IsBelow old vs → after (added old vs) (values_from op ms k want names world) ≡ whole → argument_at op ms k want names world ≡ Ok (data_of v) → after (added old (vs ++ v ∷ [])) (values_from op ms (k + 1) want names world) ≡ whole
-values_more op ms k want names world old vs v whole h b q a =
-    let rest = values_from op ms (k + 1) want names world in
-    ap (λ ds. after ds rest) (added_one old vs v b)
-    ∙ (and_one (added old vs) (data_of v) rest
-    ∙ (ap (λ x. after (added old vs) (and_values x rest)) (sym a)
-    ∙ (ap (after (added old vs)) (sym (values_next op ms k want names world h)) ∙ q)))
-
--- all values, where none is left
-pub all_values : (op : Operator) (ms : List Meaning) (k : ℕ) (want : Want) (names : BoundOutcomes) (world : World) (ds : List Data) (whole : Result (List Data) EvalFault) → length ms ≤ k → after ds (values_from op ms k want names world) ≡ whole → whole ≡ Ok ds
-all_values op ms k want names world ds whole h q = sym q ∙ (ap (after ds) (no_values op ms k want names world h) ∙ ap Ok (append-nil ds))
-
--- the values end at an argument that halts
-end_halted : (h : Halt EvalFault) (ds : List Data) (a : Evaluated) (rest whole : Result (List Data) EvalFault) → after ds (and_values a rest) ≡ whole → GivesValue (Err h) a → EndsAll h whole
-end_halted (Fault f) ds a rest whole q g = sym q ∙ ap (λ x. after ds (and_values x rest)) g
-end_halted NoMemory ds a rest whole q g = tt
-
-values_halted_at : (h : Halt EvalFault) (op : Operator) (ms : List Meaning) (k : ℕ) (want : Want) (names : BoundOutcomes) (world : World) (ds : List Data) (whole : Result (List Data) EvalFault) → k < length ms → after ds (values_from op ms k want names world) ≡ whole → GivesValue (Err h) (argument_at op ms k want names world) → EndsAll h whole
-values_halted_at h op ms k want names world ds whole l q g =
-    end_halted h ds (argument_at op ms k want names world) (values_from op ms (k + 1) want names world) whole (ap (after ds) (sym (values_next op ms k want names world l)) ∙ q) g
-
--- ---- operators that stop at the argument that decides
-
--- what the first that decides gives, from place k on
-abbrev pub decision_from : Operator → List Meaning → ℕ → Want → BoundOutcomes → World → Evaluated
-decision_from op ms k want names world =
-    first_of (decided_by (rule_of op)) (undecided_by (rule_of op)) op (length ms) k (drop k ms) want names world
-
-decision_next : (op : Operator) (ms : List Meaning) (k : ℕ) (want : Want) (names : BoundOutcomes) (world : World) → k < length ms → decision_from op ms k want names world ≡ then_value (argument_at op ms k want names world) (λ d. or_later (decided_by (rule_of op) d) (decision_from op ms (k + 1) want names world))
-decision_next op ms k want names world h =
-    ap (λ xs. first_of (decided_by (rule_of op)) (undecided_by (rule_of op)) op (length ms) k xs want names world) (drop_at ms k h)
-
--- an argument that halts, one that decides, and one that does not
-pub decision_halted : (h : Halt EvalFault) (op : Operator) (ms : List Meaning) (k : ℕ) (want : Want) (names : BoundOutcomes) (world : World) → k < length ms → decision_from op ms k want names world ≡ decision_from op ms 0 want names world → GivesValue (Err h) (argument_at op ms k want names world) → GivesValue (Err h) (deciding_of op ms want names world)
-decision_halted h op ms k want names world l q g =
-    let later = λ (d : Data). or_later (decided_by (rule_of op) d) (decision_from op ms (k + 1) want names world) in
-    subst (λ (a : Evaluated). GivesValue (Err h) (then_value a (fit want))) (sym (decision_next op ms k want names world l) ∙ q)
-    (then_halted h (then_value (argument_at op ms k want names world) later) (fit want) (then_halted h (argument_at op ms k want names world) later g))
-
-decision_with : (op : Operator) (ms : List Meaning) (k : ℕ) (want : Want) (names : BoundOutcomes) (world : World) (d : Data) → k < length ms → argument_at op ms k want names world ≡ Ok d → decision_from op ms k want names world ≡ or_later (decided_by (rule_of op) d) (decision_from op ms (k + 1) want names world)
-decision_with op ms k want names world d l a =
-    let later = decision_from op ms (k + 1) want names world in
-    decision_next op ms k want names world l ∙ ap (λ x. then_value x (λ y. or_later (decided_by (rule_of op) y) later)) a
-
-pub decision_found : (op : Operator) (ms : List Meaning) (k : ℕ) (want : Want) (names : BoundOutcomes) (world : World) (d found : Data) → k < length ms → decision_from op ms k want names world ≡ decision_from op ms 0 want names world → argument_at op ms k want names world ≡ Ok d → decided_by (rule_of op) d ≡ Some found → fit want found ≡ deciding_of op ms want names world
-decision_found op ms k want names world d found l q a e =
-    let later = decision_from op ms (k + 1) want names world in
-    ap (λ x. then_value x (fit want)) (sym (ap (λ o. or_later o later) e) ∙ (sym (decision_with op ms k want names world d l a) ∙ q))
-
-pub decision_later : (op : Operator) (ms : List Meaning) (k : ℕ) (want : Want) (names : BoundOutcomes) (world : World) (d : Data) → k < length ms → decision_from op ms k want names world ≡ decision_from op ms 0 want names world → argument_at op ms k want names world ≡ Ok d → decided_by (rule_of op) d ≡ None → decision_from op ms (k + 1) want names world ≡ decision_from op ms 0 want names world
-decision_later op ms k want names world d l q a e =
-    let later = decision_from op ms (k + 1) want names world in
-    sym (ap (λ o. or_later o later) e) ∙ (sym (decision_with op ms k want names world d l a) ∙ q)
-
-pub undecided : (op : Operator) (ms : List Meaning) (k : ℕ) (want : Want) (names : BoundOutcomes) (world : World) → length ms ≤ k → decision_from op ms k want names world ≡ decision_from op ms 0 want names world → then_value (undecided_by (rule_of op)) (fit want) ≡ deciding_of op ms want names world
-undecided op ms k want names world l q =
-    ap (λ x. then_value x (fit want)) (sym (ap (λ xs. first_of (decided_by (rule_of op)) (undecided_by (rule_of op)) op (length ms) k xs want names world) (drop_all k ms l)) ∙ q)
-
 -- ---- what is given of evaluated arguments
 
 pub one_evaluates : {r : Result Value (Halt EvalFault)} {v : Value} (op : Operator) (es : List Expr) {want : Want} {frames : Frames} {world : World} {a : Evaluation} {b : Evaluation} → length es ≡ 1 → Evaluates (Ok v) (argument_at op (meanings es) 0) want frames world a b → GivesValue r (made_of op want world (data_of v ∷ [])) → Evaluates r (each_of op (meanings es)) want frames world a b
 one_evaluates {r} {v} op es {want} {frames} {world} l h g =
-    given (subst (GivesValue r) (one_given op es want (names_of frames.scope.now world) world (data_of v) l h.meant) g) h.entered h.stands
+    given (subst (GivesValue r) (one_given op (meanings es) want (names_of frames.scope.now world) world (data_of v) (meanings_length es ∙ l) h.meant) g) h.entered h.stands
 
 pub one_halts : {r : Result Value (Halt EvalFault)} {h : (Halt EvalFault)} (op : Operator) (es : List Expr) {want : Want} {frames : Frames} {world : World} {a : Evaluation} {b : Evaluation} {c : Evaluation} {d : Evaluation} → length es ≡ 1 → Evaluates (Err h) (argument_at op (meanings es) 0) want frames world a b → IsErrAnd r (λ y. y ≡ h) → Evaluates r (each_of op (meanings es)) want frames world c d
 one_halts {r} {h} op es {want} {frames} {world} l e k =
-    halted _ k (one_halted h op es want (names_of frames.scope.now world) world l e.meant)
+    halted _ k (one_halted h op (meanings es) want (names_of frames.scope.now world) world (meanings_length es ∙ l) e.meant)
 
 pub two_evaluate : {r : Result Value (Halt EvalFault)} {v : Value} {w : Value} (op : Operator) (es : List Expr) {want : Want} {frames : Frames} {world : World} {a : Evaluation} {b : Evaluation} {c : Evaluation} → length es ≡ 2 → Evaluates (Ok v) (argument_at op (meanings es) 0) want frames world a b → Evaluates (Ok w) (argument_at op (meanings es) 1) want frames world b c → GivesValue r (made_of op want world (data_of v ∷ data_of w ∷ [])) → Evaluates r (each_of op (meanings es)) want frames world a c
 two_evaluate {r} {v} {w} op es {want} {frames} {world} l h i g =
-    given (subst (GivesValue r) (two_given op es want (names_of frames.scope.now world) world (data_of v) (data_of w) l h.meant i.meant) g) i.entered (i.stands ∙ h.stands)
+    given (subst (GivesValue r) (two_given op (meanings es) want (names_of frames.scope.now world) world (data_of v) (data_of w) (meanings_length es ∙ l) h.meant i.meant) g) i.entered (i.stands ∙ h.stands)
 
 pub first_halts : {r : Result Value (Halt EvalFault)} {h : (Halt EvalFault)} (op : Operator) (es : List Expr) {want : Want} {frames : Frames} {world : World} {a : Evaluation} {b : Evaluation} {c : Evaluation} {d : Evaluation} → length es ≡ 2 → Evaluates (Err h) (argument_at op (meanings es) 0) want frames world a b → IsErrAnd r (λ y. y ≡ h) → Evaluates r (each_of op (meanings es)) want frames world c d
 first_halts {r} {h} op es {want} {frames} {world} l e k =
-    halted _ k (two_halted h op es want (names_of frames.scope.now world) world l e.meant)
+    halted _ k (two_halted h op (meanings es) want (names_of frames.scope.now world) world (meanings_length es ∙ l) e.meant)
 
 pub second_halts : {r : Result Value (Halt EvalFault)} {v : Value} {h : (Halt EvalFault)} (op : Operator) (es : List Expr) {want : Want} {frames : Frames} {world : World} {a : Evaluation} {b : Evaluation} {c : Evaluation} {d : Evaluation} {e : Evaluation} → length es ≡ 2 → Evaluates (Ok v) (argument_at op (meanings es) 0) want frames world a b → Evaluates (Err h) (argument_at op (meanings es) 1) want frames world b c → IsErrAnd r (λ y. y ≡ h) → Evaluates r (each_of op (meanings es)) want frames world d e
 second_halts {r} {v} {h} op es {want} {frames} {world} l i e k =
-    halted _ k (second_halted h op es want (names_of frames.scope.now world) world (data_of v) l i.meant e.meant)
+    halted _ k (second_halted h op (meanings es) want (names_of frames.scope.now world) world (data_of v) (meanings_length es ∙ l) i.meant e.meant)
 
 -- an argument before the end that halts, as `?` hands it on
 pub values_halt : {A : Type 0} {r : Result A (Halt EvalFault)} {h : (Halt EvalFault)} (op : Operator) (ms : List Meaning) (old vs : List Value) {k : ℕ} {want : Want} {frames : Frames} {world : World} {a b c d : Evaluation} → k < length ms → after (added old vs) (values_in (values_from op ms k) want frames world) ≡ values_in (values_from op ms 0) want frames world → Evaluates (Err h) (argument_at op ms k) want frames world a b → IsErrAnd r (λ y. y ≡ h) → EvaluatesAll r (values_of op (length ms) 0 ms) want frames world c d

@@ -1,7 +1,6 @@
 -- What decides between outputs, as slices of the code have it.
 use Rattle.std.proofs.Common.{◌≡◌, ℕ, ◌-◌, ◌≤◌, ◌<◌, ℤ, List, [], ◌∷◌, length, Bool, true, false, Result, Ok, Err, refl, zero, suc, sym, ap, ◌∙◌, subst, arith, get_or, take, drop, take_all}
-use Rattle.fixed_num.specs.declared.fixed.Arith.{Arith}
-use Rattle.prop_values.specs.Data.{Data, null, boolean, number, text, color, list, map}
+use Rattle.prop_values.specs.Data.{Data}
 use Rattle.prop_values.specs.declared.fault.EvalFault.{EvalFault}
 use Rattle.prop_values.specs.declared.fault.EvalFault.TheVariants.{WrongType}
 use Rattle.prop_values.specs.declared.kinds.Want.{Want}
@@ -25,7 +24,9 @@ use Rattle.eval_face.specs.World.{World}
 use Rattle.eval_face.specs.Names.{BoundOutcomes}
 use Rattle.eval_face.specs.Branches.{branch, case_of, output_at, match_of, with_number, ramp_of, ramp_at}
 use Rattle.eval_face.specs.Meaning.{mean}
-use Rattle.expr_plain.specs.Terms.{meanings, condition_in, number_in}
+use Rattle.operator_rules.specs.Inputs.{condition_in, number_in}
+use Rattle.operator_rules.proofs.InputLaws.{by_flag, branch_by, by_number, number_with, moved_by}
+use Rattle.expr_plain.specs.Terms.{meanings}
 use Rattle.expr_plain.specs.Evaluates.{Evaluates}
 use Rattle.expr_plain.specs.Frames.{names_of}
 use Rattle.expr_plain.specs.declared.evaluation.Evaluation.{Evaluation}
@@ -34,22 +35,6 @@ use Rattle.expr_plain.proofs.ArgumentLaws.{meanings_length}
 use Rattle.expr_plain.proofs.Evaluating.{as_meant, given}
 
 -- ---- `case`
-
--- what a condition chooses
-abbrev pub by_flag : Result Bool EvalFault → Evaluated → Evaluated → Evaluated
-by_flag (Ok true) output later = output
-by_flag (Ok false) output later = later
-by_flag (Err fault) output later = Err fault
-
-branch_by : (d : Data) (output later : Evaluated) → branch (Ok d) output later ≡ by_flag (condition_in d) output later
-branch_by (boolean true) output later = refl
-branch_by (boolean false) output later = refl
-branch_by null output later = refl
-branch_by (number z) output later = refl
-branch_by (text s) output later = refl
-branch_by (color c) output later = refl
-branch_by (list ds) output later = refl
-branch_by (map ps) output later = refl
 
 -- what is left after the first condition and its output
 abbrev pub rest_of : List Expr → List Expr
@@ -113,23 +98,6 @@ match_with labels es e want names world d place p h m s =
     ∙ (ap (λ x. then_value x (λ y. output_at (meanings outputs) (output_of labels y (length outputs - 1)) want names world)) (sym m)
     ∙ match_first labels es e want names world p h)
 
--- what a number goes on to
-abbrev pub by_number : Result ℤ EvalFault → (ℤ → Evaluated) → Evaluated
-by_number (Ok z) go = go z
-by_number (Err fault) go = Err fault
-
-number_by : (d : Data) (go : ℤ → Evaluated) → with_number (Ok d) go ≡ by_number (number_in d) go
-number_by (number z) go = refl
-number_by null go = refl
-number_by (boolean b) go = refl
-number_by (text s) go = refl
-number_by (color c) go = refl
-number_by (list ds) go = refl
-number_by (map ps) go = refl
-
-number_with : (a : Evaluated) (d : Data) (x : Result ℤ EvalFault) (go : ℤ → Evaluated) → a ≡ Ok d → x ≡ number_in d → by_number x go ≡ with_number a go
-number_with a d x go p q = ap (λ y. by_number y go) q ∙ (sym (number_by d go) ∙ ap (λ y. with_number y go) (sym p))
-
 -- ---- `interpolate`
 
 -- what is at an input that was moved, before it is fitted, and the ramp of a value
@@ -148,10 +116,6 @@ ramp_first curve inputs es e want names world p h = ap (λ ms. ramp_of curve inp
 pub ramp_with : (curve : Curve) (inputs : List ℤ) (es : List Expr) (e : Expr) (want : Want) (names : BoundOutcomes) (world : World) (d : Data) (x : Result ℤ EvalFault) → e ≡ get_or es 0 e → 1 ≤ length es → mean (term_of e) wants.Number names world ≡ Ok d → x ≡ number_in d → by_number x (ramp_from curve inputs es want names world) ≡ ramp_of curve inputs (meanings es) want names world
 ramp_with curve inputs es e want names world d x p h m n =
     number_with (mean (term_of e) wants.Number names world) d x (ramp_from curve inputs es want names world) m n ∙ ramp_first curve inputs es e want names world p h
-
-moved_by : (r : Result ℤ Arith) (go : ℤ → Evaluated) → by_number (or_fault r) go ≡ then_number r go
-moved_by (Ok z) go = refl
-moved_by (Err a) go = refl
 
 -- a ramp by the input that its curve moved
 pub ramp_moved : (curve : Curve) (inputs : List ℤ) (es : List Expr) (e : Expr) (want : Want) (names : BoundOutcomes) (world : World) (d : Data) (z : ℤ) (at : Result ℤ EvalFault) → e ≡ get_or es 0 e → 1 ≤ length es → mean (term_of e) wants.Number names world ≡ Ok d → Ok z ≡ number_in d → at ≡ or_fault (warp_of curve inputs z) → moved_to at (output_in inputs es want names world) want ≡ ramp_of curve inputs (meanings es) want names world

@@ -1,6 +1,4 @@
 pub mod Evaluating
-pub mod Halts
-pub mod RuleLaws
 pub mod ArgumentLaws
 pub mod BranchLaws
 pub mod FrameLaws

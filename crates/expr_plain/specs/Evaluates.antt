@@ -1,7 +1,6 @@
 -- What an evaluation gives, and what it leaves as it was.
-use Rattle.std.specs.Prelude.{◌≡◌, List, length, take, drop, Result, IfOk}
+use Rattle.std.specs.Prelude.{◌≡◌, List, Result, IfOk}
 use Rattle.prop_values.specs.Data.{Data}
-use Rattle.prop_values.specs.ViewParts.{values_view}
 use Rattle.prop_values.specs.declared.fault.EvalFault.{EvalFault}
 use Rattle.prop_values.specs.declared.kinds.Want.{Want}
 use Rattle.prop_values.specs.declared.value.Value.{Value}
@@ -10,8 +9,8 @@ use Rattle.operator_values.specs.Evaluated.{GivesValue}
 use Rattle.eval_face.specs.Meanings.{Meaning}
 use Rattle.eval_face.specs.Names.{BoundOutcomes}
 use Rattle.eval_face.specs.World.{World}
+use Rattle.operator_rules.specs.ValueStack.{GivesAll, IsBelow, added}
 use Rattle.expr_plain.specs.Frames.{names_of, IsEntered}
-use Rattle.expr_plain.specs.Terms.{GivesAll}
 use Rattle.expr_plain.specs.declared.evaluation.Evaluation.{Evaluation}
 use Rattle.expr_plain.specs.declared.frames.Frames.{Frames}
 
@@ -22,14 +21,6 @@ pub record Evaluates (result : Result Value (Halt EvalFault)) (meaning : Meaning
   pub meant : GivesValue result (meaning want (names_of frames.scope.now world) world)
   pub entered : IfOk result (λ _. IsEntered frames world after)
   pub stands : IfOk result (λ _. after.values.items ≡ before.values.items)
-
--- A stack is still there below what was added to it.
-abbrev pub IsBelow : List Value → List Value → Type 0
-IsBelow old new = take (length old) new ≡ old
-
--- what was added
-abbrev pub added : List Value → List Value → List Data
-added old new = values_view (drop (length old) new)
 
 -- The values that are meant are added to the stack of values, and the frames are still entered.
 pub record EvaluatesAll {A : Type 0} (result : Result A (Halt EvalFault))

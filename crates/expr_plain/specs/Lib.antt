@@ -2,9 +2,6 @@
 pub mod Resolved
 -- What only contracts of private functions and proofs use.
 pub mod Terms
-pub mod OpenSection
-pub mod RuleParts
-pub mod ProgramRules
 pub mod Slots
 pub mod Frames
 pub mod Evaluates

@@ -4,17 +4,17 @@
 ghost use Rattle.std.specs.Prelude.{◌<◌, length};
 ghost use Rattle.eval_face.specs.Meanings.{values_of};
 ghost use Rattle.expr_plain.specs.Terms.{meanings};
-ghost use Rattle.expr_plain.specs.RuleParts.{argument_at, each_of, deciding_of};
+ghost use Rattle.operator_rules.specs.RuleParts.{argument_at, each_of, deciding_of};
 ghost use Rattle.expr_plain.specs.Frames.{IsEntered};
 ghost use Rattle.expr_plain.specs.Evaluates.{Evaluates, EvaluatesAll};
 
-use crate::applying::{decided, fitted, fitted_copy, node_value, undecided};
 use crate::borrowed::borrowed_decision;
 use crate::evaluation::Evaluation;
 use crate::frames::Environment;
-use crate::sequences::{as_sequence, is_sequence};
-use crate::world_view::WorldView;
 use expr_syntax::{Expr, Operator};
+use operator_rules::{
+    WorldView, as_sequence, decided, fitted, fitted_copy, is_sequence, node_value, undecided,
+};
 use operator_values::Halt;
 use prop_values::{Value, Want};
 

@@ -5,12 +5,11 @@ ghost use Rattle.expr_plain.specs.Terms.{meanings};
 ghost use Rattle.expr_plain.specs.Frames.{IsEntered};
 ghost use Rattle.expr_plain.specs.Evaluates.{Evaluates};
 
-use crate::applying::{fitted, fitted_copy};
 use crate::evaluation::Evaluation;
 use crate::frames::{BindingScope, Environment, Frames, binding_of};
-use crate::world_view::WorldView;
 use decimal_json::Text;
 use expr_syntax::{Expr, Names};
+use operator_rules::{WorldView, fitted, fitted_copy};
 use operator_values::Halt;
 use prop_values::{EvalFault, Value, Want};
 

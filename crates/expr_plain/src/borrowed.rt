@@ -7,12 +7,11 @@ ghost use Rattle.property_tables.specs.Fitting.{fit};
 ghost use Rattle.expr_syntax.specs.TermView.{term_of};
 ghost use Rattle.eval_face.specs.Names.{BoundOutcomes};
 ghost use Rattle.eval_face.specs.Meaning.{mean, node_meaning};
-ghost use Rattle.expr_plain.specs.RuleParts.{decision_of};
+ghost use Rattle.operator_rules.specs.RuleParts.{decision_of};
 ghost use Rattle.expr_plain.specs.Terms.{meanings};
 
-use crate::applying::asserts;
-use crate::world_view::WorldView;
 use expr_syntax::{Expr, Operator};
+use operator_rules::{WorldView, asserts};
 use prop_values::Value;
 
 /// A literal, or the property of a literal key: the value of the expression before it is fitted.

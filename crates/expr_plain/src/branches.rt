@@ -1,27 +1,21 @@
 //! What decides between outputs, and the output that it chooses.
 
 ghost use Rattle.std.specs.Prelude.{◌≡◌, ◌<◌, ◌+◌, length};
-ghost use Rattle.interpolate_fixed.specs.Places.{input_at, place_of};
-ghost use Rattle.interpolate_fixed.specs.PlaceFacts.{IsAscending, IsBetween, HasPositiveBase};
-ghost use Rattle.interpolate_fixed.specs.Warp.{warp_of};
-ghost use Rattle.prop_values.specs.View.{data_of};
-ghost use Rattle.operator_values.specs.Evaluated.{GivesValue, or_fault};
-ghost use Rattle.operator_values.specs.Ramps.{between_of};
+ghost use Rattle.interpolate_fixed.specs.Places.{place_of};
+ghost use Rattle.interpolate_fixed.specs.PlaceFacts.{IsAscending};
 ghost use Rattle.eval_face.specs.Branches.{case_of, match_of, step_of, ramp_of, ramp_at, output_at};
-ghost use Rattle.expr_plain.specs.Terms.{meanings, condition_in, number_in};
+ghost use Rattle.expr_plain.specs.Terms.{meanings};
 ghost use Rattle.expr_plain.specs.Frames.{IsEntered};
 ghost use Rattle.expr_plain.specs.Evaluates.{Evaluates};
 
-use crate::applying::fitted;
 use crate::evaluation::Evaluation;
 use crate::frames::Environment;
-use crate::world_view::WorldView;
 use expr_syntax::{Expr, Labels, Ramp, ramp_want};
 use fixed_num::Fixed;
-use interpolate_fixed::{StopPlace, step_place, stop_place, warp};
-use operator_values::{Halt, value_between};
+use interpolate_fixed::{StopPlace, step_place, stop_place};
+use operator_rules::{WorldView, between, condition, fitted, number_of, warped};
+use operator_values::Halt;
 use prop_values::{EvalFault, Value, Want};
-use std::alloc::Global;
 
 impl Evaluation {
     /// `case`.
@@ -163,50 +157,5 @@ impl Evaluation {
         } else {
             Err(Halt::Fault(EvalFault::WrongType))
         }
-    }
-}
-
-// The input that a curve moves between its neighbours.
-fn warped(ramp: &Ramp, given: Fixed) -> Result<Fixed, EvalFault>
-    ensures { result ≡ or_fault (warp_of ramp.now.0 ramp.now.1 given) }
-{
-    Ok(warp(ramp.curve(), ramp.inputs(), given)?)
-}
-
-// What is between the outputs of input i and of the next: the inputs are read here, outside of the cycle, whose proof
-// is the dearest.
-fn between(
-    alloc: Global,
-    inputs: &[Fixed],
-    at: Fixed,
-    i: usize,
-    lower: &Value,
-    upper: &Value,
-) -> Result<Value, Halt>
-    requires { IsBetween inputs.now at i }
-    ensures { GivesValue result
-        (between_of at (input_at inputs.now i) (data_of lower.now)
-        (input_at inputs.now (i + 1)) (data_of upper.now)) }
-{
-    value_between(alloc, at, inputs[i], lower, inputs[i + 1], upper)
-}
-
-// The truth value that a condition is.
-fn condition(value: Value) -> Result<bool, EvalFault>
-    ensures { result ≡ condition_in (data_of value) }
-{
-    match value {
-        Value::Bool(flag) => Ok(flag),
-        _ => Err(EvalFault::WrongType),
-    }
-}
-
-// The number that an input is.
-fn number_of(value: Value) -> Result<Fixed, EvalFault>
-    ensures { result ≡ number_in (data_of value) }
-{
-    match value {
-        Value::Num(number) => Ok(number),
-        _ => Err(EvalFault::WrongType),
     }
 }

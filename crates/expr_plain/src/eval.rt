@@ -8,10 +8,10 @@ ghost use Rattle.expr_plain.specs.declared.frames.BindingScope.{Empty};
 
 use crate::evaluation::Evaluation;
 use crate::frames::{BindingScope, Environment, Frames};
-use crate::world_view::{TestedContext, WorldView};
 use eval_face::Context;
 use expr_syntax::Expr;
 use host_ops::HostOp;
+use operator_rules::{TestedContext, WorldView};
 use operator_values::Halt;
 use prop_values::{EvalFault, Value, Want};
 use std::alloc::{AllocError, Global};

@@ -8,13 +8,12 @@ ghost use Rattle.prop_values.specs.ViewParts.{values_view};
 ghost use Rattle.property_tables.specs.Fitting.{fit};
 ghost use Rattle.operator_values.specs.Evaluated.{GivesValue, then_value};
 ghost use Rattle.eval_face.specs.Rules.{rule_of};
-ghost use Rattle.expr_plain.specs.RuleParts.{applied_by};
+ghost use Rattle.operator_rules.specs.RuleParts.{applied_by};
 ghost use Rattle.expr_plain.specs.Slots.{waiting, done_in};
 ghost use Rattle.expr_plain.specs.declared.evaluation.BindingSlot.TheVariants.{Done};
 
-use crate::applying::node_value;
-use crate::world_view::WorldView;
 use expr_syntax::{Expr, Operator};
+use operator_rules::{WorldView, node_value};
 use operator_values::Halt;
 use prop_values::{Value, Want, copy};
 use std::alloc::{AllocError, Global};

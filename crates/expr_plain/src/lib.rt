@@ -18,14 +18,12 @@
 //! borrowed, also as the first argument of a `number`, `string` or `boolean`. An operator of one or two arguments takes no memory
 //! for them, and the values of more are on one stack. The recursion is as deep as the expression.
 //!
-//! A new operator has its row in `expr_syntax` and its rule in `eval_face`. One that evaluates all its arguments has its line in
-//! `applied`, and one that stops at the argument that decides has its line in `decides` and in `undecided`, all three in `applying.rt`.
-//! One whose parts decide has a variant of `OperatorRule`.
+//! A new operator has its row in `expr_syntax`, its rule in `eval_face` and its line in `operator_rules`. One whose parts decide has a
+//! function here, which `nodes.rt` calls.
 //!
 //! The text to believe is in `specs/`: `Resolved`.
 #![tactic(auto)]
 
-mod applying;
 mod arguments;
 mod bindings;
 mod borrowed;
@@ -33,13 +31,8 @@ mod branches;
 mod eval;
 mod evaluation;
 mod frames;
-mod lookups;
 mod nodes;
 mod outcome;
-mod rule;
-mod sections;
-mod sequences;
-mod world_view;
 
 pub use eval::eval_plain;
 pub use outcome::{passes, resolved};

@@ -6,13 +6,11 @@ ghost use Rattle.expr_plain.specs.Terms.{meanings};
 ghost use Rattle.expr_plain.specs.Frames.{IsEntered};
 ghost use Rattle.expr_plain.specs.Evaluates.{Evaluates};
 
-use crate::applying::fitted_copy;
 use crate::borrowed::borrowed_property;
 use crate::evaluation::Evaluation;
 use crate::frames::Environment;
-use crate::rule::{OperatorRule, rule_of};
-use crate::world_view::WorldView;
 use expr_syntax::{Expr, Operator};
+use operator_rules::{OperatorRule, WorldView, fitted_copy, rule_of};
 use operator_values::Halt;
 use prop_values::{Value, Want};
 

@@ -10,11 +10,12 @@ use Rattle.expr_syntax.specs.TermView.{weight}
 use Rattle.operator_values.specs.Evaluated.{GivesValue, then_value}
 use Rattle.halts.specs.declared.halt.Halt.TheVariants.{Fault}
 use Rattle.eval_face.specs.Bindings.{outcomes_of}
-use Rattle.expr_plain.specs.Evaluates.{added, IsBelow}
+use Rattle.operator_rules.specs.ValueStack.{added, IsBelow}
 use Rattle.expr_plain.specs.Frames.{names_of, promises, scope_size, AreKept}
 use Rattle.expr_plain.specs.Terms.{meanings}
 use Rattle.expr_plain.specs.declared.evaluation.BindingSlot.{BindingSlot}
-use Rattle.expr_plain.proofs.ArgumentLaws.{after, values_from, one_evaluates, one_halts, two_evaluate, first_halts, second_halts, values_halt, values_more, all_values, argument_evaluates, sequence_evaluates, sequence_halts, deciding_evaluates, deciding_halts, decision_later, undecided, below_one, meanings_length}
+use Rattle.operator_rules.proofs.ArgumentLaws.{after, values_from, values_more, all_values, decision_later, undecided, below_one}
+use Rattle.expr_plain.proofs.ArgumentLaws.{one_evaluates, one_halts, two_evaluate, first_halts, second_halts, values_halt, argument_evaluates, sequence_evaluates, sequence_halts, deciding_evaluates, deciding_halts, meanings_length}
 use Rattle.expr_plain.proofs.BranchLaws.{case_by, rest_weight, match_evaluates, ramp_evaluates}
 use Rattle.expr_plain.proofs.BindingLaws.{slot_within, kept_evaluates, binding_evaluates, let_evaluates}
 use Rattle.expr_plain.proofs.Evaluating.{values_in, given, halted}

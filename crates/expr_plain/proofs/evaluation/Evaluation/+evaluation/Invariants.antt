@@ -3,10 +3,10 @@ use Rattle.expr_syntax.specs.TermSize.{nodes}
 use Rattle.expr_syntax.specs.TermView.{term_of}
 use Rattle.expr_syntax.specs.TermView.{weight}
 use Rattle.eval_face.specs.Branches.{case_of}
-use Rattle.expr_plain.specs.Evaluates.{IsBelow, added}
+use Rattle.operator_rules.specs.ValueStack.{IsBelow, added}
 use Rattle.expr_plain.specs.Frames.{IsEntered, scope_size}
 use Rattle.expr_plain.specs.Terms.{meanings}
-use Rattle.expr_plain.proofs.ArgumentLaws.{after, values_from, decision_from}
+use Rattle.operator_rules.proofs.ArgumentLaws.{after, values_from, decision_from}
 use Rattle.expr_plain.proofs.Evaluating.{meant_in, values_in}
 use Rattle.expr_plain.proofs.evaluation.Evaluation.+evaluation.Given as goal
 

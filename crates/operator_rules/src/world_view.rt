@@ -11,7 +11,7 @@ use prop_values::Entries;
 use tile_reader::Shape;
 
 /// What an expression reads of the world, each part by a call of its own.
-pub(crate) trait WorldView {
+pub trait WorldView {
     /// The world that is read.
     ghost world: { Self → World };
 
@@ -41,10 +41,10 @@ pub(crate) trait WorldView {
 
 /// A context and the two tests.
 #[derive(Drop)]
-pub(crate) struct TestedContext<'a, 'c, I, S> {
-    pub(crate) context: &'a Context<'c>,
-    pub(crate) images: &'a I,
-    pub(crate) scripts: &'a S,
+pub struct TestedContext<'a, 'c, I, S> {
+    pub context: &'a Context<'c>,
+    pub images: &'a I,
+    pub scripts: &'a S,
 }
 
 impl<I: TextTest, S: TextTest> WorldView for TestedContext<'_, '_, I, S> {

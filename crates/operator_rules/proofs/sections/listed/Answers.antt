@@ -5,8 +5,8 @@ use Rattle.prop_values.specs.ViewParts.{values_view}
 use Rattle.prop_values.specs.declared.value.Value.{Value}
 use Rattle.expr_syntax.specs.declared.parts.FormatPiece.{FormatPiece}
 use Rattle.eval_face.specs.Sections.{Open, add_pieces, closed}
-use Rattle.expr_plain.proofs.sections.listed.Goals.{then-loop-place-test+else-place-values, else-loop-place-test}
-use Rattle.expr_plain.proofs.sections.listed.Goals as goal
+use Rattle.operator_rules.proofs.sections.listed.Goals.{then-loop-place-test+else-place-values, else-loop-place-test}
+use Rattle.operator_rules.proofs.sections.listed.Goals as goal
 
 no_values : (ps : List FormatPiece) (o : Open) → add_pieces ps [] o ≡ Ok o
 no_values [] o = refl

@@ -1,6 +1,6 @@
 use Rattle.std.proofs.Common.{◌∙◌, ap}
-use Rattle.expr_plain.proofs.RuleLaws.{each_rule}
-use Rattle.expr_plain.proofs.rule.rule_of.Goals as goal
+use Rattle.operator_rules.proofs.RuleLaws.{each_rule}
+use Rattle.operator_rules.proofs.rule.rule_of.Goals as goal
 
 pub returns-in_default-manner : goal.returns-in_default-manner
 returns-in_default-manner c = record {

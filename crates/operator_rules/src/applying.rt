@@ -7,7 +7,7 @@ ghost use Rattle.prop_values.specs.ViewParts.{values_view, evaluated_of};
 ghost use Rattle.property_tables.specs.Fitting.{fit};
 ghost use Rattle.operator_values.specs.Evaluated.{GivesValue, then_value};
 ghost use Rattle.eval_face.specs.Rules.{rule_of, array_of};
-ghost use Rattle.expr_plain.specs.RuleParts.{applied_by, decided_by, undecided_by, asserts, decides_as_it_is};
+ghost use Rattle.operator_rules.specs.RuleParts.{applied_by, decided_by, undecided_by, asserts, decides_as_it_is};
 
 use crate::lookups::{
     all_properties, has_property, id_value, image, property, state_member, supported_script,
@@ -27,7 +27,7 @@ use property_tables::fit;
 use std::alloc::Global;
 
 /// A value fitted to a want.
-pub(crate) fn fitted(alloc: Global, value: Value, want: &Want) -> Result<Value, Halt>
+pub fn fitted(alloc: Global, value: Value, want: &Want) -> Result<Value, Halt>
     ensures { GivesValue result (fit want.now (data_of value)) }
 {
     if is_fitted(&value, want) {
@@ -38,7 +38,7 @@ pub(crate) fn fitted(alloc: Global, value: Value, want: &Want) -> Result<Value, 
 
 /// A copy of a value, fitted to a want. A number, of which features have millions, is made anew: that takes less than to move a
 /// value through the forms of an answer.
-pub(crate) fn fitted_copy(alloc: Global, value: &Value, want: &Want) -> Result<Value, Halt>
+pub fn fitted_copy(alloc: Global, value: &Value, want: &Want) -> Result<Value, Halt>
     ensures { GivesValue result (fit want.now (data_of value.now)) }
 {
     match (want, value) {
@@ -62,7 +62,7 @@ fn is_fitted(value: &Value, want: &Want) -> bool
 }
 
 /// What an operator gives of the values of all its arguments, fitted to the want of its node.
-pub(crate) fn node_value<W: WorldView>(
+pub fn node_value<W: WorldView>(
     alloc: Global,
     op: &Operator,
     values: &[Value],
@@ -77,7 +77,7 @@ pub(crate) fn node_value<W: WorldView>(
 }
 
 /// What an operator that evaluates all its arguments gives of their values.
-pub(crate) fn applied<W: WorldView>(
+pub fn applied<W: WorldView>(
     alloc: Global,
     op: &Operator,
     values: &[Value],
@@ -151,7 +151,7 @@ fn array(
 }
 
 /// What a value decides for an operator that stops at the argument that decides, or `None` where it decides nothing.
-pub(crate) fn decided(op: &Operator, value: Value) -> Option<Value>
+pub fn decided(op: &Operator, value: Value) -> Option<Value>
     ensures { option_map data_of result ≡ decided_by (rule_of op.now) (data_of value) }
 {
     match op {
@@ -182,7 +182,7 @@ fn decides(op: &Operator, value: &Value) -> bool
 }
 
 /// Whether an operator asserts the form that a value has, so that it gives the value as it is.
-pub(crate) fn asserts(op: &Operator, value: &Value) -> bool
+pub fn asserts(op: &Operator, value: &Value) -> bool
     ensures { result ≡ asserts op.now (data_of value.now) }
 {
     match op {
@@ -194,7 +194,7 @@ pub(crate) fn asserts(op: &Operator, value: &Value) -> bool
 }
 
 /// What an operator gives where no argument decides.
-pub(crate) fn undecided(op: &Operator) -> Result<Value, EvalFault>
+pub fn undecided(op: &Operator) -> Result<Value, EvalFault>
     ensures { evaluated_of result ≡ undecided_by (rule_of op.now) }
 {
     match op {

@@ -2,7 +2,7 @@
 
 ghost use Rattle.std.specs.Prelude.{◌≡◌};
 ghost use Rattle.eval_face.specs.Rules.{rule_of};
-ghost use Rattle.expr_plain.specs.ProgramRules.{rule_in, HasAscendingInputs};
+ghost use Rattle.operator_rules.specs.ProgramRules.{rule_in, HasAscendingInputs};
 
 use decimal_json::Text;
 use expr_syntax::{Labels, Manner, Names, Operator, Ramp};
@@ -10,7 +10,7 @@ use fixed_num::Fixed;
 
 /// How an operator evaluates its arguments, and what decides between them.
 #[derive(Drop)]
-pub(crate) enum OperatorRule<'a> {
+pub enum OperatorRule<'a> {
     /// All of them, and their values decide.
     Each,
     /// One after the other, to the first that decides.
@@ -30,7 +30,7 @@ pub(crate) enum OperatorRule<'a> {
 }
 
 /// The rule of an operator. Where no part decides it is that of the manner in the operator's row.
-pub(crate) fn rule_of<'a>(op: &'a Operator) -> OperatorRule<'a>
+pub fn rule_of<'a>(op: &'a Operator) -> OperatorRule<'a>
     ensures rule { rule_in op.now result ≡ rule_of op.now }
     ensures sound { HasAscendingInputs result }
 {

@@ -2,7 +2,7 @@ use Rattle.std.proofs.Common.{◌≡◌, ◌-◌, [], drop, length}
 use Rattle.prop_values.specs.ViewParts.{values_view}
 use Rattle.format_text.specs.Sections.{section_with}
 use Rattle.eval_face.specs.Sections.{add_pieces}
-use Rattle.expr_plain.proofs.sections.listed.Given as goal
+use Rattle.operator_rules.proofs.sections.listed.Given as goal
 
 -- what is left makes of the open section what all of them make of the first
 abbrev pub invariant-loop-place : goal.invariant-loop-place

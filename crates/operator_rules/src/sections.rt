@@ -9,7 +9,7 @@ ghost use Rattle.expr_syntax.specs.declared.parts.Role.TheVariants.{Scale, Font,
 ghost use Rattle.operator_values.specs.Evaluated.{GivesValue};
 ghost use Rattle.halts.specs.declared.halt.Halt.TheVariants.{NoMemory};
 ghost use Rattle.eval_face.specs.Sections.{add_piece, add_pieces, closed, format_of};
-ghost use Rattle.expr_plain.specs.OpenSection.{GivesOpen};
+ghost use Rattle.operator_rules.specs.OpenSection.{GivesOpen};
 
 use decimal_json::Text;
 use expr_syntax::{FormatPiece, Role};

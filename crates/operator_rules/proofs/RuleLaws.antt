@@ -9,7 +9,7 @@ use Rattle.expr_syntax.specs.declared.rows.Manner.TheVariants as manners
 use Rattle.expr_syntax.specs.Names.{row}
 use Rattle.expr_syntax.specs.Operators.{operator_name}
 use Rattle.eval_face.specs.Rules.{each, rule_of}
-use Rattle.expr_plain.specs.RuleParts.{applied_by}
+use Rattle.operator_rules.specs.RuleParts.{applied_by}
 
 abbrev pub manner_of : Operator → Manner
 manner_of op = (row (operator_name op)).manner

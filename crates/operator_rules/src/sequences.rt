@@ -11,7 +11,7 @@ use expr_syntax::Operator;
 use prop_values::{EvalFault, Value};
 
 /// Whether the argument of a place has to be a text or a list.
-pub(crate) fn is_sequence(op: &Operator, place: usize) -> bool
+pub fn is_sequence(op: &Operator, place: usize) -> bool
     ensures { result ≡ is_sequence (row (operator_name op.now)).sequence place }
 {
     match op.row().sequence {
@@ -21,7 +21,7 @@ pub(crate) fn is_sequence(op: &Operator, place: usize) -> bool
 }
 
 /// The argument that has to be a text or a list, looked at at once.
-pub(crate) fn as_sequence(value: Value) -> Result<Value, EvalFault>
+pub fn as_sequence(value: Value) -> Result<Value, EvalFault>
     ensures { evaluated_of result ≡ as_sequence (data_of value) }
 {
     match value {
