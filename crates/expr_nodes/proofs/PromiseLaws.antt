@@ -115,7 +115,7 @@ more_promises bindings later all world e =
     let r = promises_stay later (promises bindings world) world in
     (r.0, ap (λ bs. promises bs world) e ∙ (promises_both [] bindings later world ∙ r.1))
 
--- the binding that was put last stands at its number
+-- the binding that was put last is at its number
 pub last_promise : (bindings : List Node) (binding : Node) (world : World) →
     slice_get (promises (bindings ++ binding ∷ []) world) (length bindings)
     ≡ Some (outcome binding (promises bindings world) world)

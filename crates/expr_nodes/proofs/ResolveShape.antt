@@ -79,10 +79,16 @@ children_add : (count counts : ℕ) (so_far : List Node) (first : Numbered) (res
     NodeAdds count so_far first → ChildrenAdd counts first.1 rest →
     ChildrenAdd (count + counts) so_far (child first.0 rest.0, rest.1)
 children_add count counts so_far first rest a b = record {
-  more = (a.more.0 ++ b.more.0, b.more.1
-  ∙ (ap (λ xs. xs ++ b.more.0) a.more.1 ∙ append_assoc so_far a.more.0 b.more.0));
-  below = (below_more (length first.1) (length rest.1) first.0 (longer first.1 b.more.0 rest.1 b.more.1)
-  a.below, b.below);
+  more = (
+    a.more.0 ++ b.more.0,
+    b.more.1
+        ∙ (ap (λ xs. xs ++ b.more.0) a.more.1 ∙ append_assoc so_far a.more.0 b.more.0),
+  );
+  below = (
+    below_more (length first.1) (length rest.1) first.0 (longer first.1 b.more.0 rest.1 b.more.1)
+        a.below,
+    b.below,
+  );
   earlier = λ o. b.earlier (a.earlier o);
   sized = omega (arith, a.sized, b.sized);
 }
