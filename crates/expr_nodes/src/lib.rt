@@ -5,3 +5,7 @@
 //!
 //! The text to believe is in `specs/`: `Node`, `Outcome`, `Limits`, `Resolving`, `Resolved`.
 #![tactic(auto)]
+
+mod laws;
+
+pub use laws::resolved_expressions_mean_the_same;

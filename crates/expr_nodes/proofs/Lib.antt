@@ -1,0 +1,6 @@
+mod RuleLaws
+mod PromiseLaws
+mod ScopeLaws
+mod ResolveShape
+mod ResolveMeaning
+mod ResolveLaws
