@@ -5,7 +5,8 @@ use Rattle.std.proofs.lemmas.List.{append-nil, append_assoc}
 use Rattle.prop_values.specs.declared.kinds.Want.{Want}
 use Rattle.prop_values.specs.declared.kinds.Want.TheVariants as wants
 use Rattle.property_tables.specs.Fitting.{fit}
-use Rattle.expr_syntax.specs.Term.{Term, literal, node, Terms, no_terms, term, nodes, terms_nodes}
+use Rattle.expr_syntax.specs.Term.{Term, literal, node, Terms, no_terms, term}
+use Rattle.expr_syntax.specs.TermSize.{nodes, terms_nodes}
 use Rattle.expr_syntax.specs.declared.expression.Operator.{Operator}
 use Rattle.eval_face.specs.Rules.{Rule, each, deciding, cases, labels, stops, ramp, bindings, variable, rule_of}
 use Rattle.expr_nodes.specs.Limits.{has_names, AsksBelow, AllAskBelow, AskEarlier}
