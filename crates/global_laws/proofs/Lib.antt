@@ -1,0 +1,3 @@
+mod SameTerms
+pub mod GlobalForms
+pub mod GlobalCells
