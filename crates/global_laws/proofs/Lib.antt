@@ -1,3 +1,2 @@
-mod SameTerms
+pub mod SameTerms
 pub mod GlobalForms
-pub mod GlobalCells

@@ -10,9 +10,6 @@ use Rattle.expr_syntax.specs.Term as terms
 use Rattle.expr_syntax.specs.Term.{Term}
 use Rattle.expr_types.specs.Checked as checks
 use Rattle.expr_types.specs.Typing as typing
-use Rattle.style_layout.specs.Layers.{style_layers}
-use Rattle.style_layout.specs.Shown.{SourceTile}
-use Rattle.style_layout.specs.StyleLayout.{cell_count}
 
 -- Two expressions of one form: they have as many nodes, mention the same of the world, and typing finds the same in
 -- both, under each want and by the rules of each row, or of a filter where there is no row: the same kind, listed
@@ -34,12 +31,3 @@ IsReadAlike r s = ⊥
 abbrev pub GlobalValuesChangeNoForm : Type 0
 GlobalValuesChangeNoForm =
     (t : Tree) (new old : List (List ℕ × Data)) → IsReadAlike (reading_with t new) (reading_with t old)
-
--- ---- layouts
-
--- A document has as many cells over tiles with any two lists of values of the global state: the same values are listed
--- with features.
-abbrev pub GlobalValuesChangeNoCell : Type 0
-GlobalValuesChangeNoCell =
-    (tiles : List SourceTile) (document : Tree) (new old : List (List ℕ × Data)) →
-    cell_count tiles (style_layers new document) ≡ cell_count tiles (style_layers old document)

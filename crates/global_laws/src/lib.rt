@@ -7,8 +7,7 @@
 //!
 //! What is promised, for each JSON tree, well formed or not, and any two lists of values of the global state:
 //! it reads with one as with the other, as outside, as the same fault, or as expressions with the same
-//! mentions, kinds, listed faults, codes and paths (`global_values_change_no_form`). A document has as many
-//! cells over tiles with one as with the other (`global_values_change_no_cell`).
+//! mentions, kinds, listed faults, codes and paths (`global_values_change_no_form`).
 //!
 //! Each law is a definition, and a function without arguments ensures it: a caller that calls the function
 //! has the law.
@@ -18,4 +17,4 @@
 
 mod laws;
 
-pub use laws::{global_values_change_no_cell, global_values_change_no_form};
+pub use laws::global_values_change_no_form;
