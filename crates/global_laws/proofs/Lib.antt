@@ -1,0 +1,2 @@
+pub mod SameTerms
+pub mod GlobalForms

@@ -1,0 +1,5 @@
+mod PartsOfReports
+mod ReportedValues
+mod ListedFaults
+mod LayoutLaws
+mod MentionLaws
