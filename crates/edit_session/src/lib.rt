@@ -10,7 +10,7 @@
 //! global state. `open` gives a session that represents the style before any edit (`opened`), or exactly the first cause why it cannot
 //! (`open_fault`). `apply` answers by `applied`: a command is refused by the first cause that holds, and then nothing changes; else the
 //! session represents what is after the edit; a listing is that of the full layout of the document as it then is, and `listing` appends
-//! it. Once allocation fails in `apply` a session answers so ever after, and the test of images that was lent is as it was.
+//! it. Once allocation fails in `apply` a session answers so ever after, and the test of images that was borrowed is as it was.
 //!
 //! After each edit of layers the whole document is looked at and prepared anew.
 //!

@@ -30,6 +30,7 @@ returns-in_err-answer_shown-clause-halt g c =
     let scripts = (goal.HostOp-dyn g c.args.scripts.now).test c.args.scripts.now.1 in
     let w = eval_words c.args.request.now in
     at_residual (λ h. HaltsAt files (eval_run w images scripts) _ _ _ _ _ _ h) (Stopped NoMemory)
-    c.from_residual-in_err-answer_shown.result c.from_residual-in_err-answer_shown.ensures.1
-    (c.in_ok-shown.ensures.failed,
-    (c.in_ok-shown.ensures.on (listed_run w images scripts)).reads _ (none_asked files (listed_run w images scripts (shown_seen c.in_ok-shown.shown)) _))
+    c.from_residual-in_err-answer_shown.result c.from_residual-in_err-answer_shown.ensures.1 (
+      c.in_ok-shown.ensures.failed,
+      (c.in_ok-shown.ensures.on (listed_run w images scripts)).reads _ (none_asked files (listed_run w images scripts (shown_seen c.in_ok-shown.shown)) _),
+    )

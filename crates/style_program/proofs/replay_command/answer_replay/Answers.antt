@@ -54,7 +54,8 @@ returns-in_err-answer_edited-clause-halt g c =
     let before = c.in_ok-shown.ensures.failed in
     let after = c.in_ok-script.ensures.failed in
     at_residual (λ h. HaltsAt files (replay_run w images scripts can_change) _ _ _ _ _ _ h) (Stopped NoMemory)
-    c.from_residual-in_err-answer_edited.result c.from_residual-in_err-answer_edited.ensures.1
-    ((after.0 ∙ before.0, after.1 ∙ before.1),
-    (script_comes files w images scripts can_change shown _ _ c.in_ok-shown.ensures.on (g.F.Files.told c.read_shown.new.files) c.read_shown.ensures.told _
-    c.in_ok-script.script.items c.in_ok-script.ensures.on).reads _ (none_asked files (edited_run w images scripts can_change shown c.in_ok-script.script.items) _))
+    c.from_residual-in_err-answer_edited.result c.from_residual-in_err-answer_edited.ensures.1 (
+      (after.0 ∙ before.0, after.1 ∙ before.1),
+      (script_comes files w images scripts can_change shown _ _ c.in_ok-shown.ensures.on (g.F.Files.told c.read_shown.new.files) c.read_shown.ensures.told _
+          c.in_ok-script.script.items c.in_ok-script.ensures.on).reads _ (none_asked files (edited_run w images scripts can_change shown c.in_ok-script.script.items) _),
+    )
