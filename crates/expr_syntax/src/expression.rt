@@ -281,4 +281,11 @@ impl Arguments {
     {
         self.arguments.as_slice()
     }
+
+    /// The arguments in order, each to be taken apart.
+    pub fn into_vec(self) -> Vec<Expr>
+        ensures { terms_view result.items ≡ self }
+    {
+        self.arguments
+    }
 }

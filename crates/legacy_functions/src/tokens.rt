@@ -97,7 +97,7 @@ pub fn token_expr(alloc: Global, text: &str) -> Result<Json, AllocError>
     ensures { IfOk result (λ made. tree_of made ≡ token_expression text.now) }
 {
     let pieces = pieces_of(alloc, text)?;
-    let mut items = Items::new(alloc);
+    let mut items = Items::with_room(alloc, pieces.len() + 1)?;
     items.push(Json::Text(Text::copy_of(alloc, "concat")?))?;
     for piece in pieces.as_slice() {
         items.push(piece_expression(alloc, piece)?)?;
@@ -118,7 +118,7 @@ fn piece_expression(alloc: Global, piece: &TokenPiece) -> Result<Json, AllocErro
 pub(crate) fn property_expression(alloc: Global, name: &Text) -> Result<Json, AllocError>
     ensures { IfOk result (λ made. tree_of made ≡ property_expression name.now) }
 {
-    let mut items = Items::new(alloc);
+    let mut items = Items::with_room(alloc, 2)?;
     items.push(Json::Text(Text::copy_of(alloc, "get")?))?;
     items.push(Json::Text(name.share()?))?;
     Ok(Json::List(items))
