@@ -13,19 +13,20 @@ use crate::world_view::WorldView;
 use decimal_json::Text;
 use fixed_num::Fixed;
 use operator_values::Halt;
-use prop_values::{Entries, EvalFault, SharedEntries, Value, copy, copy_entries};
+use prop_values::{Entries, EvalFault, SharedEntries, Value, copy};
 use std::alloc::{AllocError, Global};
+use tile_reader::FeatureProperties;
 
 /// `get`: of the properties, or of the object that is the second value.
 pub(crate) fn property(
     alloc: Global,
-    properties: Option<&Entries>,
+    properties: Option<&FeatureProperties>,
     values: &[Value],
 ) -> Result<Value, Halt>
     ensures { GivesValue result (get_of (state_of properties.entry) (values_view values.now)) }
 {
     match values {
-        [Value::Text(key)] => Ok(entry_or_null(alloc, properties, key)?),
+        [Value::Text(key)] => Ok(property_or_null(properties, key)?),
         [Value::Text(key), Value::Map(entries)] => Ok(entry_or_null(
             alloc,
             Some(entries.as_entries()),
@@ -37,13 +38,13 @@ pub(crate) fn property(
 
 /// `has`.
 pub(crate) fn has_property(
-    properties: Option<&Entries>,
+    properties: Option<&FeatureProperties>,
     values: &[Value],
 ) -> Result<Value, EvalFault>
     ensures { evaluated_of result ≡ has_of (state_of properties.entry) (values_view values.now) }
 {
     match values {
-        [Value::Text(key)] => Ok(Value::Bool(has_entry(properties, key))),
+        [Value::Text(key)] => Ok(Value::Bool(is_property(properties, key))),
         [Value::Text(key), Value::Map(entries)] => Ok(Value::Bool(has_entry(
             Some(entries.as_entries()),
             key,
@@ -63,6 +64,28 @@ pub(crate) fn state_member(
     match values {
         [Value::Text(key)] => Ok(entry_or_null(alloc, state, key)?),
         _ => Err(Halt::Fault(EvalFault::WrongType)),
+    }
+}
+
+// The value of a property, and null where there is none.
+fn property_or_null(properties: Option<&FeatureProperties>, key: &Text) -> Result<Value, AllocError>
+    ensures { IfOk result (λ value. data_of value ≡ entry_at key.now (pairs_of (state_of properties.entry))) }
+{
+    let Some(properties) = properties else {
+        return Ok(Value::Null);
+    };
+    match properties.get(key.as_str()) {
+        Some(value) => copy(value),
+        None => Ok(Value::Null),
+    }
+}
+
+fn is_property(properties: Option<&FeatureProperties>, key: &Text) -> bool
+    ensures { result ≡ is_some (at_key key.now (pairs_of (state_of properties.entry))) }
+{
+    match properties {
+        Some(properties) => properties.get(key.as_str()).is_some(),
+        None => false,
     }
 }
 
@@ -91,12 +114,12 @@ fn has_entry(entries: Option<&Entries>, key: &Text) -> bool
 /// `properties`.
 pub(crate) fn all_properties(
     alloc: Global,
-    properties: Option<&Entries>,
+    properties: Option<&FeatureProperties>,
 ) -> Result<Value, AllocError>
     ensures { IfOk result (λ value. data_of value ≡ map (pairs_of (state_of properties.entry))) }
 {
     let entries = match properties {
-        Some(entries) => copy_entries(alloc, entries)?,
+        Some(properties) => properties.to_entries(alloc)?,
         None => Entries::new(alloc),
     };
     Ok(Value::Map(SharedEntries::of(alloc, entries)?))

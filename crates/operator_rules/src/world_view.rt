@@ -8,7 +8,7 @@ use eval_face::Context;
 use fixed_num::Fixed;
 use host_ops::TextTest;
 use prop_values::Entries;
-use tile_reader::Shape;
+use tile_reader::{FeatureProperties, Shape};
 
 /// What an expression reads of the world, each part by a call of its own.
 pub trait WorldView {
@@ -19,7 +19,7 @@ pub trait WorldView {
         ensures { result ≡ (world self.now).zoom };
 
     /// The properties of the feature: none where there is no feature.
-    fn properties(&self) -> Option<&Entries>
+    fn properties(&self) -> Option<&FeatureProperties>
         ensures { state_of result ≡ (world self.now).properties };
 
     fn id(&self) -> Option<u64>
@@ -56,7 +56,7 @@ impl<I: TextTest, S: TextTest> WorldView for TestedContext<'_, '_, I, S> {
         self.context.zoom
     }
 
-    fn properties(&self) -> Option<&Entries> {
+    fn properties(&self) -> Option<&FeatureProperties> {
         match self.context.feature {
             Some(feature) => Some(&feature.properties),
             None => None,

@@ -12,9 +12,8 @@ use crate::properties::Property;
 use crate::scene::{Evaluator, Scene};
 use crate::values::outcome_of;
 use listing_text::{write_feature_line, write_value};
-use prop_values::Entries;
 use std::alloc::{AllocError, Global};
-use tile_reader::{Feature, Shape};
+use tile_reader::{Feature, FeatureProperties, Shape};
 
 /// Appends the lines of the values that are listed with a layer.
 pub(crate) fn write_layer_values<E: Evaluator>(
@@ -29,7 +28,7 @@ pub(crate) fn write_layer_values<E: Evaluator>(
     let nothing = Feature {
         id: None,
         shape: Shape::Unknown,
-        properties: Entries::new(alloc),
+        properties: FeatureProperties::none(),
     };
     let none = LayerFeature {
         number: 0,

@@ -6,8 +6,10 @@ pub mod Places
 pub mod TextPlaces
 pub mod Firsts
 pub mod Pairs
+pub mod PairKeys
 pub mod FeatureLists
 pub mod FeatureMade
+pub mod Ranges
 pub mod Names
 pub mod Chosen
 pub mod TileLaws

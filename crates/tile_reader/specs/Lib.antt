@@ -15,4 +15,5 @@ pub mod Layer
 pub mod Tile
 -- What only the reader's own contracts and proofs use.
 pub mod Lookup
+pub mod Ranges
 pub mod View

@@ -4,6 +4,7 @@
 //! ```text
 //! match read_tile(alloc, bytes)? {
 //!     Ok(tile) => ..,      // tile.as_slice()[0].name, .features ..; tile.named("roads")
+//!                          // feature.id, feature.shape, feature.properties.get("class")
 //!     Err(fault) => ..,    // fault.kind, fault.at
 //! }
 //! ```
@@ -11,9 +12,10 @@
 //! What is promised: for all bytes the answer is the tile that they are, or the first fault in the reading
 //! order with its place, unless allocation fails. `IsTile` of `specs/Format.antt` says what a tile is in the
 //! words of its format, and `IsFirstFault` of `specs/FirstFault.antt` which fault comes first; `tile_of` of
-//! `specs/Tile.antt` is the function that they determine. Time is that of n log n in the bytes: each text is
-//! copied once, and all features that have it share it. `Tile::named` gives exactly the layer of a name, by
-//! an index.
+//! `specs/Tile.antt` is the function that they determine. Time is that of n log n in the bytes. The
+//! keys and values of a layer are kept once; a property of a feature is eight bytes that name its key and its
+//! value, and an index of the keys where the feature has more than sixteen. `Tile::named` gives exactly the
+//! layer of a name, by an index, and `FeatureProperties::get` the value of a key.
 //!
 //! The reading order: compressed bytes come first. Then the fields follow from left to right, and what is
 //! inside a layer, feature or value is read where its field is. At a field come its wire type, a float, a
@@ -26,6 +28,7 @@
 
 mod fault;
 mod feature;
+mod feature_properties;
 mod laws;
 mod layer;
 mod properties;
@@ -35,6 +38,7 @@ mod value;
 mod wire_parts;
 
 pub use fault::{TileFault, TileKind};
+pub use feature_properties::FeatureProperties;
 pub use laws::{bytes_are_one_tile, keys_differ, messages_are_cut};
 pub use reading::read_tile;
 pub use tile::{Feature, Features, Shape, Tile, TileLayer};

@@ -1,20 +1,22 @@
-ghost use Rattle.std.specs.Prelude.{◌≡◌, ◌⊎◌, ℕ, ◌+◌, ◌^◌, ◌<◌, ◌≤◌, ◌*ℤ◌, pos, ◌↔◌, List, [], ◌∷◌, length, map, IfOk, OnOk, Some, None, IfSome, IfNone, MatchOption, option_map, if◌then◌else◌, unsigned_abs, slice_index_or};
-ghost use Rattle.prop_values.specs.Keys.{HasDistinctKeys};
+ghost use Rattle.std.specs.Prelude.{◌≡◌, ◌⊎◌, ℕ, ◌+◌, ◌^◌, ◌<◌, ◌≤◌, ◌*ℤ◌, pos, ◌↔◌, List, [], ◌∷◌, ◌++◌, length, take, map, IfOk, OnOk, Some, None, IfSome, IfNone, MatchOption, option_map, if◌then◌else◌, unsigned_abs, slice_index_or};
 ghost use Rattle.prop_values.specs.View.{data_of};
 ghost use Rattle.tile_reader.specs.View.{GivesOrLacks, HasAllTags, tagged_seen, tagged_all, texts_seen, value_seen};
 ghost use Rattle.tile_reader.specs.Properties.{put_all, named, feature_of, features_of};
-ghost use Rattle.tile_reader.specs.Lookup.{AreFirsts, AreInside, ArePlaces, pair_place, put_pair, pairs_seen, IndicesWithin, NotesFirst};
+ghost use Rattle.tile_reader.specs.Lookup.{AreFirsts, AreInside, ArePlaces, pair_place, put_pair, pairs_seen, NotesFirst};
+ghost use Rattle.tile_reader.specs.Ranges.{IsRange, AreRanges, feature_in};
 
 use crate::fault::{TileFault, TileKind};
 use crate::feature::TaggedFeature;
-use crate::tile::{Feature, Features};
+use crate::feature_properties::{FeatureProperties, LayerTable};
+use crate::tile::{Feature, Features, Shape};
 use crate::value::Held;
 use decimal_json::Text;
 use fixed_num::Fixed;
 use halts::Halt;
-use prop_values::{Entries, Value, copy};
+use prop_values::Value;
 use std::alloc::{AllocError, Global};
 use std::collections::BTreeMap;
+use std::rc::Rc;
 
 /// The keys and values of a layer, which its tags name, and for each key the place of the first that equals it.
 #[derive(Clone, Copy)]
@@ -32,17 +34,26 @@ struct ChosenPairs {
     places: Vec<usize>,
 }
 
+/// A feature whose properties are so many pairs of its layer, from the first one on.
+#[derive(Clone, Copy)]
+struct ChosenFeature {
+    id: Option<u64>,
+    shape: Shape,
+    first: u32,
+    count: u32,
+}
+
 /// The features of a layer with these keys and values, whose tags are these. Each text is copied once, and
 /// all features share it.
 pub(crate) fn features(
     alloc: Global,
     keys: &[&str],
     values: &[Held<'_>],
-    tagged: &[TaggedFeature],
-    tags: &[u64],
+    tagged: Vec<TaggedFeature>,
+    tags: Vec<u64>,
 ) -> Result<Features, Halt<TileFault>>
-    requires { HasAllTags tagged.now tags.now }
-    ensures { GivesOrLacks (λ all. all) result (features_of (texts_seen keys.now) (map value_seen values.now) [] (tagged_all tagged.now tags.now)) }
+    requires { HasAllTags tagged.items tags.items }
+    ensures { GivesOrLacks (λ all. all) result (features_of (texts_seen keys.now) (map value_seen values.now) [] (tagged_all tagged.items tags.items)) }
 {
     let firsts = first_places(alloc, keys)?;
     let texts = texts_of(alloc, keys)?;
@@ -52,7 +63,15 @@ pub(crate) fn features(
         values: made.as_slice(),
         firsts: firsts.as_slice(),
     };
-    features_with(alloc, &table, tagged, tags)
+    let mut pairs = Vec::with_capacity(alloc, tags.len() / 2)?;
+    let chosen = taken_features(alloc, &table, tagged, tags, &mut pairs)?;
+    let layer = LayerTable {
+        keys: texts,
+        values: made,
+        pairs,
+    };
+    let shared = Rc::new(alloc, layer)?;
+    Ok(shared_features(alloc, &shared, chosen.as_slice())?)
 }
 
 // The keys as texts of their own.
@@ -77,18 +96,38 @@ fn values_of(alloc: Global, held: &[Held<'_>]) -> Result<Vec<Value>, AllocError>
     Ok(made)
 }
 
-// The features of a layer with these tags.
-fn features_with(
+// The features of a layer with these tags, which are given back to memory once their pairs are added to those that are there.
+fn taken_features(
+    alloc: Global,
+    table: &TagTable<'_>,
+    tagged: Vec<TaggedFeature>,
+    tags: Vec<u64>,
+    pairs: &mut Vec<(u32, u32)>,
+) -> Result<Vec<ChosenFeature>, Halt<TileFault>>
+    requires firsts { AreFirsts table.now.firsts.now table.now.keys.now }
+    requires tags { HasAllTags tagged.items tags.items }
+    ensures features { GivesOrLacks (λ chosen. map (feature_in table.now.keys.now (map data_of table.now.values.now) pairs.new.items) chosen.items)
+        result (features_of table.now.keys.now (map data_of table.now.values.now) [] (tagged_all tagged.items tags.items)) }
+    ensures ranges { IfOk result (λ chosen. AreRanges table.now.keys.now (map data_of table.now.values.now) pairs.new.items chosen.items) }
+{
+    chosen_features(alloc, table, tagged.as_slice(), tags.as_slice(), pairs)
+}
+
+// The features of a layer with these tags, whose pairs are added to those that are there.
+fn chosen_features(
     alloc: Global,
     table: &TagTable<'_>,
     tagged: &[TaggedFeature],
     tags: &[u64],
-) -> Result<Features, Halt<TileFault>>
+    pairs: &mut Vec<(u32, u32)>,
+) -> Result<Vec<ChosenFeature>, Halt<TileFault>>
     requires firsts { AreFirsts table.now.firsts.now table.now.keys.now }
     requires tags { HasAllTags tagged.now tags.now }
-    ensures { GivesOrLacks (λ all. all) result (features_of table.now.keys.now (map data_of table.now.values.now) [] (tagged_all tagged.now tags.now)) }
+    ensures features { GivesOrLacks (λ chosen. map (feature_in table.now.keys.now (map data_of table.now.values.now) pairs.new.items) chosen.items)
+        result (features_of table.now.keys.now (map data_of table.now.values.now) [] (tagged_all tagged.now tags.now)) }
+    ensures ranges { IfOk result (λ chosen. AreRanges table.now.keys.now (map data_of table.now.values.now) pairs.new.items chosen.items) }
 {
-    let mut features = Features::with_capacity(alloc, tagged.len())?;
+    let mut chosen = Vec::with_capacity(alloc, tagged.len())?;
     let mut choice = ChosenPairs {
         pairs: Vec::new(alloc),
         places: vec![in alloc; 0; table.keys.len()]?,
@@ -96,10 +135,10 @@ fn features_with(
     let mut rest = tags;
     for feature in tagged {
         let (own, others) = rest.split_at(feature.count as usize);
-        features.push(with_properties(alloc, table, feature, own, &mut choice)?)?;
+        chosen.push(chosen_feature(table, feature, own, &mut choice, pairs)?)?;
         rest = others;
     }
-    Ok(features)
+    Ok(chosen)
 }
 
 // For each key the index of the first key with its text, so that later steps compare numbers. All texts are
@@ -133,17 +172,20 @@ fn first_place<'a>(
     }
 }
 
-// A feature with the properties that its tags name.
-fn with_properties(
-    alloc: Global,
+// A feature with the properties that its tags name, whose pairs are added to those of the features before it.
+fn chosen_feature(
     table: &TagTable<'_>,
     tagged: &TaggedFeature,
     tags: &[u64],
     choice: &mut ChosenPairs,
-) -> Result<Feature, Halt<TileFault>>
+    pairs: &mut Vec<(u32, u32)>,
+) -> Result<ChosenFeature, Halt<TileFault>>
     requires firsts { AreFirsts table.now.firsts.now table.now.keys.now }
     requires places { length choice.old.places.items ≡ length table.now.keys.now }
-    ensures feature { GivesOrLacks (λ feature. feature) result (feature_of table.now.keys.now (map data_of table.now.values.now) (tagged_seen tagged.now tags.now)) }
+    ensures feature { GivesOrLacks (feature_in table.now.keys.now (map data_of table.now.values.now) pairs.new.items)
+        result (feature_of table.now.keys.now (map data_of table.now.values.now) (tagged_seen tagged.now tags.now)) }
+    ensures range { IfOk result (λ chosen. IsRange table.now.keys.now (map data_of table.now.values.now) pairs.new.items chosen.first chosen.count) }
+    ensures before { OnOk result (take (length pairs.old.items) pairs.new.items ≡ pairs.old.items) }
     ensures places { OnOk result (length choice.new.places.items ≡ length table.now.keys.now) }
 {
     if tags.len() % 2 == 1 {
@@ -158,11 +200,35 @@ fn with_properties(
             at: tagged.at,
         }));
     }
-    Ok(Feature {
+    let first = narrow(pairs.len())?;
+    let count = narrow(choice.pairs.len())?;
+    add_pairs(pairs, choice.pairs.as_slice())?;
+    Ok(ChosenFeature {
         id: tagged.id,
         shape: tagged.shape,
-        properties: entries(alloc, table.keys, table.values, choice.pairs.as_slice())?,
+        first,
+        count,
     })
+}
+
+// An index in 32 bits. So many pairs fill 8 GiB of a tile at least.
+fn narrow(index: usize) -> Result<u32, AllocError>
+    ensures { IfOk result (λ same. same ≡ index) }
+{
+    match u32::try_from(index) {
+        Ok(index) => Ok(index),
+        Err(_) => Err(AllocError),
+    }
+}
+
+// Adds pairs at the end.
+fn add_pairs(pairs: &mut Vec<(u32, u32)>, more: &[(usize, usize)]) -> Result<(), AllocError>
+    ensures { OnOk result (pairs.new.items ≡ pairs.old.items ++ more.now) }
+{
+    for (key, value) in more {
+        pairs.push((narrow(*key)?, narrow(*value)?))?;
+    }
+    Ok(())
 }
 
 // Chooses the indices of the key and the value of each property, in order. The answer is whether each tag has
@@ -259,24 +325,25 @@ fn place_of(places: &[usize], chosen: &[(usize, usize)], key: usize) -> Option<u
     }
 }
 
-// The properties of these pairs of indices.
-fn entries(
+// The features, whose properties are ranges of the pairs of their layer.
+fn shared_features(
     alloc: Global,
-    keys: &[Text],
-    values: &[Value],
-    chosen: &[(usize, usize)],
-) -> Result<Entries, AllocError>
-    requires inside { (i : ℕ) → i < length chosen.now → IndicesWithin (length keys.now) (length values.now) (slice_index_or chosen.now i (0, 0)) }
-    requires distinct { HasDistinctKeys (pairs_seen keys.now (map data_of values.now) chosen.now) }
-    ensures { IfOk result (λ all. all ≡ pairs_seen keys.now (map data_of values.now) chosen.now) }
+    table: &Rc<LayerTable>,
+    chosen: &[ChosenFeature],
+) -> Result<Features, AllocError>
+    requires { AreRanges table.now.value.keys.items (map data_of table.now.value.values.items) table.now.value.pairs.items chosen.now }
+    ensures { IfOk result (λ features. features ≡ map (feature_in table.now.value.keys.items (map data_of table.now.value.values.items) table.now.value.pairs.items) chosen.now) }
 {
-    let mut entries = Entries::with_capacity(alloc, chosen.len())?;
-    for (key, value) in chosen {
-        let text = keys[*key].share()?;
-        let value = copy(&values[*value])?;
-        entries.push(text, value)?;
+    let mut features = Features::with_capacity(alloc, chosen.len())?;
+    for feature in chosen {
+        let properties = FeatureProperties::of_range(alloc, table, feature.first, feature.count)?;
+        features.push(Feature {
+            id: feature.id,
+            shape: feature.shape,
+            properties,
+        })?;
     }
-    Ok(entries)
+    Ok(features)
 }
 
 // A value with a text of its own.

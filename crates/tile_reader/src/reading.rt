@@ -78,7 +78,7 @@ fn add_field(
     if number == 3 {
         let content = bytes_in(at, wire)?;
         let parts = read_parts(alloc, content, end - content.len())?;
-        add_layer(alloc, tile, &parts, at)?;
+        add_layer(alloc, tile, parts, at)?;
     }
     Ok(())
 }
@@ -87,23 +87,24 @@ fn add_field(
 fn add_layer(
     alloc: Global,
     tile: &mut Tile,
-    parts: &LayerParts<'_>,
+    parts: LayerParts<'_>,
     at: usize,
 ) -> Result<(), Halt<TileFault>>
-    requires { HasAllTags parts.now.features.items parts.now.tags.items }
-    ensures { Leaves tile.new result (layer_end at (names tile.old) (parts_seen parts.now) then λ layer. Ok (tile.old ++ layer ∷ [])) }
+    requires { HasAllTags parts.features.items parts.tags.items }
+    ensures { Leaves tile.new result (layer_end at (names tile.old) (parts_seen parts.entry) then λ layer. Ok (tile.old ++ layer ∷ [])) }
 {
-    let name = name_of(at, parts.name)?;
-    let _version = version_of(at, parts.version)?;
-    let name = new_name(at, tile, name)?;
-    let keys = parts.keys.as_slice();
-    let features = features(
-        alloc,
+    let LayerParts {
+        name,
+        version,
         keys,
-        parts.values.as_slice(),
-        parts.features.as_slice(),
-        parts.tags.as_slice(),
-    )?;
+        values,
+        features: tagged,
+        tags,
+    } = parts;
+    let name = name_of(at, name)?;
+    let _version = version_of(at, version)?;
+    let name = new_name(at, tile, name)?;
+    let features = features(alloc, keys.as_slice(), values.as_slice(), tagged, tags)?;
     let text = Text::copy_of(alloc, name)?;
     tile.push(TileLayer {
         name: text,

@@ -2,9 +2,9 @@ ghost use Rattle.std.specs.Prelude.{◌≡◌, [], ◌∷◌, ◌++◌, IfOk, On
 ghost use Rattle.key_index.specs.Keys.{LacksKey};
 ghost use Rattle.tile_reader.specs.ShapeName.{shape_name};
 
+use crate::feature_properties::FeatureProperties;
 use decimal_json::Text;
 use key_index::{KeyIndex, Keyed};
-use prop_values::Entries;
 use std::alloc::{AllocError, Global};
 use std::marker::Model;
 
@@ -37,7 +37,7 @@ pub struct Feature {
     pub id: Option<u64>,
     pub shape: Shape,
     /// Whole numbers, texts and booleans, each under its key.
-    pub properties: Entries,
+    pub properties: FeatureProperties,
 }
 
 /// The features of a layer in order, which clauses see as a list.

@@ -1,0 +1,63 @@
+-- The properties of features as ranges of the pairs of their layer.
+use Rattle.std.specs.Prelude.{◌≡◌, ℕ, ◌+◌, ◌<◌, ◌≤◌, List, [], ◌∷◌, length, map, take, drop, Option, Some, None, slice_index_or, Vec}
+use Rattle.std.specs.declared.alloc.Global.{Global}
+use Rattle.std.specs.declared.rc.Rc.{Rc}
+use Rattle.std.specs.declared.boxed.Box.{Box}
+use Rattle.key_index.specs.Index.{IsIndexed}
+use Rattle.prop_values.specs.Data.{Data}
+use Rattle.prop_values.specs.Keys.{HasDistinctKeys}
+use Rattle.prop_values.specs.View.{data_of}
+use Rattle.tile_reader.specs.Lookup.{IndicesWithin, pairs_seen}
+use Rattle.tile_reader.specs.declared.feature_properties.IndexedKey.{IndexedKey}
+use Rattle.tile_reader.specs.declared.feature_properties.IndexedKeys.{IndexedKeys}
+use Rattle.tile_reader.specs.declared.feature_properties.LayerTable.{LayerTable}
+use Rattle.tile_reader.specs.declared.properties.ChosenFeature.{ChosenFeature}
+use Rattle.tile_reader.specs.declared.tile.Feature.{Feature}
+
+-- so many elements of a list, from one on
+abbrev pub range : {X : Type 0} → List X → ℕ → ℕ → List X
+range xs first count = take count (drop first xs)
+
+-- the keys of pairs
+abbrev pub pair_keys : List (List ℕ) → List (ℕ × ℕ) → List (List ℕ)
+pair_keys keys = map (λ (pair : ℕ × ℕ). slice_index_or keys pair.0 [])
+
+-- The pairs are there, each has its key and its value, and no key occurs twice.
+pub record IsRange (keys : List (List ℕ)) (values : List Data) (pairs : List (ℕ × ℕ)) (first count : ℕ) : Type 0 where
+  pub within : first + count ≤ length pairs
+  pub inside : (i : ℕ) → i < length (range pairs first count) → IndicesWithin (length keys) (length values) (slice_index_or (range pairs first count) i (0, 0))
+  pub distinct : HasDistinctKeys (pairs_seen keys values (range pairs first count))
+
+-- a feature whose properties are a range of these pairs
+abbrev pub feature_in : List (List ℕ) → List Data → List (ℕ × ℕ) → ChosenFeature → Feature
+feature_in keys values pairs chosen = record { id = chosen.id; shape = chosen.shape; properties = pairs_seen keys values (range pairs chosen.first chosen.count) }
+
+-- the range of each
+abbrev pub AreRanges : List (List ℕ) → List Data → List (ℕ × ℕ) → List ChosenFeature → Type 0
+AreRanges keys values pairs [] = Unit {0}
+AreRanges keys values pairs (chosen ∷ others) = IsRange keys values pairs chosen.first chosen.count × AreRanges keys values pairs others
+
+-- the texts of keys
+abbrev pub key_texts : List IndexedKey → List (List ℕ)
+key_texts = map (λ (key : IndexedKey). key.text)
+
+-- an index of these keys
+abbrev pub IsKeyIndex : IndexedKeys → List (List ℕ) → Type 0
+IsKeyIndex indexed keys = (key_texts indexed.keys.items ≡ keys) × IsIndexed indexed.index keys
+
+-- where there is an index, it is one of these keys
+abbrev pub HasKeys : Option (Box IndexedKeys Global) → List (List ℕ) → Type 0
+HasKeys None keys = Unit {0}
+HasKeys (Some boxed) keys = IsKeyIndex boxed.value keys
+
+-- the properties that a range of a layer's pairs are
+abbrev pub properties_seen : Option (Rc LayerTable Global) → ℕ → ℕ → List (List ℕ × Data)
+properties_seen None first count = []
+properties_seen (Some table) first count = pairs_seen table.value.keys.items (map data_of table.value.values.items) (range table.value.pairs.items first count)
+
+-- they are a range, and their index has their keys
+abbrev pub AreShared : Option (Rc LayerTable Global) → ℕ → ℕ → Option (Box IndexedKeys Global) → Type 0
+AreShared None first count index = Unit {0}
+AreShared (Some table) first count index =
+    IsRange table.value.keys.items (map data_of table.value.values.items) table.value.pairs.items first count
+    × HasKeys index (pair_keys table.value.keys.items (range table.value.pairs.items first count))

@@ -1,0 +1,288 @@
+ghost use Rattle.std.specs.Prelude.{◌≡◌, ◌↔◌, ◌+◌, ◌≤◌, ◌<◌, ℕ, [], ◌∷◌, ◌++◌, length, map, IfOk, OnOk, IsNone, option_map, slice_index_or};
+ghost use Rattle.key_index.specs.Index.{IsIndexed};
+ghost use Rattle.key_index.specs.Keys.{place_from};
+ghost use Rattle.prop_values.specs.Data.{pairs_of};
+ghost use Rattle.prop_values.specs.Equality.{at_key};
+ghost use Rattle.prop_values.specs.Keys.{HasDistinctKeys, LacksKey};
+ghost use Rattle.prop_values.specs.View.{data_of};
+ghost use Rattle.tile_reader.specs.Lookup.{IndicesWithin, pairs_seen};
+ghost use Rattle.key_index.specs.Keys as index;
+ghost use Rattle.tile_reader.specs.Ranges.{IsRange, range, pair_keys, key_texts, HasKeys, IsKeyIndex};
+
+use decimal_json::Text;
+use key_index::{KeyIndex, Keyed};
+use prop_values::{Entries, Value, copy};
+use std::alloc::{AllocError, Global};
+use std::marker::Model;
+use std::rc::Rc;
+
+/// The keys and values of a layer, and the pairs of their indices that the properties of its features are, those
+/// of one feature after those of the other.
+#[derive(Drop)]
+pub(crate) struct LayerTable {
+    pub(crate) keys: Vec<Text>,
+    pub(crate) values: Vec<Value>,
+    pub(crate) pairs: Vec<(u32, u32)>,
+}
+
+/// The properties of a feature in the order in which they came, which clauses see as a list of pairs of a key and
+/// data. No key occurs twice. The features of a layer have its keys and values in common; what is a feature's own
+/// are the numbers of these, and an index of its keys where they are more than sixteen.
+#[derive(Drop)]
+pub struct FeatureProperties {
+    table: Option<Rc<LayerTable>>,
+    first: u32,
+    count: u32,
+    index: Option<Box<IndexedKeys>>,
+}
+
+/// Keys with their index.
+#[derive(Drop)]
+struct IndexedKeys {
+    keys: Vec<IndexedKey>,
+    index: KeyIndex,
+}
+
+#[derive(Drop)]
+struct IndexedKey {
+    text: Text,
+}
+
+impl Keyed for IndexedKey {
+    ghost key = { λ key. key.text };
+
+    fn key(&self) -> &str {
+        self.text.as_str()
+    }
+}
+
+impl IndexedKeys {
+    // The place of a key.
+    fn find(&self, key: &str) -> Option<usize>
+        requires { IsIndexed self.now.index (key_texts self.now.keys.items) }
+        ensures { result ≡ place_from 0 key.now (key_texts self.now.keys.items) }
+    {
+        self.index.find(self.keys.as_slice(), key)
+    }
+
+    // Adds a key, which may not be there.
+    fn push(&mut self, alloc: Global, text: Text) -> Result<(), AllocError>
+        requires indexed { IsIndexed self.old.index (key_texts self.old.keys.items) }
+        requires distinct { index.HasDistinctKeys (key_texts self.old.keys.items) }
+        requires lacks { index.LacksKey text (key_texts self.old.keys.items) }
+        ensures keys { OnOk result (key_texts self.new.keys.items ≡ key_texts self.old.keys.items ++ text ∷ []) }
+        ensures indexed { OnOk result (IsIndexed self.new.index (key_texts self.old.keys.items ++ text ∷ [])) }
+    {
+        self.index
+            .note_next(alloc, self.keys.as_slice(), text.as_str())?;
+        self.keys.push(IndexedKey { text })?;
+        Ok(())
+    }
+}
+
+impl Model for FeatureProperties {
+    ghost use Rattle.std.specs.Prelude.{List, ℕ};
+    ghost use Rattle.prop_values.specs.Data.{Data};
+    ghost use Rattle.prop_values.specs.DataCode.{pairs_code};
+
+    ghost Value = { List (List ℕ × Data) };
+
+    ghost coded = { pairs_code };
+
+    ghost use Rattle.tile_reader.specs.Ranges.{AreShared, properties_seen};
+
+    ghost view = { λ a. properties_seen a.table a.first a.count };
+
+    ghost invariant = { λ a. AreShared a.table a.first a.count a.index };
+}
+
+impl FeatureProperties {
+    /// No properties.
+    pub fn none() -> FeatureProperties
+        ensures { result ≡ [] }
+    {
+        FeatureProperties {
+            table: None,
+            first: 0,
+            count: 0,
+            index: None,
+        }
+    }
+
+    /// The properties that so many pairs of a layer are, from the first one on.
+    pub(crate) fn of_range(
+        alloc: Global,
+        table: &Rc<LayerTable>,
+        first: u32,
+        count: u32,
+    ) -> Result<FeatureProperties, AllocError>
+        requires { IsRange table.now.value.keys.items (map data_of table.now.value.values.items) table.now.value.pairs.items first count }
+        ensures { IfOk result (λ made. made ≡ pairs_seen table.now.value.keys.items (map data_of table.now.value.values.items)
+            (range table.now.value.pairs.items first count)) }
+    {
+        let index = index_of(alloc, table.as_ref(), first, count)?;
+        Ok(FeatureProperties {
+            table: Some(table.clone()?),
+            first,
+            count,
+            index,
+        })
+    }
+
+    /// The value at a key, or `None` exactly where no property has the key.
+    pub fn get(&self, key: &str) -> Option<&Value>
+        ensures value { option_map (λ v. data_of v.now) result ≡ at_key key.now (pairs_of self.now) }
+        ensures none { IsNone result ↔ LacksKey key.now self.now }
+    {
+        match &self.table {
+            None => None,
+            Some(table) => {
+                let table = table.as_ref();
+                let pairs = pairs_in(table, self.first, self.count);
+                value_at(
+                    table.keys.as_slice(),
+                    table.values.as_slice(),
+                    pairs,
+                    &self.index,
+                    key,
+                )
+            }
+        }
+    }
+
+    /// The properties as entries of their own.
+    pub fn to_entries(&self, alloc: Global) -> Result<Entries, AllocError>
+        ensures { IfOk result (λ entries. entries ≡ self.now) }
+    {
+        match &self.table {
+            None => Ok(Entries::new(alloc)),
+            Some(table) => {
+                let table = table.as_ref();
+                let pairs = pairs_in(table, self.first, self.count);
+                entries(alloc, table.keys.as_slice(), table.values.as_slice(), pairs)
+            }
+        }
+    }
+}
+
+// So many pairs of a layer, from the first one on.
+fn pairs_in(table: &LayerTable, first: u32, count: u32) -> &[(u32, u32)]
+    requires { first + count ≤ length table.now.pairs.items }
+    ensures { result.now ≡ range table.now.pairs.items first count }
+{
+    let (_, later) = table.pairs.as_slice().split_at(first as usize);
+    let (own, _) = later.split_at(count as usize);
+    own
+}
+
+// The index of the keys of so many pairs of a layer, where they are more than sixteen.
+fn index_of(
+    alloc: Global,
+    table: &LayerTable,
+    first: u32,
+    count: u32,
+) -> Result<Option<Box<IndexedKeys>>, AllocError>
+    requires { IsRange table.now.keys.items (map data_of table.now.values.items) table.now.pairs.items first count }
+    ensures { IfOk result (λ index. HasKeys index (pair_keys table.now.keys.items (range table.now.pairs.items first count))) }
+{
+    if count <= 16 {
+        return Ok(None);
+    }
+    let pairs = pairs_in(table, first, count);
+    let indexed = indexed_keys(alloc, table.keys.as_slice(), pairs)?;
+    Ok(Some(Box::new(alloc, indexed)?))
+}
+
+// The value at a key, by the place of its pair.
+#[tactic(auto, using(crate::proofs::PairKeys::place_within, crate::proofs::PairKeys::lacks_without_place))]
+fn value_at<'a>(
+    keys: &[Text],
+    values: &'a [Value],
+    pairs: &[(u32, u32)],
+    index: &Option<Box<IndexedKeys>>,
+    key: &str,
+) -> Option<&'a Value>
+    requires inside { (i : ℕ) → i < length pairs.now → IndicesWithin (length keys.now) (length values.now) (slice_index_or pairs.now i (0, 0)) }
+    requires index { HasKeys index.now (pair_keys keys.now pairs.now) }
+    ensures value { option_map (λ v. data_of v.now) result ≡ at_key key.now (pairs_of (pairs_seen keys.now (map data_of values.now) pairs.now)) }
+    ensures none { IsNone result ↔ LacksKey key.now (pairs_seen keys.now (map data_of values.now) pairs.now) }
+{
+    match place_of(keys, pairs, index, key) {
+        None => None,
+        Some(place) => {
+            let pair = pairs[place];
+            Some(&values[pair.1 as usize])
+        }
+    }
+}
+
+// The place of the pair of a key.
+fn place_of(
+    keys: &[Text],
+    pairs: &[(u32, u32)],
+    index: &Option<Box<IndexedKeys>>,
+    key: &str,
+) -> Option<usize>
+    requires inside { (i : ℕ) → i < length pairs.now → (slice_index_or pairs.now i (0, 0)).0 < length keys.now }
+    requires index { HasKeys index.now (pair_keys keys.now pairs.now) }
+    ensures { result ≡ place_from 0 key.now (pair_keys keys.now pairs.now) }
+{
+    match index {
+        Some(indexed) => indexed.find(key),
+        None => first_place(keys, pairs, key),
+    }
+}
+
+// The place of the first pair with a key, looked for in one pair after the other.
+fn first_place(keys: &[Text], pairs: &[(u32, u32)], key: &str) -> Option<usize>
+    requires { (i : ℕ) → i < length pairs.now → (slice_index_or pairs.now i (0, 0)).0 < length keys.now }
+    ensures { result ≡ place_from 0 key.now (pair_keys keys.now pairs.now) }
+{
+    for (place, pair) in pairs.iter().enumerate() {
+        if keys[pair.0 as usize].as_str() == key {
+            return Some(place);
+        }
+    }
+    None
+}
+
+// The keys of these pairs, with their index.
+fn indexed_keys(
+    alloc: Global,
+    keys: &[Text],
+    pairs: &[(u32, u32)],
+) -> Result<IndexedKeys, AllocError>
+    requires inside { (i : ℕ) → i < length pairs.now → (slice_index_or pairs.now i (0, 0)).0 < length keys.now }
+    requires distinct { index.HasDistinctKeys (pair_keys keys.now pairs.now) }
+    ensures { IfOk result (λ made. IsKeyIndex made (pair_keys keys.now pairs.now)) }
+{
+    let mut made = IndexedKeys {
+        keys: Vec::with_capacity(alloc, pairs.len())?,
+        index: KeyIndex::new(),
+    };
+    for (key, _) in pairs {
+        let text = keys[*key as usize].share()?;
+        made.push(alloc, text)?;
+    }
+    Ok(made)
+}
+
+// The properties of these pairs of indices.
+fn entries(
+    alloc: Global,
+    keys: &[Text],
+    values: &[Value],
+    pairs: &[(u32, u32)],
+) -> Result<Entries, AllocError>
+    requires inside { (i : ℕ) → i < length pairs.now → IndicesWithin (length keys.now) (length values.now) (slice_index_or pairs.now i (0, 0)) }
+    requires distinct { HasDistinctKeys (pairs_seen keys.now (map data_of values.now) pairs.now) }
+    ensures { IfOk result (λ all. all ≡ pairs_seen keys.now (map data_of values.now) pairs.now) }
+{
+    let mut entries = Entries::with_capacity(alloc, pairs.len())?;
+    for (key, value) in pairs {
+        let text = keys[*key as usize].share()?;
+        let value = copy(&values[*value as usize])?;
+        entries.push(text, value)?;
+    }
+    Ok(entries)
+}
