@@ -14,10 +14,11 @@ use Rattle.style_edits.specs.Faults.{edit_fault}
 use Rattle.style_edits.specs.declared.faults.EditFault.{EditFault}
 use Rattle.style_layout.specs.Shown.{SourceTile}
 use Rattle.style_rules.specs.CodeView.{finding_seen}
+use Rattle.style_rules.specs.Findings.{findings}
 use Rattle.style_rules.specs.declared.lists.Finding.{Finding}
-use Rattle.edit_session.specs.Applied.{FeatureStates, first_finding, done, refused, refusal_of, whole_refusal, unless_refused, applied}
+use Rattle.edit_session.proofs.GlobalCells.{values_change_no_cell}
+use Rattle.edit_session.specs.Applied.{FeatureStates, first_finding, limit_refusal, done, refused, refusal_of, whole_refusal, edits_layers, unless_refused, applied}
 use Rattle.edit_session.specs.SessionState.{SessionState}
-use Rattle.edit_session.specs.View.{edits_layers}
 use Rattle.edit_session.specs.declared.answer.Refusal.{Refusal}
 use Rattle.edit_session.specs.declared.answer.Refusal.TheVariants.{Finding as Refused}
 
@@ -25,6 +26,12 @@ use Rattle.edit_session.specs.declared.answer.Refusal.TheVariants.{Finding as Re
 pub first_refused : (fs : List Finding) → first_finding (map finding_seen fs) ≡ option_map Refused (slice_get fs 0)
 first_refused [] = refl
 first_refused (f ∷ fs) = refl
+
+-- a whole document stays one with other values of the global state
+pub whole_with : (tiles : List SourceTile) (document : Tree) (new old : List (List ℕ × Data)) → whole_refusal tiles old document ≡ None
+    → whole_refusal tiles new document ≡ None
+whole_with tiles document new old h =
+    (λ i. option_or (first_finding (findings document)) (limit_refusal (values_change_no_cell tiles document new old i))) ∙ h
 
 -- no cause holds
 accepted : (fault : Option EditFault) (whole : Option Refusal) (before after : SessionState) → fault ≡ None → whole ≡ None
@@ -76,13 +83,12 @@ module _ (tiles : List SourceTile) (scripts : List ℕ → Bool) (can_change : B
 
   -- members are set in the state of a feature
   pub state_set : (source layer s l : List ℕ) (id : ℕ) (members given : List (List ℕ × Data)) (states : FeatureStates)
-      → whole_refusal tiles p.globals p.document ≡ None
       → edit_fault p.document (edits.set_state source layer id (pairs_of given)) ≡ None
       → s ≡ source → l ≡ layer → members ≡ given
       → ((a b : List ℕ) (i : ℕ) → states a b i ≡ (if same_feature s l id a b i then merged (p.states a b i) members else p.states a b i))
       → (record p { states = states }, done) ≡ applied tiles scripts can_change p (edits.set_state source layer id (pairs_of given))
-  state_set source layer s l id members given states w h es el em made =
+  state_set source layer s l id members given states h es el em made =
       let same = em ∙ sym (entries_of-pairs_of given) in
       (λ k. (record p { states = λ a b i. made a b i k }, done))
       ∙ ((λ k. (record p { states = λ a b i. if same_feature (es k) (el k) id a b i then merged (p.states a b i) (same k) else p.states a b i }, done))
-      ∙ accepted _ _ p _ h w)
+      ∙ accepted _ None p _ h refl)

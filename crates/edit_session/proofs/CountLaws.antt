@@ -1,5 +1,5 @@
 -- A count of cells that stops at a greatest number is within the limit where the cells are.
-use Rattle.std.proofs.Common.{◌≡◌, ◌∙◌, ℕ, ◌-◌, ◌^◌, ◌<◌, min, Bool, true, false, refl, sym, ap, arith}
+use Rattle.std.proofs.Common.{◌≡◌, ◌∙◌, ℕ, ◌-◌, ◌^◌, ◌<◌, min, Bool, true, false, refl, ap, arith}
 use Rattle.std.specs.Prelude.{nat_le}
 use Rattle.std.proofs.lemmas.Bool.{le-leb, leb-true, lt-leb, leb-false}
 use Rattle.edit_session.specs.Opening.{cell_limit, within_limit}

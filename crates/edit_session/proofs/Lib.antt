@@ -1,2 +1,4 @@
+pub mod GlobalCells
+pub mod SteadyLayers
 pub mod AppliedLaws
 pub mod CountLaws

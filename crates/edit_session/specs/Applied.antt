@@ -1,5 +1,5 @@
 -- What an edit does to what a session represents, and what is answered.
-use Rattle.std.specs.Prelude.{ℕ, ℤ, List, [], ◌∷◌, Bool, true, false, Option, Some, None, option_map, if◌then◌else◌}
+use Rattle.std.specs.Prelude.{ℕ, List, [], ◌∷◌, Bool, true, false, Option, Some, None, option_map, if◌then◌else◌}
 use Rattle.std.specs.Option.{option_or}
 use Rattle.std.specs.Str.{bytes_eq}
 use Rattle.decimal_json.specs.Tree.{Tree}
@@ -123,13 +123,29 @@ abbrev pub whole_refusal : List SourceTile → List (List ℕ × Data) → Tree 
 whole_refusal tiles globals document =
     option_or (first_finding (findings document)) (limit_refusal (cell_count tiles (style_layers globals document)))
 
+-- an edit of the layers of a document, which makes another document
+abbrev pub edits_layers : Edit → Bool
+edits_layers (edits.set_paint layer name value) = true
+edits_layers (edits.set_layout layer name value) = true
+edits_layers (edits.set_filter layer filter) = true
+edits_layers (edits.set_range layer min max) = true
+edits_layers (edits.add_layer layer before) = true
+edits_layers (edits.remove_layer id) = true
+edits_layers (edits.move_layer id before) = true
+edits_layers _ = false
+
+-- The document that an edit makes is refused. Every other edit leaves the document, and as many cells as there were:
+-- so no value of the global state is refused.
+abbrev pub document_refusal : List SourceTile → SessionState → Edit → Option Refusal
+document_refusal tiles p edit = if edits_layers edit then whole_refusal tiles p.globals (edited p.document edit) else None
+
 -- over tiles, with the test on texts that can be shown; `can_change` says whether the test of images can change
 module _ (tiles : List SourceTile) (scripts : List ℕ → Bool) (can_change : Bool) where
   -- The first cause that holds: a fault of the edit, of the whole edited document, or that images cannot change. Source: own.
   abbrev pub refusal : SessionState → Edit → Option Refusal
   refusal p edit = first_cause (
       option_map refusal_of (edit_fault p.document edit) ∷
-      whole_refusal tiles (presented_after p edit).globals (presented_after p edit).document ∷
+      document_refusal tiles p edit ∷
       images_refusal can_change edit ∷ [])
 
   -- What a session represents after an edit, and what is answered. Source: own.

@@ -1,11 +1,12 @@
 -- What the program's values are to a clause.
-use Rattle.std.specs.Prelude.{◌≡◌, ℕ, List, [], map, Bool, false, true, None, if◌then◌else◌}
+use Rattle.std.specs.Prelude.{◌≡◌, ℕ, List, map, Bool, false, None, if◌then◌else◌}
 use Rattle.decimal_json.specs.Tree.{Tree}
 use Rattle.decimal_json.specs.View.{tree_of}
-use Rattle.edit_script.specs.Edit as edits
 use Rattle.edit_script.specs.Edit.{Edit}
 use Rattle.feature_states.specs.Members.{members_at}
+use Rattle.global_laws.specs.GlobalLaw.{items_name_globals}
 use Rattle.prop_values.specs.Data.{Data}
+use Rattle.style_parts.specs.Parts.{layers_of}
 use Rattle.style_layout.specs.CodeView.{layers_seen, tile_seen}
 use Rattle.style_layout.specs.Layers.{StyleLayer, style_layers}
 use Rattle.style_layout.specs.Shown.{SourceTile}
@@ -54,31 +55,26 @@ tiles_of session = map tile_seen session.tiles.items
 abbrev pub lacks_memory : Session → Bool
 lacks_memory session = session.lacks_memory
 
--- a document over tiles that breaks no rule and is within the limit of cells, with its layers
-pub record IsWholeDocument (tiles : List SourceTile) (globals : List (List ℕ × Data)) (document : Tree) (layers : List StyleLayer) : Type 0 where
+-- A text in the layers of a document is `global-state`: where none is, no value of them reads the global state.
+abbrev pub reads_globals : Tree → Bool
+reads_globals document = items_name_globals (layers_of document)
+
+-- a document over tiles that breaks no rule and is within the limit of cells, with its layers, and whether they read the global state
+pub record IsWholeDocument (tiles : List SourceTile) (globals : List (List ℕ × Data)) (document : Tree) (layers : List StyleLayer) (reads : Bool) : Type 0 where
   pub is_accepted : whole_refusal tiles globals document ≡ None
   pub is_prepared : layers ≡ style_layers globals document
+  pub is_noted : reads ≡ reads_globals document
 
 -- so it is with a session's document
 abbrev pub IsReady : Session → Type 0
-IsReady session = IsWholeDocument (tiles_of session) session.globals (tree_of session.document) (layers_seen session.prepared)
+IsReady session =
+    IsWholeDocument (tiles_of session) session.globals (tree_of session.document) (layers_seen session.prepared) session.reads_globals
 
 -- What holds of a session from its opening on, until an allocation fails.
 abbrev pub IsSoundSession : Session → Type 0
 IsSoundSession session = lacks_memory session ≡ false → IsReady session
 
 -- ---- what only contracts of private functions see
-
--- an edit of layers of the document
-abbrev pub edits_layers : Edit → Bool
-edits_layers (edits.set_paint layer name value) = true
-edits_layers (edits.set_layout layer name value) = true
-edits_layers (edits.set_filter layer filter) = true
-edits_layers (edits.set_range layer min max) = true
-edits_layers (edits.add_layer layer before) = true
-edits_layers (edits.remove_layer id) = true
-edits_layers (edits.move_layer id before) = true
-edits_layers _ = false
 
 -- an edit turns what a session represents into this, and has this answer
 abbrev pub IsAnswer : List SourceTile → (List ℕ → Bool) → Bool → SessionState → SessionState → Edit → Answer → Type 0

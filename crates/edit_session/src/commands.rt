@@ -4,8 +4,8 @@ ghost use Rattle.std.specs.Prelude.{◌≡◌, ℕ, List, Bool, None, true, opti
 ghost use Rattle.decimal_json.specs.View.{tree_of};
 ghost use Rattle.edit_script.specs.Edit as edits;
 ghost use Rattle.edit_script.specs.View.{command_seen};
-ghost use Rattle.edit_session.specs.Applied.{listed, listing_of, refusal_of};
-ghost use Rattle.edit_session.specs.View.{session_state, reply_seen, tiles_of, IsAnswer, IsReady, edits_layers, told};
+ghost use Rattle.edit_session.specs.Applied.{edits_layers, listed, listing_of, refusal_of};
+ghost use Rattle.edit_session.specs.View.{session_state, reply_seen, tiles_of, IsAnswer, IsReady, told};
 ghost use Rattle.host_ops.specs.Change.{IsSameTest};
 ghost use Rattle.prop_values.specs.Data.{pairs_of};
 ghost use Rattle.prop_values.specs.View.{data_of};
@@ -13,16 +13,16 @@ ghost use Rattle.style_edits.specs.Faults.{edit_fault};
 ghost use Rattle.style_edits.specs.Places.{places_of};
 
 use crate::answer::{Answer, Refusal};
-use crate::globals::with_global;
+use crate::globals::{reads_globals, set_global};
 use crate::session::Session;
-use crate::whole::{prepared_whole, prepared_within};
+use crate::whole::prepared_whole;
 use decimal_json::Text;
 use edit_script::Command;
 use host_ops::{HostOp, TellFault};
 use prop_values::{Entries, Value, copy_entries};
 use std::alloc::{AllocError, Global};
 use style_edits::{EditFault, EditPlaces, edit_at, edit_fault, edit_places, undo_edit};
-use style_layout::Zoom;
+use style_layout::{Zoom, prepare};
 
 impl Session<'_> {
     /// The answer to a command, of a session that has memory.
@@ -119,6 +119,7 @@ impl Session<'_> {
         Ok(Answer::Done)
     }
 
+    #[tactic(auto, using(crate::proofs::AppliedLaws::whole_with, crate::proofs::SteadyLayers::style_steady))]
     fn set_global(&mut self, name: &Text, value: &Value) -> Result<Answer, AllocError>
         requires ready { IsReady self.old }
         ensures answer { (has_image scripts : List ℕ → Bool) (can_change : Bool)
@@ -127,15 +128,11 @@ impl Session<'_> {
         ensures tiles { tiles_of self.new ≡ tiles_of self.old }
         ensures ready { OnOk result (IsReady self.new) }
     {
-        let globals = with_global(self.alloc, &self.document, name, value, &self.globals)?;
-        match prepared_within(self.alloc, &self.document, &globals, self.tiles.as_slice())? {
-            Ok(prepared) => {
-                self.globals = globals;
-                self.prepared = prepared;
-                Ok(Answer::Done)
-            }
-            Err(refusal) => Ok(Answer::Refused(refusal)),
+        set_global(self.alloc, &self.document, name, value, &mut self.globals)?;
+        if self.reads_globals {
+            self.prepared = prepare(self.alloc, &self.document, &self.globals)?;
         }
+        Ok(Answer::Done)
     }
 
     // The answer to an edit of layers, which is taken back where the whole document is refused.
@@ -159,6 +156,7 @@ impl Session<'_> {
         )? {
             Ok(prepared) => {
                 self.prepared = prepared;
+                self.reads_globals = reads_globals(&self.document);
                 Ok(Answer::Done)
             }
             Err(refusal) => {

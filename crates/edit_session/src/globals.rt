@@ -1,54 +1,102 @@
-//! The values of the global state after one is set.
+//! The values of the global state, of which one is set, and whether layers read them.
 
-ghost use Rattle.std.specs.Prelude.{◌≡◌, IfOk, option_map};
-ghost use Rattle.decimal_json.specs.View.{tree_of};
+ghost use Rattle.std.specs.Prelude.{◌≡◌, IfOk, OnOk, option_map};
+ghost use Rattle.decimal_json.specs.View.{fields, tree_of, trees};
 ghost use Rattle.edit_session.specs.Applied.{default_of, value_or_default, with_global, with_or_without};
+ghost use Rattle.edit_session.specs.View.{reads_globals};
+ghost use Rattle.global_laws.specs.GlobalLaw.{items_name_globals, members_name_globals, names_globals};
 ghost use Rattle.prop_values.specs.View.{data_of};
 
-use decimal_json::{Json, Text};
-use prop_values::{Entries, Value, copy, copy_entries};
+use decimal_json::{Json, Member, Text};
+use prop_values::{Entries, Value, copy};
 use std::alloc::{AllocError, Global};
-use style_layout::globals_of;
+use style_layout::global_default;
+use style_parts::layers_of;
 
-/// The values after a name got one. For null it gets the document's default, or is taken away where there is none.
-pub(crate) fn with_global(
+/// Gives a name its value, in time logarithmic in the names. For null it gets the document's default, or is taken away
+/// where there is none.
+pub(crate) fn set_global(
     alloc: Global,
     document: &Json,
     name: &Text,
     value: &Value,
-    globals: &Entries,
-) -> Result<Entries, AllocError>
-    ensures { IfOk result (λ made. made ≡ with_global (tree_of document.now) name.now (data_of value.now) globals.now) }
+    globals: &mut Entries,
+) -> Result<(), AllocError>
+    ensures { OnOk result (globals.new ≡ with_global (tree_of document.now) name.now (data_of value.now) globals.old) }
 {
-    let value = match value {
-        Value::Null => default_of(alloc, document, name.as_str())?,
-        value => Some(copy(value)?),
-    };
-    with_or_without(alloc, name, value, globals)
+    let value = value_or_default(alloc, document, name.as_str(), value)?;
+    set_or_remove(name, value, globals)
 }
 
-fn default_of(alloc: Global, document: &Json, name: &str) -> Result<Option<Value>, AllocError>
-    ensures { IfOk result (λ found. option_map data_of found ≡ default_of (tree_of document.now) name.now) }
-{
-    let defaults = globals_of(alloc, document)?;
-    match defaults.get(name) {
-        Some(value) => Ok(Some(copy(value)?)),
-        None => Ok(None),
-    }
-}
-
-fn with_or_without(
+fn value_or_default(
     alloc: Global,
-    name: &Text,
-    value: Option<Value>,
-    globals: &Entries,
-) -> Result<Entries, AllocError>
-    ensures { IfOk result (λ made. made ≡ with_or_without name.now (option_map data_of value) globals.now) }
+    document: &Json,
+    name: &str,
+    value: &Value,
+) -> Result<Option<Value>, AllocError>
+    ensures { IfOk result (λ made. option_map data_of made
+        ≡ value_or_default (data_of value.now) (default_of (tree_of document.now) name.now)) }
 {
-    let mut made = copy_entries(alloc, globals)?;
     match value {
-        Some(value) => made.set(name.share()?, value)?,
-        None => made.remove(name.as_str()),
+        Value::Null => global_default(alloc, document, name),
+        value => Ok(Some(copy(value)?)),
     }
-    Ok(made)
+}
+
+fn set_or_remove(name: &Text, value: Option<Value>, globals: &mut Entries) -> Result<(), AllocError>
+    ensures { OnOk result (globals.new ≡ with_or_without name.now (option_map data_of value) globals.old) }
+{
+    match value {
+        Some(value) => globals.set(name.share()?, value),
+        None => {
+            globals.remove(name.as_str());
+            Ok(())
+        }
+    }
+}
+
+/// Whether a text in the layers of a document is `global-state`. Where none is, no value of them reads the global state.
+pub(crate) fn reads_globals(document: &Json) -> bool
+    ensures { result ≡ reads_globals (tree_of document.now) }
+{
+    items_name_globals(layers_of(document))
+}
+
+#[tactic(auto, using(decimal_json::specs::Falls::item_weight, decimal_json::specs::Falls::member_weight))]
+#[cycle(names)]
+fn names_globals(json: &Json) -> bool
+    ensures { result ≡ names_globals (tree_of json.now) }
+{
+    match json {
+        Json::Text(text) => text.as_str() == "global-state",
+        Json::List(items) => items_name_globals(items.as_slice()),
+        Json::Object(members) => members_name_globals(members.as_slice()),
+        _ => false,
+    }
+}
+
+#[tactic(auto, using(decimal_json::specs::Falls::item_weight, decimal_json::specs::Falls::member_weight))]
+#[cycle(names)]
+fn items_name_globals(items: &[Json]) -> bool
+    ensures { result ≡ items_name_globals (trees items.now) }
+{
+    for item in items {
+        if names_globals(item) {
+            return true;
+        }
+    }
+    false
+}
+
+#[tactic(auto, using(decimal_json::specs::Falls::item_weight, decimal_json::specs::Falls::member_weight))]
+#[cycle(names)]
+fn members_name_globals(members: &[Member]) -> bool
+    ensures { result ≡ members_name_globals (fields members.now) }
+{
+    for member in members {
+        if names_globals(&member.value) {
+            return true;
+        }
+    }
+    false
 }

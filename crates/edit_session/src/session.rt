@@ -13,6 +13,7 @@ ghost use Rattle.style_layout.specs.CodeView.{tile_seen};
 ghost use Rattle.style_rules.specs.Findings.{findings};
 
 use crate::answer::Answer;
+use crate::globals::reads_globals;
 use crate::opening::{OpenFault, first_of_no_vector, first_unknown, is_within_limit};
 use decimal_json::Json;
 use edit_script::Command;
@@ -41,6 +42,8 @@ pub struct Session<'a> {
     pub(crate) globals: Entries,
     /// The layers of the document, by the values of the global state.
     pub(crate) prepared: PreparedStyle,
+    /// Whether the layers may read the global state.
+    pub(crate) reads_globals: bool,
     pub(crate) lacks_memory: bool,
 }
 
@@ -90,6 +93,7 @@ impl<'a> Session<'a> {
         if let Some(source) = first_of_no_vector(&style, tiles.as_slice()) {
             return Ok(Err(OpenFault::NotVector(source)));
         }
+        let reads_globals = reads_globals(&style);
         let globals = globals_of(alloc, &style)?;
         let prepared = prepare(alloc, &style, &globals)?;
         if !is_within_limit(&prepared, tiles.as_slice()) {
@@ -107,6 +111,7 @@ impl<'a> Session<'a> {
             states: States::new(alloc),
             globals,
             prepared,
+            reads_globals,
             lacks_memory: false,
         }))
     }
@@ -162,20 +167,6 @@ impl<'a> Session<'a> {
             evaluator: TreeWalk { images, scripts },
         };
         let tiles = self.tiles.as_slice();
-        let mut text = Vec::new(self.alloc);
-        write_listing(self.alloc, &self.prepared, &scene, tiles, &mut text)?;
-        append(text, out)
+        write_listing(self.alloc, &self.prepared, &scene, tiles, out)
     }
-}
-
-// Appends a text, which is moved where there is none before it.
-fn append(text: Vec<u8>, out: &mut Vec<u8>) -> Result<(), AllocError>
-    ensures ok { OnOk result (out.new.items ≡ out.old.items ++ text.items) }
-    ensures err { OnErr result (out.new.items ≡ out.old.items) }
-{
-    if out.is_empty() {
-        *out = text;
-        return Ok(());
-    }
-    out.extend_from_slice(text.as_slice())
 }

@@ -3,10 +3,9 @@
 ghost use Rattle.std.specs.Prelude.{◌≡◌, map, IfOk};
 ghost use Rattle.std.specs.Result.{result_err};
 ghost use Rattle.decimal_json.specs.View.{tree_of};
-ghost use Rattle.edit_session.specs.Applied.{first_finding, limit_refusal, whole_refusal};
+ghost use Rattle.edit_session.specs.Applied.{first_finding, whole_refusal};
 ghost use Rattle.style_layout.specs.CodeView.{layers_seen, tile_seen};
 ghost use Rattle.style_layout.specs.Layers.{style_layers};
-ghost use Rattle.style_layout.specs.StyleLayout.{cell_count};
 ghost use Rattle.style_rules.specs.Findings.{findings};
 
 use crate::answer::Refusal;
@@ -32,21 +31,6 @@ pub(crate) fn prepared_whole(
     if let Some(refusal) = first_finding(alloc, document)? {
         return Ok(Err(refusal));
     }
-    prepared_within(alloc, document, globals, tiles)
-}
-
-/// A document within the limit of cells, prepared; or its refusal.
-pub(crate) fn prepared_within(
-    alloc: Global,
-    document: &Json,
-    globals: &Entries,
-    tiles: &[SourceTile<'_>],
-) -> Result<Result<PreparedStyle, Refusal>, AllocError>
-    ensures prepared { IfOk result (λ made. IfOk made (λ prepared.
-        layers_seen prepared ≡ style_layers globals.now (tree_of document.now))) }
-    ensures refusal { IfOk result (λ made. result_err made
-        ≡ limit_refusal (cell_count (map tile_seen tiles.now) (style_layers globals.now (tree_of document.now)))) }
-{
     let prepared = prepare(alloc, document, globals)?;
     if !is_within_limit(&prepared, tiles) {
         return Ok(Err(Refusal::CellLimit));

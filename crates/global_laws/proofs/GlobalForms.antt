@@ -1,13 +1,10 @@
 -- A tree reads alike with any two lists of values of the global state.
-use Rattle.std.proofs.Common.{◌≡◌, ℕ, ◌+◌, ◌-◌, ℤ, List, [], ◌∷◌, ◌++◌, length, refl, sym, ap, subst, Bool, true, false, Option, Some, None, Result, Ok, Err}
+use Rattle.std.proofs.Common.{◌≡◌, ℕ, ◌+◌, ◌-◌, List, [], ◌∷◌, ◌++◌, length, refl, subst, Bool, true, false, Option, Some, None, Result, Ok, Err}
 use Rattle.std.specs.Prelude.{not, ◌||◌, nat_eq, is_none, if◌then◌else◌}
 use Rattle.decimal_json.specs.Tree.{Tree, null, boolean, number, text, list, object, Trees, no_trees, tree, Fields, no_fields, field}
 use Rattle.decimal_json.specs.declared.paths.PathPart.{PathPart}
 use Rattle.decimal_json.specs.declared.paths.PathPart.TheVariants.{Key}
 use Rattle.fixed_num.specs.Decimal.{read_text}
-use Rattle.prop_values.specs.Data.{Data}
-use Rattle.prop_values.specs.declared.kinds.Want.{Want}
-use Rattle.property_tables.specs.Rows.{RowData}
 use Rattle.expr_syntax.specs.declared.fault.SynFault.{SynFault}
 use Rattle.expr_syntax.specs.declared.fault.SynCode.{SynCode}
 use Rattle.expr_syntax.specs.declared.fault.SynCode.TheVariants as code
@@ -23,13 +20,12 @@ use Rattle.expr_syntax.specs.BoundNames.{is_among}
 use Rattle.expr_syntax.specs.Elements.{Element, head_text, second, second_text, option_named}
 use Rattle.expr_syntax.specs.Names.{row, name_of}
 use Rattle.expr_syntax.specs.Parts.{operator_of, var_operator}
-use Rattle.expr_syntax.specs.Reading.{Read, Reader, Reading, read, options, elements, members, array_read, named_read, node_read, number_read, literal_read, global_read, arguments, and_term, then_node, with_operator, names_in, at, fault, is_part, then_term, then_sections, with_piece, option_read, options_read, section_read, sections_read, no_sections, then_format, is_value_layout, is_global_layout, inside, reading_with}
+use Rattle.expr_syntax.specs.Reading.{Read, Reader, read, options, elements, members, array_read, named_read, node_read, number_read, literal_read, global_read, arguments, and_term, then_node, with_operator, names_in, at, fault, is_part, then_term, then_sections, with_piece, option_read, options_read, section_read, sections_read, no_sections, then_format, is_value_layout, is_global_layout, inside}
 use Rattle.expr_syntax.specs.Rows.{allows, element_place, is_last}
 use Rattle.expr_syntax.specs.Scopes.{Scope, globals, frame, is_known, global_at}
 use Rattle.expr_syntax.specs.Standing.{is_format_layout, is_outside}
 use Rattle.expr_syntax.specs.Term.{Term, node, terms_of}
 use Rattle.expr_types.specs.Checked.{allowed}
-use Rattle.expr_types.specs.Visits.{visits}
 use Rattle.expr_types.specs.declared.standing.Standing.TheVariants.{Reached}
 use Rattle.global_laws.specs.GlobalLaw.{HasTheSameForm, IsReadAlike, GlobalValuesChangeNoForm}
 use Rattle.global_laws.proofs.SameTerms.{SameTerm, SameList, same_itself, nodes_same, push_same, globals_same}
@@ -43,7 +39,7 @@ SameRead (Ok t) (Err g) = ⊥
 SameRead (Err f) (Ok u) = ⊥
 
 -- scopes that know the same names of `let`
-abbrev SameNames : Scope → Scope → Type 0
+abbrev pub SameNames : Scope → Scope → Type 0
 SameNames new old = (name : List ℕ) → is_known new name ≡ is_known old name
 
 abbrev IsSteady : Reader → Type 0
@@ -111,7 +107,7 @@ arguments_same layout n i (e ∷ es) inner scope inside' outside path h m k =
 framed : (names : List (List ℕ)) (new old : Scope) → SameNames new old → SameNames (frame names new) (frame names old)
 framed names new old h name = λ k. is_among names name || h name k
 
-names_within : (op : Operator) (new old : Scope) → SameNames new old → SameNames (names_in op new) (names_in op old)
+pub names_within : (op : Operator) (new old : Scope) → SameNames new old → SameNames (names_in op new) (names_in op old)
 names_within (Let names) new old h = framed names new old h
 names_within op new old h = h
 
@@ -132,7 +128,7 @@ var_same : (new old : Scope) (name : Option (List ℕ)) → SameNames new old �
 var_same new old None h = refl
 var_same new old (Some s) h = λ k. if h s k then Ok (Var s) else Err code.UnknownVar
 
-operator_same : (layout : ElementLayout) (name : Name) (new old : Scope) (n : ℕ) (ts : Trees) → SameNames new old →
+pub operator_same : (layout : ElementLayout) (name : Name) (new old : Scope) (n : ℕ) (ts : Trees) → SameNames new old →
     operator_of layout name new n ts ≡ operator_of layout name old n ts
 operator_same layouts.Variable name new old n ts h = var_same new old (second_text ts) h
 operator_same layout name new old n ts h = refl
@@ -143,7 +139,7 @@ abbrev type_of : {A : Type 0} → A → Type 0
 type_of {A} x = A
 
 -- the pieces and the arguments of a `format`
-abbrev FormatArguments : Type 0
+abbrev pub FormatArguments : Type 0
 FormatArguments = type_of no_sections
 
 abbrev SameSections : Result FormatArguments SynFault → Result FormatArguments SynFault → Type 0

@@ -1,2 +1,3 @@
 pub mod SameTerms
 pub mod GlobalForms
+pub mod SteadyReading

@@ -1,13 +1,12 @@
 -- Terms that every walk over terms finds the same.
-use Rattle.std.proofs.Common.{◌≡◌, ℕ, ◌+◌, List, [], ◌∷◌, ◌++◌, refl, ap}
-use Rattle.std.specs.Prelude.{Option, Some, None}
-use Rattle.prop_values.specs.Data.{Data, text, map}
+use Rattle.std.proofs.Common.{◌≡◌, ℕ, ◌+◌, List, [], ◌∷◌, ◌++◌, refl}
+use Rattle.std.specs.Prelude.{Option}
+use Rattle.prop_values.specs.Data.{Data}
 use Rattle.expr_syntax.specs.Mentioned.{mentions, all_mentions, count, either, of_operator}
-use Rattle.expr_syntax.specs.Reading.{global_term, global_object}
-use Rattle.expr_syntax.specs.Term.{Term, literal, node, Terms, no_terms, term, terms_of}
+use Rattle.expr_syntax.specs.Reading.{global_term}
+use Rattle.expr_syntax.specs.Term.{Term, node, Terms, no_terms, term, terms_of}
 use Rattle.expr_syntax.specs.TermSize.{nodes, terms_nodes}
 use Rattle.expr_syntax.specs.declared.expression.Operator.{Operator}
-use Rattle.expr_syntax.specs.declared.expression.Operator.TheVariants as operators
 use Rattle.expr_types.specs.Typing.{typed_as, typings, node_typed, literal_of, literals}
 use Rattle.expr_types.specs.Visits.{visits, visitings, node_visits}
 

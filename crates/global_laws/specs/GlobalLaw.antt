@@ -1,6 +1,7 @@
 -- The values of the global state decide what an expression gives, and never its form. Source: own.
-use Rattle.std.specs.Prelude.{◌≡◌, ℕ, List, [], Option, Some, None, Ok, Err}
-use Rattle.decimal_json.specs.Tree.{Tree}
+use Rattle.std.specs.Prelude.{◌≡◌, ℕ, List, [], codes, Bool, false, ◌||◌, Option, Some, None, Ok, Err}
+use Rattle.std.specs.Str.{bytes_eq}
+use Rattle.decimal_json.specs.Tree.{Tree, null, boolean, number, text, list, object, Trees, no_trees, tree, Fields, no_fields, field}
 use Rattle.prop_values.specs.Data.{Data}
 use Rattle.prop_values.specs.declared.kinds.Want.{Want}
 use Rattle.property_tables.specs.Rows.{RowData}
@@ -31,3 +32,26 @@ IsReadAlike r s = ⊥
 abbrev pub GlobalValuesChangeNoForm : Type 0
 GlobalValuesChangeNoForm =
     (t : Tree) (new old : List (List ℕ × Data)) → IsReadAlike (reading_with t new) (reading_with t old)
+
+-- some text of a tree, an item or the value of a member however deep, is `global-state`
+abbrev mutual
+  pub names_globals : Tree → Bool
+  names_globals null = false
+  names_globals (boolean b) = false
+  names_globals (number n) = false
+  names_globals (text s) = bytes_eq s (codes "global-state")
+  names_globals (list ts) = items_name_globals ts
+  names_globals (object fs) = members_name_globals fs
+
+  pub items_name_globals : Trees → Bool
+  items_name_globals no_trees = false
+  items_name_globals (tree t ts) = names_globals t || items_name_globals ts
+
+  pub members_name_globals : Fields → Bool
+  members_name_globals no_fields = false
+  members_name_globals (field key t fs) = names_globals t || members_name_globals fs
+
+-- A tree without that text reads the same with any two lists of values.
+abbrev pub OtherTreesReadTheSame : Type 0
+OtherTreesReadTheSame =
+    (t : Tree) (new old : List (List ℕ × Data)) → names_globals t ≡ false → reading_with t new ≡ reading_with t old

@@ -1,3 +1,4 @@
 pub mod KeyedLists
 pub mod CellLaws
 pub mod RowLists
+pub mod Defaults

@@ -5,6 +5,8 @@ ghost use Rattle.std.specs.Option.{option_and_then};
 ghost use Rattle.decimal_json.specs.Tree.{fields_of};
 ghost use Rattle.decimal_json.specs.View.{tree_of, fields};
 ghost use Rattle.decimal_json.specs.Accessors.{member, fields_in};
+ghost use Rattle.prop_values.specs.Data.{pairs_of};
+ghost use Rattle.prop_values.specs.Equality.{at_key};
 ghost use Rattle.prop_values.specs.JsonData.{json_data};
 ghost use Rattle.prop_values.specs.View.{data_of};
 ghost use Rattle.style_layout.specs.Globals.{globals_of, with_defaults, with_default, default_in, data_read};
@@ -20,6 +22,33 @@ pub fn globals_of(alloc: Global, document: &Json) -> Result<Entries, AllocError>
     match state_of(document) {
         Some(state) => defaults_of(alloc, state.as_slice()),
         None => Ok(Entries::new(alloc)),
+    }
+}
+
+/// The default that `state` has for a name, in time logarithmic in its names at most.
+pub fn global_default(
+    alloc: Global,
+    document: &Json,
+    name: &str,
+) -> Result<Option<Value>, AllocError>
+    ensures { IfOk result (λ found. option_map data_of found ≡ at_key name.now (pairs_of (globals_of (tree_of document.now)))) }
+{
+    match state_of(document) {
+        Some(state) => default_among(alloc, state, name),
+        None => Ok(None),
+    }
+}
+
+#[tactic(auto, using(crate::proofs::Defaults::default_found, crate::proofs::Defaults::default_lacking))]
+fn default_among(alloc: Global, state: &Members, name: &str) -> Result<Option<Value>, AllocError>
+    ensures { IfOk result (λ found. option_map data_of found ≡ at_key name.now (pairs_of (with_defaults [] (fields_of state.now)))) }
+{
+    if state.as_slice().is_empty() {
+        return Ok(None);
+    }
+    match state.get(name) {
+        Some(json) => default_in(alloc, json),
+        None => Ok(None),
     }
 }
 

@@ -11,8 +11,9 @@
 //! }
 //! ```
 //!
-//! What is promised: `write_listing` appends the listing of the layout of `specs/StyleLayout.antt`, and `cell_count` is its count of cells,
-//! or 2^128 - 1 where there are more.
+//! What is promised: `write_listing` appends the listing of the layout of `specs/StyleLayout.antt`, or nothing when allocation fails.
+//! `cell_count` is its count of cells, or 2^128 - 1 where there are more. `globals_of` gives the values that the names of the global
+//! state have from the document, and `global_default` that of one name.
 //! Each value is read once. A layer's values that mention no feature are evaluated once, all others once for each feature that passes, and
 //! each feature is written as it is evaluated; only a layer with a sort key keeps a list of its features.
 //!
@@ -34,7 +35,7 @@ mod values;
 mod zoom;
 
 pub use cells::cell_count;
-pub use globals::globals_of;
+pub use globals::{global_default, globals_of};
 pub use listing::write_listing;
 pub use prepared::{PreparedStyle, prepare};
 pub use scene::{Evaluator, Scene, SourceTile, TreeWalk};

@@ -1,6 +1,6 @@
 //! The listing of what a style shows, written as it is evaluated.
 
-ghost use Rattle.std.specs.Prelude.{◌≡◌, ◌++◌, ◌<◌, ◌^◌, flat_map, length, map, OnOk};
+ghost use Rattle.std.specs.Prelude.{◌≡◌, ◌++◌, ◌<◌, ◌^◌, flat_map, length, map, OnOk, OnErr};
 ghost use Rattle.listing_text.specs.Listing.{below_layer, feature_lines, layer_lines, listing};
 ghost use Rattle.style_layout.specs.CodeView.{layer_seen, layers_seen, scene_seen, tile_seen};
 ghost use Rattle.style_layout.specs.Shown.{feature_outs, layer_features, shown_features};
@@ -16,9 +16,39 @@ use crate::sorted::write_in_order;
 use listing_text::{Show, write_end, write_layer_line, write_zoom};
 use std::alloc::{AllocError, Global};
 
-/// Appends the listing of the layout of a style over tiles. Asks a style of fewer than 2^32 cells.
-#[tactic(auto, unfolding(listing_text::specs::Listing::listing, crate::specs::CodeView::scene_seen))]
+/// Appends the listing of the layout of a style over tiles; where allocation fails, nothing. Asks a style of fewer than 2^32
+/// cells.
 pub fn write_listing<E: Evaluator>(
+    alloc: Global,
+    style: &PreparedStyle,
+    scene: &Scene<'_, E>,
+    tiles: &[SourceTile<'_>],
+    out: &mut Vec<u8>,
+) -> Result<(), AllocError>
+    requires { cell_count (map tile_seen tiles.now) (layers_seen style.now) < 2 ^ 32 }
+    ensures ok { OnOk result (out.new.items ≡ out.old.items
+        ++ listing (layers_layout (scene_seen E.tests scene.now) (map tile_seen tiles.now) (layers_seen style.now))) }
+    ensures err { OnErr result (out.new.items ≡ out.old.items) }
+{
+    let mut text = Vec::new(alloc);
+    write_lines(alloc, style, scene, tiles, &mut text)?;
+    append(text, out)
+}
+
+// Appends a text, which is moved where there is none before it.
+fn append(text: Vec<u8>, out: &mut Vec<u8>) -> Result<(), AllocError>
+    ensures ok { OnOk result (out.new.items ≡ out.old.items ++ text.items) }
+    ensures err { OnErr result (out.new.items ≡ out.old.items) }
+{
+    if out.is_empty() {
+        *out = text;
+        return Ok(());
+    }
+    out.extend_from_slice(text.as_slice())
+}
+
+#[tactic(auto, unfolding(listing_text::specs::Listing::listing, crate::specs::CodeView::scene_seen))]
+fn write_lines<E: Evaluator>(
     alloc: Global,
     style: &PreparedStyle,
     scene: &Scene<'_, E>,
