@@ -1,7 +1,8 @@
 #!/usr/bin/env python3
-"""Joins the rows of crates/worked_rows/rows/*.jsonl, in the order of the files' names, into the crate's stdin and stdout.
+"""Joins the rows of crates/worked_rows/rows/*.jsonl, in the order of the files' names, into the crate's stdin and stdout. The
+expressions of the rows of `value` that end with a value or a fault are the stdin of crates/node_rows.
 
-    checks/rows.py            writes both files
+    checks/rows.py            writes these files
     checks/rows.py --check    says whether they are what it would write, by its exit status
     checks/rows.py --run PROGRAM [NAME.jsonl ..]    runs rows by the program itself, in a folder with their files
 
@@ -16,8 +17,8 @@ import sys
 import tempfile
 
 HERE = os.path.dirname(os.path.abspath(__file__))
-CRATE = os.path.join(HERE, "..", "crates", "worked_rows")
-ROWS = os.path.join(CRATE, "rows")
+CRATES = os.path.join(HERE, "..", "crates")
+ROWS = os.path.join(CRATES, "worked_rows", "rows")
 
 
 def row_files():
@@ -37,9 +38,20 @@ def read_rows(names):
 
 
 def joined():
-    """What stdin and stdout have to be."""
+    """What files of crates have to be, by their names."""
     rows = read_rows(row_files())
-    return ("".join(line + "\n" for line, _ in rows), "".join(f"ok {row['name']}\n" for _, row in rows))
+    return {
+        "worked_rows/stdin": "".join(line + "\n" for line, _ in rows),
+        "worked_rows/stdout": "".join(f"ok {row['name']}\n" for _, row in rows),
+        "node_rows/stdin": "".join(expression + "\n" for expression in dict.fromkeys(expressions(rows))),
+    }
+
+
+def expressions(rows):
+    """The expressions of `value` that are read and well typed: one word of one line, and a status of a value or a fault."""
+    for _, row in rows:
+        if row["words"][:1] == ["value"] and len(row["words"]) == 2 and row["status"] in (0, 1) and isinstance(row["words"][1], str):
+            yield row["words"][1].replace("\n", " ").replace("\r", " ")
 
 
 def content(value):
@@ -79,10 +91,9 @@ def run_rows(program, names):
 def main(arguments):
     if arguments[:1] == ["--run"]:
         return run_rows(os.path.abspath(arguments[1]), arguments[2:])
-    texts = dict(zip(("stdin", "stdout"), joined()))
     stored = True
-    for name, text in texts.items():
-        path = os.path.join(CRATE, name)
+    for name, text in joined().items():
+        path = os.path.join(CRATES, name)
         if arguments[:1] == ["--check"]:
             with open(path, encoding="utf-8") as file:
                 stored = stored and file.read() == text

@@ -4,3 +4,12 @@ mod ScopeLaws
 mod ResolveShape
 mod ResolveMeaning
 mod ResolveLaws
+-- The evaluator.
+pub mod BindingPlaces
+pub mod SlotLaws
+pub mod NodeLaws
+pub mod Composing
+pub mod ArgumentParts
+pub mod BindingParts
+pub mod BranchParts
+pub mod BoxedLaws

@@ -17,9 +17,9 @@ get_front [] ys i h = absurd (omega arith)
 get_front (x ∷ xs) ys zero h = refl
 get_front (x ∷ xs) ys (suc i) h = get_front xs ys i (omega arith)
 
-pub get_last : {A : Type 0} (xs : List A) (y : A) → slice_get (xs ++ y ∷ []) (length xs) ≡ Some y
-get_last [] y = refl
-get_last (x ∷ xs) y = get_last xs y
+pub get_new : {A : Type 0} (xs ys : List A) (y : A) → slice_get (xs ++ y ∷ ys) (length xs) ≡ Some y
+get_new [] ys y = refl
+get_new (x ∷ xs) ys y = get_new xs ys y
 
 pub length_last : {A : Type 0} (xs : List A) (y : A) → length (xs ++ y ∷ []) ≡ length xs + 1
 length_last [] y = refl
@@ -82,7 +82,7 @@ earlier_last before binding h w i found e =
 -- ---- promises of more bindings
 
 -- what was promised stays
-promises_stay : (bindings : List Node) (before : List Evaluated) (world : World) →
+pub promises_stay : (bindings : List Node) (before : List Evaluated) (world : World) →
     (later : List Evaluated) × (promises_after before bindings world ≡ before ++ later)
 promises_stay [] before world = ([], sym (append-nil before))
 promises_stay (binding ∷ bindings) before world =
@@ -106,7 +106,7 @@ promises_both before [] later world = refl
 promises_both before (binding ∷ bindings) later world =
     promises_both (before ++ outcome binding before world ∷ []) bindings later world
 
-promise_count : (bindings : List Node) (world : World) → length (promises bindings world) ≡ length bindings
+pub promise_count : (bindings : List Node) (world : World) → length (promises bindings world) ≡ length bindings
 promise_count bindings world = let r = promises_length bindings [] world in omega arith
 
 pub more_promises : (bindings later all : List Node) (world : World) → all ≡ bindings ++ later →
@@ -123,7 +123,7 @@ last_promise bindings binding world =
     let before = promises bindings world in
     let own = outcome binding before world in
     ap (λ ps. slice_get ps (length bindings)) (promises_both [] bindings (binding ∷ []) world)
-    ∙ (ap (λ n. slice_get (before ++ own ∷ []) n) (sym (promise_count bindings world)) ∙ get_last before own)
+    ∙ (ap (λ n. slice_get (before ++ own ∷ []) n) (sym (promise_count bindings world)) ∙ get_new before [] own)
 
 -- ---- a node asks for nothing that comes later
 

@@ -1,5 +1,5 @@
 -- What a node gives, by what the bindings give that it asks for. Own; the operators are those of eval_face.
-use Rattle.std.specs.Prelude.{ℕ, List, [], ◌∷◌, ◌++◌, Option, Some, None, Err}
+use Rattle.std.specs.Prelude.{List, [], ◌∷◌, ◌++◌, Option, Some, None, Err}
 use Rattle.std.specs.List.{slice_get}
 use Rattle.prop_values.specs.Data.{pairs_of}
 use Rattle.prop_values.specs.declared.fault.EvalFault.TheVariants.{WrongType}

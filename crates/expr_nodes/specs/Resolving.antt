@@ -1,5 +1,5 @@
 -- An expression with its bindings in a list, and their numbers in the place of names. A `let` and a `var` are nodes no more.
-use Rattle.std.specs.Prelude.{◌≡◌, ℕ, ◌+◌, ◌≤◌, List, [], ◌∷◌, ◌++◌, length, Bool, true, false, Option, Some, None, Err, if◌then◌else◌}
+use Rattle.std.specs.Prelude.{ℕ, ◌+◌, List, [], ◌∷◌, ◌++◌, length, Bool, true, false, Option, Some, None, Err, if◌then◌else◌}
 use Rattle.prop_values.specs.Data.{text}
 use Rattle.prop_values.specs.Equality.{same_text}
 use Rattle.prop_values.specs.declared.fault.EvalFault.TheVariants.{WrongType}

@@ -1,0 +1,173 @@
+//! Nodes whose arguments are evaluated from left to right: the first fault is the answer.
+
+ghost use Rattle.std.specs.Prelude.{◌<◌, [], length};
+ghost use Rattle.eval_face.specs.Meanings.{values_of};
+ghost use Rattle.prop_values.specs.declared.kinds.Want.TheVariants.{Any};
+ghost use Rattle.operator_rules.specs.RuleParts.{each_of, deciding_of};
+ghost use Rattle.expr_nodes.specs.Node.{children, total_size};
+ghost use Rattle.expr_nodes.specs.Limits.{EachAsksBelow};
+ghost use Rattle.expr_nodes.specs.EvaluatesNode.{IsReady, EvaluatesNode, EvaluatesNodes};
+ghost use Rattle.expr_nodes.specs.EvaluatesNode.{known_arguments, arguments_of, argument_in, size_in};
+
+use crate::access::{Bindings, NodeHandle};
+use crate::evaluation::Surroundings;
+use crate::leaves::{sequence_value, undecided_value};
+use crate::slots::NodeEvaluation;
+use expr_syntax::Operator;
+use operator_rules::{WorldView, decided, fitted, is_sequence, node_value};
+use operator_values::Halt;
+use outside_io::Steps;
+use prop_values::{Value, Want};
+use std::sync::ledger::Ledger;
+
+impl NodeEvaluation {
+    /// A node whose operator evaluates all its arguments. The values of one and of two take no memory.
+    #[tactic(auto, using(crate::proofs::NodeLaws::below_at, crate::proofs::NodeLaws::child_size))]
+    #[cycle(nodes)]
+    pub(crate) fn evaluate_each<N: NodeHandle, B: Bindings<N>, W: WorldView, L: Ledger>(
+        &mut self,
+        tree: N,
+        op: &Operator,
+        want: &Want,
+        around: &Surroundings<'_, B, W>,
+        steps: &mut Steps<L>,
+    ) -> Result<Value, Halt>
+        requires below { EachAsksBelow around.now.limit (children (N.node tree)) }
+        requires ready { IsReady around.now.limit (B.listed around.now.bindings.now)
+            (W.world around.now.world.now) self.old }
+        ensures { EvaluatesNode around.now.limit (B.listed around.now.bindings.now)
+            (W.world around.now.world.now) result
+            (each_of op.now
+            (known_arguments (N.node tree) (B.listed around.now.bindings.now) (W.world around.now.world.now))
+            want.now [] (W.world around.now.world.now))
+            (total_size (children (N.node tree))) self.old self.new steps.old steps.new }
+    {
+        match tree.count() {
+            1 => {
+                let value = self.evaluate_argument(tree, op, 0, around, steps)?;
+                node_value(self.alloc, op, &[value], want, around.world)
+            }
+            2 => {
+                let first = self.evaluate_argument(tree, op, 0, around, steps)?;
+                let second = self.evaluate_argument(tree, op, 1, around, steps)?;
+                node_value(self.alloc, op, &[first, second], want, around.world)
+            }
+            _ => self.evaluate_many(tree, op, want, around, steps),
+        }
+    }
+
+    // The values of the arguments are at the end of the stack of values while the node is evaluated.
+    #[tactic(auto, using(crate::proofs::NodeLaws::below_at, crate::proofs::NodeLaws::child_size))]
+    #[cycle(nodes)]
+    fn evaluate_many<N: NodeHandle, B: Bindings<N>, W: WorldView, L: Ledger>(
+        &mut self,
+        tree: N,
+        op: &Operator,
+        want: &Want,
+        around: &Surroundings<'_, B, W>,
+        steps: &mut Steps<L>,
+    ) -> Result<Value, Halt>
+        requires below { EachAsksBelow around.now.limit (children (N.node tree)) }
+        requires ready { IsReady around.now.limit (B.listed around.now.bindings.now)
+            (W.world around.now.world.now) self.old }
+        ensures { EvaluatesNode around.now.limit (B.listed around.now.bindings.now)
+            (W.world around.now.world.now) result
+            (each_of op.now
+            (known_arguments (N.node tree) (B.listed around.now.bindings.now) (W.world around.now.world.now))
+            want.now [] (W.world around.now.world.now))
+            (total_size (children (N.node tree))) self.old self.new steps.old steps.new }
+    {
+        let base = self.values.as_slice().len();
+        self.evaluate_values(tree, op, around, steps)?;
+        self.take_value(op, base, want, around.world)
+    }
+
+    #[tactic(auto, using(crate::proofs::NodeLaws::below_at, crate::proofs::NodeLaws::child_size))]
+    #[cycle(nodes)]
+    fn evaluate_values<N: NodeHandle, B: Bindings<N>, W: WorldView, L: Ledger>(
+        &mut self,
+        tree: N,
+        op: &Operator,
+        around: &Surroundings<'_, B, W>,
+        steps: &mut Steps<L>,
+    ) -> Result<(), Halt>
+        requires below { EachAsksBelow around.now.limit (children (N.node tree)) }
+        requires ready { IsReady around.now.limit (B.listed around.now.bindings.now)
+            (W.world around.now.world.now) self.old }
+        ensures { EvaluatesNodes around.now.limit (B.listed around.now.bindings.now)
+            (W.world around.now.world.now) result
+            (values_of op.now (length
+            (known_arguments (N.node tree) (B.listed around.now.bindings.now) (W.world around.now.world.now))
+            ) 0
+            (known_arguments (N.node tree) (B.listed around.now.bindings.now) (W.world around.now.world.now))
+            Any [] (W.world around.now.world.now))
+            (total_size (children (N.node tree))) self.old self.new steps.old steps.new }
+    {
+        let count = tree.count();
+        for place in 0..count {
+            let value = self.evaluate_argument(tree, op, place, around, steps)?;
+            self.values.push(value)?;
+        }
+        Ok(())
+    }
+
+    // The argument of a place from 0.
+    #[tactic(auto, using(crate::proofs::NodeLaws::below_at, crate::proofs::NodeLaws::child_size))]
+    #[cycle(nodes)]
+    fn evaluate_argument<N: NodeHandle, B: Bindings<N>, W: WorldView, L: Ledger>(
+        &mut self,
+        tree: N,
+        op: &Operator,
+        place: usize,
+        around: &Surroundings<'_, B, W>,
+        steps: &mut Steps<L>,
+    ) -> Result<Value, Halt>
+        requires within { place < length (children (N.node tree)) }
+        requires below { EachAsksBelow around.now.limit (children (N.node tree)) }
+        requires ready { IsReady around.now.limit (B.listed around.now.bindings.now)
+            (W.world around.now.world.now) self.old }
+        ensures { EvaluatesNode around.now.limit (B.listed around.now.bindings.now)
+            (W.world around.now.world.now) result
+            (argument_in op.now
+            (arguments_of (N.node tree) (B.listed around.now.bindings.now) (W.world around.now.world.now))
+            place)
+            (size_in (children (N.node tree)) place) self.old self.new steps.old steps.new }
+    {
+        if !is_sequence(op, place) {
+            return self.evaluate_node(tree.child(place), around, steps);
+        }
+        let value = self.evaluate_node(tree.child(place), around, steps)?;
+        sequence_value(value)
+    }
+
+    /// A node whose operator stops at the argument that decides.
+    #[tactic(auto, using(crate::proofs::NodeLaws::below_at, crate::proofs::NodeLaws::child_size))]
+    #[cycle(nodes)]
+    pub(crate) fn evaluate_deciding<N: NodeHandle, B: Bindings<N>, W: WorldView, L: Ledger>(
+        &mut self,
+        tree: N,
+        op: &Operator,
+        want: &Want,
+        around: &Surroundings<'_, B, W>,
+        steps: &mut Steps<L>,
+    ) -> Result<Value, Halt>
+        requires below { EachAsksBelow around.now.limit (children (N.node tree)) }
+        requires ready { IsReady around.now.limit (B.listed around.now.bindings.now)
+            (W.world around.now.world.now) self.old }
+        ensures { EvaluatesNode around.now.limit (B.listed around.now.bindings.now)
+            (W.world around.now.world.now) result
+            (deciding_of op.now
+            (known_arguments (N.node tree) (B.listed around.now.bindings.now) (W.world around.now.world.now))
+            want.now [] (W.world around.now.world.now))
+            (total_size (children (N.node tree))) self.old self.new steps.old steps.new }
+    {
+        let count = tree.count();
+        for place in 0..count {
+            let value = self.evaluate_argument(tree, op, place, around, steps)?;
+            if let Some(found) = decided(op, value) {
+                return fitted(self.alloc, found, want);
+            }
+        }
+        undecided_value(self.alloc, op, want)
+    }
+}

@@ -1,0 +1,79 @@
+//! The nodes by which an expression is evaluated.
+
+ghost use Rattle.std.specs.Prelude.{◌≡◌, ◌+◌, ◌<◌, ◌≤◌, map};
+ghost use Rattle.operator_values.specs.Evaluated.{GivesValue};
+ghost use Rattle.expr_nodes.specs.Boxed.{boxed_node};
+ghost use Rattle.expr_nodes.specs.Evaluators.{IsEvaluable, sized_node};
+
+use crate::boxed_node::{BoxedBindings, BoxedNode};
+use crate::evaluation::evaluate;
+use operator_rules::WorldView;
+use operator_values::Halt;
+use outside_io::Steps;
+use prop_values::Value;
+use std::alloc::Global;
+use std::marker::Model;
+use std::sync::ledger::Ledger;
+
+/// The node of an expression under a want, its bindings, and how many nodes the expression has, literals
+/// counted. The expression itself is not kept: its operators are those of the nodes.
+#[derive(Drop)]
+pub struct BoxedExpression {
+    root: BoxedNode,
+    bindings: Vec<BoxedNode>,
+    nodes: u64,
+}
+
+impl Model for BoxedExpression {
+    ghost use Rattle.expr_nodes.specs.NodeCode.{BoundNode, bound_node_code};
+
+    ghost Value = { BoundNode };
+
+    ghost coded = { bound_node_code };
+
+    ghost use Rattle.std.specs.Prelude.{map};
+    ghost use Rattle.expr_nodes.specs.Boxed.{boxed_node};
+    ghost use Rattle.expr_nodes.specs.Evaluators.{IsEvaluable};
+
+    ghost view = { λ a. (boxed_node a.root, map boxed_node a.bindings.items, a.nodes) };
+
+    ghost invariant = { λ a. IsEvaluable (boxed_node a.root, map boxed_node a.bindings.items, a.nodes) };
+}
+
+impl BoxedExpression {
+    /// A node with its bindings, of an expression of so many nodes.
+    pub fn new(root: BoxedNode, bindings: Vec<BoxedNode>, nodes: u64) -> BoxedExpression
+        requires { IsEvaluable (boxed_node root, map boxed_node bindings.items, nodes) }
+        ensures { result ≡ (boxed_node root, map boxed_node bindings.items, nodes) }
+    {
+        BoxedExpression {
+            root,
+            bindings,
+            nodes,
+        }
+    }
+
+    /// The value in a world, or the first fault.
+    pub fn evaluated<W: WorldView, L: Ledger>(
+        &self,
+        alloc: Global,
+        world: &W,
+        steps: &mut Steps<L>,
+    ) -> Result<Value, Halt>
+        ensures meaning { GivesValue result ((sized_node self.now).0 (W.world world.now)) }
+        ensures least { steps.old < steps.new }
+        ensures most { steps.new ≤ steps.old + (sized_node self.now).1 }
+    {
+        let bindings = BoxedBindings {
+            nodes: self.bindings.as_slice(),
+        };
+        evaluate(alloc, &self.root, &bindings, world, steps)
+    }
+
+    /// How many nodes the expression has, literals counted.
+    pub fn nodes(&self) -> u64
+        ensures { result ≡ (sized_node self.now).1 }
+    {
+        self.nodes
+    }
+}

@@ -1,0 +1,94 @@
+//! Nodes that own their arguments.
+
+ghost use Rattle.std.specs.Prelude.{◌≡◌, ◌<◌, length, map, Some};
+ghost use Rattle.std.specs.List.{slice_get};
+ghost use Rattle.expr_nodes.specs.Node.{children};
+ghost use Rattle.expr_nodes.specs.NodeForms.{IsForm};
+ghost use Rattle.expr_nodes.specs.Boxed.{boxed_node};
+
+use crate::access::{Bindings, NodeForm, NodeHandle};
+use decimal_json::Text;
+use expr_syntax::Operator;
+use prop_values::{EvalFault, Value, Want};
+
+/// A node with its arguments.
+#[derive(Drop)]
+pub enum BoxedNode {
+    /// A literal that is fitted already.
+    Constant(Value),
+    /// A literal that cannot be fitted.
+    Faulty(EvalFault),
+    /// The binding of a number, and what it is wanted as.
+    Asked(usize, Want),
+    /// The feature's property of a key, and what it is wanted as.
+    Property(Text, Want),
+    /// An operator, what it is wanted as, and its arguments.
+    Inner(Operator, Want, Vec<BoxedNode>),
+}
+
+impl NodeHandle for &BoxedNode {
+    ghost use Rattle.expr_nodes.specs.Boxed.{boxed_node};
+
+    ghost node = { λ s. boxed_node s.now };
+
+    fn form(&self) -> NodeForm<'_> {
+        form_of(self)
+    }
+
+    fn count(&self) -> usize {
+        arguments_of(self).len()
+    }
+
+    fn child(&self, place: usize) -> Self {
+        node_at(arguments_of(self), place)
+    }
+}
+
+fn form_of(node: &BoxedNode) -> NodeForm<'_>
+    ensures { IsForm result (boxed_node node.now) }
+{
+    match node {
+        BoxedNode::Constant(value) => NodeForm::Constant(value),
+        BoxedNode::Faulty(fault) => NodeForm::Faulty(*fault),
+        BoxedNode::Asked(slot, want) => NodeForm::Asked(*slot, *want),
+        BoxedNode::Property(key, want) => NodeForm::Property(key, *want),
+        BoxedNode::Inner(op, want, _) => NodeForm::Inner(op, *want),
+    }
+}
+
+fn arguments_of(node: &BoxedNode) -> &[BoxedNode]
+    ensures { children (boxed_node node.now) ≡ map boxed_node result.now }
+{
+    match node {
+        BoxedNode::Inner(_, _, arguments) => arguments.as_slice(),
+        _ => &[],
+    }
+}
+
+fn node_at(nodes: &[BoxedNode], place: usize) -> &BoxedNode
+    requires { place < length nodes.now }
+    ensures { slice_get (map boxed_node nodes.now) place ≡ Some (boxed_node result.now) }
+{
+    &nodes[place]
+}
+
+/// The bindings of an expression, in order.
+#[derive(Clone, Copy)]
+pub struct BoxedBindings<'a> {
+    pub nodes: &'a [BoxedNode],
+}
+
+impl<'a> Bindings<&'a BoxedNode> for BoxedBindings<'a> {
+    ghost use Rattle.std.specs.Prelude.{map};
+    ghost use Rattle.expr_nodes.specs.Boxed.{boxed_node};
+
+    ghost listed = { λ s. map boxed_node s.nodes.now };
+
+    fn count(&self) -> usize {
+        self.nodes.len()
+    }
+
+    fn binding(&self, slot: usize) -> &'a BoxedNode {
+        node_at(self.nodes, slot)
+    }
+}

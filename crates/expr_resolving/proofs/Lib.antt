@@ -1,0 +1,3 @@
+mod ResolvingLaws
+mod BoxingLaws
+mod CountLaws
