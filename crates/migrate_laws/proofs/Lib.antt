@@ -8,3 +8,4 @@ pub mod FoundRows
 pub mod MigratedParts
 pub mod ListedAlike
 pub mod SameLayouts
+pub mod SameGlobals

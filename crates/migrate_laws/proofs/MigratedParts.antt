@@ -21,7 +21,7 @@ use Rattle.migrate_laws.proofs.MappedMembers.{mapped_at, map_kept, member_kept}
 use Rattle.migrate_laws.proofs.StayingValues.{literal_stays}
 use Rattle.migrate_laws.proofs.FoundRows.{HasName, row_has_name}
 
-values_at : (change : List ℕ → Tree → Tree) (key : List ℕ) (t : Tree)
+pub values_at : (change : List ℕ → Tree → Tree) (key : List ℕ) (t : Tree)
     → member key (with_values change t) ≡ option_map (change key) (member key t)
 values_at change key null = refl
 values_at change key (boolean b) = refl

@@ -89,7 +89,7 @@ module _ (values : MigratedValuesAreTheSame) (filters : MigratedFiltersAreTheSam
         (flat_map (set_property globals new) rows) (flat_map (set_property globals layer) rows)
         (set_same row found.0) (all_same rows found.1)
 
-    properties_same : AreListedAs (properties_of globals type new) (properties_of globals type layer)
+    pub properties_same : AreListedAs (properties_of globals type new) (properties_of globals type layer)
     properties_same = all_same (rows_of type) (rows_found keeps type)
 
     -- ---- the filter
@@ -112,7 +112,7 @@ module _ (values : MigratedValuesAreTheSame) (filters : MigratedFiltersAreTheSam
 
     -- ---- the layer
 
-    fields_same : typed_layer globals new type
+    pub fields_same : typed_layer globals new type
         ≡ record (typed_layer globals layer type) {
           filter = chosen;
           properties = properties_of globals type new;

@@ -1,2 +1,3 @@
 -- Laws. The statements are to be believed; their proofs are in proofs/.
 pub mod MigratedLaw
+pub mod GlobalUses

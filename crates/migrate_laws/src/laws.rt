@@ -1,4 +1,5 @@
 //! What the definitions mean, each law on a function that does nothing.
+ghost use Rattle.migrate_laws.specs.GlobalUses.{MigratedFiltersUseTheSameGlobals, MigratedValuesUseTheSameGlobals};
 ghost use Rattle.migrate_laws.specs.MigratedLaw.{MigratingTwiceChangesNothing, MigratedFiltersAreTheSame, MigratedValuesAreTheSame};
 ghost use Rattle.migrate_laws.specs.MigratedLaw.{MigratedDocumentsGiveTheSameGlobals, MigratedDocumentsHaveTheSameLayout};
 
@@ -8,6 +9,7 @@ use legacy_laws::{
     token_expressions_mean_their_texts,
 };
 use property_tables::tables_keep_their_rules;
+use reading_laws::fixed_expressions_use_no_globals;
 
 /// Migrating a document that was migrated changes nothing.
 pub fn migrating_twice_changes_nothing()
@@ -46,3 +48,21 @@ pub fn migrated_documents_have_the_same_layout()
 pub fn migrated_documents_give_the_same_globals()
     ensures { MigratedDocumentsGiveTheSameGlobals }
 {}
+
+/// Each migrated value of a row of the table has a `global-state` node exactly where the value has one.
+pub fn migrated_values_use_the_same_globals()
+    ensures { MigratedValuesUseTheSameGlobals }
+{
+    fixed_expressions_use_no_globals();
+    expressions_mean_their_functions();
+    token_expressions_mean_their_texts();
+}
+
+/// Each migrated filter reads the global state exactly where the filter does.
+pub fn migrated_filters_use_the_same_globals()
+    ensures { MigratedFiltersUseTheSameGlobals }
+{
+    fixed_expressions_use_no_globals();
+    expressions_mean_their_filters();
+    expressions_are_not_legacy();
+}

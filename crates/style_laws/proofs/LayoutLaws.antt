@@ -1,14 +1,10 @@
 -- What is reported of a document without findings holds of each value of its layouts.
-use Rattle.std.proofs.Common.{◌≡◌, ◌∙◌, ℕ, ℤ, zero, suc, ◌+◌, List, [], ◌∷◌, ◌++◌, map, flat_map, refl, ap, sym, subst, arith, Bool, true, false, Option, Some, None}
-use Rattle.std.proofs.lemmas.Bool.{and_parts}
+use Rattle.std.proofs.Common.{◌≡◌, ℕ, zero, suc, ◌+◌, List, [], ◌∷◌, map, flat_map, refl, sym, subst, arith, Bool, true, false, Option, Some, None}
 use Rattle.std.proofs.lemmas.List.Elements.{All-nil, All-cons, All-append, All-map, All-filter}
 use Rattle.std.specs.Prelude.{All, Contains, codes, not, ◌&&◌, option_map, slice_index_or, if◌then◌else◌}
 use Rattle.decimal_json.specs.Accessors.{member}
 use Rattle.decimal_json.specs.Tree.{Tree, Trees, no_trees, tree}
 use Rattle.prop_values.specs.Data.{Data}
-use Rattle.prop_values.specs.declared.fault.EvalFault.{EvalFault}
-use Rattle.prop_values.specs.declared.outcome.Outcome.TheVariants.{Faulted, Outside}
-use Rattle.prop_values.specs.declared.value.Value.{Value}
 use Rattle.property_tables.proofs.Tables.{table_keeps_rules}
 use Rattle.property_tables.specs.Defaults.{default_of}
 use Rattle.property_tables.specs.Rows.{RowData, rows_of, row_of}
@@ -22,12 +18,12 @@ use Rattle.listing_text.specs.Layout.{ListedValue, FeatureOut, LayerOut}
 use Rattle.listing_text.specs.declared.show.Show.{Show}
 use Rattle.listing_text.specs.declared.show.Show.TheVariants.{Plain, Hidden, Unread, OutsideFilter}
 use Rattle.migrate_laws.proofs.FoundRows.{AreFoundBy, own_row, rows_found}
-use Rattle.style_layout.specs.Forms.{Scene, Property, property_of, outcome_of, layer_filter, is_outside}
-use Rattle.style_layout.specs.Layers.{StyleLayer, set_value, is_visibility, property_if, set_property, properties_of, layer_properties, feature_properties, sort_property, typed_layer, layer_of, with_layer, layers_in, is_hidden, has_features, shown_plainly, show_of}
-use Rattle.style_layout.specs.Shown.{SourceTile, LayerFeature, zoom_at, world_at, listed_value, ordered, shown_features, feature_out}
+use Rattle.style_layout.specs.Forms.{Scene, Property, property_of, layer_filter, is_outside}
+use Rattle.style_layout.specs.Layers.{StyleLayer, set_value, is_visibility, property_if, set_property, properties_of, layer_properties, feature_properties, sort_property, typed_layer, with_layer, layers_in, is_hidden, has_features, shown_plainly, show_of}
+use Rattle.style_layout.specs.Shown.{SourceTile, LayerFeature, zoom_at, listed_value, ordered, shown_features, feature_out}
 use Rattle.style_layout.specs.StyleLayout.{shown_layer, layer_out, layout_of}
 use Rattle.style_rules.specs.Findings.{findings, notes}
-use Rattle.style_laws.specs.StyleLaw.{value_path, filter_path, IsInMayLine, MarksAreListed, HasItsNote, AllValues, EachLayer, MarkedFaultsAreListed, OutsideValuesHaveNotes}
+use Rattle.style_laws.specs.StyleLaw.{value_path, filter_path, MarksAreListed, HasItsNote, AllValues, EachLayer, MarkedFaultsAreListed, OutsideValuesHaveNotes}
 use Rattle.style_laws.proofs.ListedFaults.{Laws, value_listed, value_noted, filter_noted}
 use Rattle.style_laws.proofs.ReportedValues.{typed, value_reported, filter_reported}
 

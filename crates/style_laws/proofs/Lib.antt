@@ -3,3 +3,5 @@ mod ReportedValues
 mod ListedFaults
 mod LayoutLaws
 mod MentionLaws
+mod NotedPlaces
+mod NotedValues

@@ -1,8 +1,8 @@
 -- A fault that a value gives is listed of the value, and a value that is outside has a note.
-use Rattle.std.proofs.Common.{◌≡◌, ◌∙◌, ℕ, ℤ, zero, suc, ◌<◌, List, [], ◌∷◌, refl, ap, sym, subst, arith, Bool, true, false, Option, Some, None, Result, Ok, Err}
+use Rattle.std.proofs.Common.{◌≡◌, ◌∙◌, ℕ, ℤ, zero, List, [], ◌∷◌, refl, ap, sym, subst, arith, Bool, true, false, Option, Some, None, Ok, Err}
 use Rattle.std.proofs.lemmas.Bool.{and_parts}
 use Rattle.std.proofs.lemmas.List.Folds.{list_any_at}
-use Rattle.std.specs.Prelude.{Contains, not, ◌||◌, ◌&&◌, is_none, is_some, slice_index_or, if◌then◌else◌}
+use Rattle.std.specs.Prelude.{Contains, not, ◌||◌, is_none, is_some, if◌then◌else◌}
 use Rattle.decimal_json.specs.Tree.{Tree, null, boolean, number, text, list, object}
 use Rattle.decimal_json.specs.declared.paths.PathPart.{PathPart}
 use Rattle.prop_values.specs.Data.{Data}

@@ -1,5 +1,5 @@
 -- Two worlds that agree on what is mentioned are one to a value and to a filter.
-use Rattle.std.proofs.Common.{◌≡◌, ◌∙◌, ℕ, List, [], refl, ap, sym, subst, Bool, true, false, Option, Some, None, Result, Ok, Err}
+use Rattle.std.proofs.Common.{◌≡◌, ◌∙◌, ℕ, List, [], refl, ap, sym, subst, Bool, true, false, Option, Some, None, Ok, Err}
 use Rattle.std.specs.Prelude.{if◌then◌else◌}
 use Rattle.decimal_json.specs.Tree.{Tree, null, boolean, number, text, list, object}
 use Rattle.prop_values.specs.Data.{Data}
@@ -16,7 +16,6 @@ use Rattle.eval_face.specs.Agreement.{AgreeOn, AgreeingWorldsGiveOneMeaning}
 use Rattle.eval_face.specs.Meaning.{mean}
 use Rattle.eval_face.specs.World.{World}
 use Rattle.expr_plain.specs.Resolved.{resolved, passes}
-use Rattle.legacy_filters.specs.Filter.{Filter}
 use Rattle.legacy_filters.specs.Form as filters
 use Rattle.legacy_filters.specs.Meaning as legacy
 use Rattle.legacy_filters.specs.Split.{is_legacy}

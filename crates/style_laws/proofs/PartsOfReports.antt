@@ -1,5 +1,5 @@
 -- What is reported of one place is a part of what is reported of a document.
-use Rattle.std.proofs.Common.{◌≡◌, ◌∙◌, ℕ, zero, suc, ◌+◌, List, [], ◌∷◌, ◌++◌, refl, ap, sym, subst, arith, Bool, true, false, Option, Some, None}
+use Rattle.std.proofs.Common.{◌≡◌, ◌∙◌, ℕ, zero, suc, ◌+◌, List, [], ◌∷◌, ◌++◌, refl, ap, sym, subst, arith, Bool, true, false, Some}
 use Rattle.std.proofs.lemmas.List.{append_assoc, append-nil}
 use Rattle.std.proofs.lemmas.List.Elements.{Contains-append_left, Contains-append_right}
 use Rattle.std.proofs.lemmas.Slice.Eq.{bytes_eq-Decides}
@@ -52,7 +52,7 @@ findings_of_both a (t ∷ b) =
     ∙ append_assoc (findings_in a) (findings_in (t ∷ [])) (findings_in b)
     ∙ ap (λ fs. findings_in a ++ fs) (sym (findings_of_both (t ∷ []) b))
 
-notes_of_both : (a b : Reports) → notes_in (a ++ b) ≡ notes_in a ++ notes_in b
+pub notes_of_both : (a b : Reports) → notes_in (a ++ b) ≡ notes_in a ++ notes_in b
 notes_of_both a [] = ap notes_in (append-nil a) ∙ sym (append-nil (notes_in a))
 notes_of_both a (t ∷ b) =
     ap notes_in (sym (append_assoc a (t ∷ []) b))

@@ -1,12 +1,11 @@
 -- What is reported of the values and filters of the layers of a document without findings.
-use Rattle.std.proofs.Common.{◌≡◌, ◌∙◌, ℕ, List, [], ◌∷◌, ◌++◌, refl, ap, sym, subst, Bool, true, false, Option, Some, None}
-use Rattle.std.proofs.lemmas.Bool.{and_parts, not-true}
+use Rattle.std.proofs.Common.{◌≡◌, ◌∙◌, ℕ, List, [], ◌∷◌, ◌++◌, refl, ap, subst, Bool, true, false, Option, Some, None}
 use Rattle.std.specs.Prelude.{codes, not, ◌&&◌, is_some, if◌then◌else◌}
 use Rattle.std.specs.Option.{option_and_then}
 use Rattle.decimal_json.specs.Accessors.{member, has, trees_in}
-use Rattle.decimal_json.specs.Tree.{Tree, null, boolean, number, text, list, object, Trees}
+use Rattle.decimal_json.specs.Tree.{Tree, null, boolean, number, text, list, object}
 use Rattle.decimal_json.specs.declared.paths.PathPart.{PathPart}
-use Rattle.decimal_json.specs.declared.paths.PathPart.TheVariants.{Key, Index}
+use Rattle.decimal_json.specs.declared.paths.PathPart.TheVariants.{Key}
 use Rattle.property_tables.specs.Rows.{RowData, row_of}
 use Rattle.property_tables.specs.declared.layer_type.LayerType.{LayerType}
 use Rattle.property_tables.specs.declared.property_row.Place.{Place}
@@ -14,12 +13,12 @@ use Rattle.property_tables.specs.declared.property_row.Place.TheVariants.{Layout
 use Rattle.style_parts.specs.Parts.{layers_of, layer_at}
 use Rattle.value_forms.specs.LayerTypes.{layer_type, type_in, tested_type, is_unread_type, place_named}
 use Rattle.style_layout.specs.Layers.{place_key, set_value}
-use Rattle.style_rules.specs.Findings.{reports, reports_or, walk, findings, findings_in}
-use Rattle.style_rules.specs.Places.{mark_at, root_mark, layer_mark, context_at, layer_context, properties_mark, property_mark, row_mark, least_broken, used_in}
+use Rattle.style_rules.specs.Findings.{reports, reports_or, walk, findings}
+use Rattle.style_rules.specs.Places.{mark_at, context_at, layer_context, properties_mark, property_mark, row_mark, least_broken}
 use Rattle.style_rules.specs.Rules
 use Rattle.style_rules.specs.Values.{value_mark, filter_mark}
 use Rattle.style_laws.specs.StyleLaw.{layer_path, value_path, filter_path}
-use Rattle.style_laws.proofs.PartsOfReports.{Mark, Reports, IsPart, part_of, whole_itself, AllHold, walk_below, rules_at, member_at, item_at}
+use Rattle.style_laws.proofs.PartsOfReports.{Mark, Reports, IsPart, whole_itself, AllHold, walk_below, rules_at, member_at, item_at}
 
 some_of : {A : Type 0} (o : Option A) → is_some o ≡ true → (a : A) × (o ≡ Some a)
 some_of (Some a) h = (a, refl)

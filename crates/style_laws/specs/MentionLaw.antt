@@ -1,5 +1,5 @@
 -- What is mentioned is all that counts: of values and filters of each form, legacy ones too. Source: own.
-use Rattle.std.specs.Prelude.{◌≡◌, ℕ, List, Option, Some}
+use Rattle.std.specs.Prelude.{◌≡◌, ℕ, List, Option}
 use Rattle.decimal_json.specs.Tree.{Tree}
 use Rattle.prop_values.specs.Data.{Data}
 use Rattle.property_tables.specs.Rows.{RowData}

@@ -1,5 +1,6 @@
 //! What the definitions mean, each law on a function that does nothing.
 ghost use Rattle.style_laws.specs.MentionLaw.{FiltersGoByTheirMentions, ValuesGoByTheirMentions};
+ghost use Rattle.style_laws.specs.NoteLaw.{NotedValuesAreOutside};
 ghost use Rattle.style_laws.specs.StyleLaw.{MarkedFaultsAreListed, OutsideValuesHaveNotes};
 
 use eval_face::agreeing_worlds_give_one_meaning;
@@ -9,6 +10,7 @@ use legacy_laws::{
     expressions_mean_their_filters, expressions_mean_their_functions, migrated_functions_are_typed,
     token_expressions_mean_their_texts,
 };
+use style_rules::findings_go_by_levels;
 use typing_laws::faults_are_listed;
 
 /// Each fault that marks a value in a layout is in the `may` line of the path of the value.
@@ -31,6 +33,15 @@ pub fn outside_values_have_notes()
     expressions_mean_their_functions();
     migrated_functions_are_typed();
     global_values_change_no_form();
+}
+
+/// Each note is of a value or a filter that every layout shows as `?`, where it lists the values of the
+/// layer.
+pub fn noted_values_are_outside()
+    ensures { NotedValuesAreOutside }
+{
+    global_values_change_no_form();
+    findings_go_by_levels();
 }
 
 /// A value of each form is listed alike in two worlds that agree on what it mentions.

@@ -1,0 +1,2 @@
+pub mod SameCells
+pub mod SameOpenings

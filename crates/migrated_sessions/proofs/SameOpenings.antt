@@ -1,0 +1,44 @@
+-- A migrated style opens and is listed as the style is.
+use Rattle.std.proofs.Common.{◌≡◌, ◌∙◌, [], ◌∷◌, refl, ap, sym}
+use Rattle.std.specs.Prelude.{codes, not, Some, is_some, option_map}
+use Rattle.std.specs.Bool.{then_some}
+use Rattle.std.specs.Option.{option_and_then, option_or}
+use Rattle.decimal_json.specs.Accessors.{member, text_at}
+use Rattle.decimal_json.specs.Tree.{Tree}
+use Rattle.edit_session.specs.Opening.{unknown_source, not_vector, zoom_range, first_failing, cells_fault, tiles_fault, findings_fault}
+use Rattle.edit_session.specs.SessionState.{scene_of}
+use Rattle.listing_text.specs.Listing.{listing}
+use Rattle.migrate_laws.specs.MigratedLaw.{MigratedDocumentsGiveTheSameGlobals, MigratedDocumentsHaveTheSameLayout}
+use Rattle.migrate_laws.proofs.MappedMembers.{map_kept}
+use Rattle.migrate_laws.proofs.MigratedParts.{values_at}
+use Rattle.migrate_soundness.specs.SoundnessLaw.{SoundDocumentsStaySound}
+use Rattle.style_edits.specs.Causes.{first_cause}
+use Rattle.style_layout.specs.Globals.{globals_of}
+use Rattle.style_layout.specs.Layers.{style_layers}
+use Rattle.style_layout.specs.StyleLayout.{cell_count}
+use Rattle.style_migrate.specs.Migrated.{migrated, migrated_part}
+use Rattle.style_parts.specs.Numbers.{is_zoom}
+use Rattle.style_parts.specs.Parts.{is_among}
+use Rattle.migrated_sessions.specs.OpeningLaw.{MigratedDocumentsHaveAsManyCells, MigratedStylesOpenAlike, MigratedStylesAreListedAlike}
+
+sources_kept : (document : Tree) → member (codes "sources") (migrated document) ≡ member (codes "sources") document
+sources_kept document =
+    values_at migrated_part (codes "sources") document
+    ∙ map_kept (migrated_part (codes "sources")) (member (codes "sources") document) (λ t. refl)
+
+pub styles_open_alike : MigratedDocumentsHaveAsManyCells → MigratedDocumentsGiveTheSameGlobals → SoundDocumentsStaySound → MigratedStylesOpenAlike
+styles_open_alike as_many globals stays document distinct none tiles zoom =
+    let sources = sources_kept document in
+    let cells : cell_count tiles (style_layers (globals_of (migrated document)) (migrated document)) ≡ cell_count tiles (style_layers (globals_of document) document) =
+    ap (λ gs. cell_count tiles (style_layers gs (migrated document))) (globals document) ∙ as_many tiles (globals_of document) document in
+    let same : tiles_fault (migrated document) tiles zoom ≡ tiles_fault document tiles zoom =
+    λ i. first_cause (
+    option_map unknown_source (first_failing (λ name. is_some (option_and_then (member name) (sources i))) tiles) ∷
+    option_map not_vector (first_failing (λ name. is_among (codes "vector" ∷ []) (option_and_then (text_at (codes "type")) (option_and_then (member name) (sources i)))) tiles) ∷
+    cells_fault (cells i) ∷
+    then_some (not (is_zoom (Some zoom))) zoom_range ∷ []) in
+    let found = stays document distinct none ∙ sym none in
+    λ i. option_or (findings_fault (found i)) (same i)
+
+pub styles_are_listed_alike : MigratedDocumentsHaveTheSameLayout → MigratedStylesAreListedAlike
+styles_are_listed_alike same tiles scripts p = ap listing (same (scene_of scripts p) tiles p.globals p.document)

@@ -1,0 +1,33 @@
+-- A migrated style opens and is listed as the style is. Source: own.
+use Rattle.std.specs.Prelude.{◌≡◌, ℕ, ℤ, List, Bool}
+use Rattle.decimal_json.specs.Tree.{Tree}
+use Rattle.prop_values.specs.Data.{Data}
+use Rattle.edit_session.specs.Applied.{listing_of}
+use Rattle.edit_session.specs.Opening.{open_fault}
+use Rattle.edit_session.specs.SessionState.{SessionState}
+use Rattle.migrate_soundness.specs.SoundnessLaw.{HasDistinctMembers, HasNoFinding}
+use Rattle.style_layout.specs.Layers.{style_layers}
+use Rattle.style_layout.specs.Shown.{SourceTile}
+use Rattle.style_layout.specs.StyleLayout.{cell_count}
+use Rattle.style_migrate.specs.Migrated.{migrated}
+
+-- Each migrated document, well formed or not, has as many cells as the document, over all tiles and with any
+-- values of the global state.
+abbrev pub MigratedDocumentsHaveAsManyCells : Type 0
+MigratedDocumentsHaveAsManyCells =
+    (tiles : List SourceTile) (globals : List (List ℕ × Data)) (document : Tree) →
+    cell_count tiles (style_layers globals (migrated document)) ≡ cell_count tiles (style_layers globals document)
+
+-- Each document without findings opens after it was migrated where it opened before, and else has the same
+-- fault: over all tiles, with the same sources and as many cells, and at every zoom.
+abbrev pub MigratedStylesOpenAlike : Type 0
+MigratedStylesOpenAlike =
+    (document : Tree) → HasDistinctMembers document → HasNoFinding document →
+    (tiles : List SourceTile) (zoom : ℤ) →
+    open_fault (migrated document) tiles zoom ≡ open_fault document tiles zoom
+
+-- Each session over a migrated document has the listing that it has over the document.
+abbrev pub MigratedStylesAreListedAlike : Type 0
+MigratedStylesAreListedAlike =
+    (tiles : List SourceTile) (scripts : List ℕ → Bool) (p : SessionState) →
+    listing_of tiles scripts (record p { document = migrated p.document }) ≡ listing_of tiles scripts p

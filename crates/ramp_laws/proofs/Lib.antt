@@ -1,0 +1,3 @@
+pub mod StopPlaces
+pub mod RampStops
+pub mod FunctionStops

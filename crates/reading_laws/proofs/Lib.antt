@@ -1,0 +1,4 @@
+pub mod ArgumentPlaces
+pub mod LaidOut
+pub mod ReadArguments
+pub mod GlobalUses
