@@ -1,0 +1,4 @@
+mod CellLaws
+mod EditLaws
+mod LineLaws
+mod ListLaws

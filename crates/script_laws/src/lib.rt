@@ -1,0 +1,33 @@
+//! Laws of scripts: what holds of the lines of every script over a style under edit.
+//!
+//! ```text
+//! ["remove-layer","roads"]          // ok 1
+//! ["remove-layer","roads"]          // refused 2 UnknownLayer
+//! ["list"]                          // the listing; without line 2 the same
+//! ```
+//!
+//! What is promised:
+//!
+//! - An outcome of a script is that of its lines, one after another (`scripts_go_by_their_lines`).
+//! - After every line the style has no findings, and at most the cells allowed (`scripts_keep_states_sound`).
+//! - A script without its refused lines leaves the same, and is answered the same but for the numbers of lines
+//!   (`refused_lines_count_for_nothing`).
+//! - An edit that names what is there, with zooms in range, is accepted where the edited style has no findings and at
+//!   most the cells allowed (`possible_edits_are_accepted`). `set-global` is never refused (`globals_are_always_set`),
+//!   and removing or moving a layer or setting its range never for the cells of the style
+//!   (`rearranging_brings_no_cell`).
+//! - `eval` writes what `replay` writes of the script `["list"]` (`eval_is_replay_of_list`).
+//!
+//! Each law is a definition, and a function without arguments ensures it: a caller that calls the function
+//! has the law.
+//!
+//! The text to believe is in `specs/`: `ScriptLaw`, `EvalLaw`.
+#![tactic(auto)]
+
+mod laws;
+
+pub use laws::{
+    eval_is_replay_of_list, globals_are_always_set, possible_edits_are_accepted,
+    rearranging_brings_no_cell, refused_lines_count_for_nothing, scripts_go_by_their_lines,
+    scripts_keep_states_sound,
+};
