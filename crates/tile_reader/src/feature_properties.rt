@@ -109,6 +109,29 @@ impl FeatureProperties {
         }
     }
 
+    /// One property.
+    pub fn one(alloc: Global, key: Text, value: Value) -> Result<FeatureProperties, AllocError>
+        ensures { IfOk result (λ made. made ≡ (key, data_of value) ∷ []) }
+    {
+        let mut keys = Vec::with_capacity(alloc, 1)?;
+        let mut values = Vec::with_capacity(alloc, 1)?;
+        let mut pairs = Vec::with_capacity(alloc, 1)?;
+        keys.push(key)?;
+        values.push(value)?;
+        pairs.push((0, 0))?;
+        let table = LayerTable {
+            keys,
+            values,
+            pairs,
+        };
+        Ok(FeatureProperties {
+            table: Some(Rc::new(alloc, table)?),
+            first: 0,
+            count: 1,
+            index: None,
+        })
+    }
+
     /// The properties that so many pairs of a layer are, from the first one on.
     pub(crate) fn of_range(
         alloc: Global,
