@@ -27,8 +27,8 @@ use Rattle.expr_nodes.specs.Node.{Node, children, total_size}
 use Rattle.expr_nodes.specs.Outcome.{promises, all_known}
 use Rattle.expr_nodes.specs.Slots.{HoldPromises, pending}
 use Rattle.expr_nodes.specs.EvaluatesNode.{IsReady, HasProgressed, EvaluatesNode, EvaluatesNodes, arguments_of, known_arguments, argument_in, size_in}
-use Rattle.expr_nodes.specs.declared.slots.NodeEvaluation.{NodeEvaluation}
-use Rattle.expr_nodes.specs.declared.slots.PromiseSlot.{PromiseSlot}
+use Rattle.expr_nodes.specs.declared.workspace.Workspace.{Workspace}
+use Rattle.expr_nodes.specs.declared.workspace.PromiseSlot.{PromiseSlot}
 use Rattle.expr_nodes.proofs.NodeLaws.{outcomes_length, argument_known, size_total, two_sizes, take_total, take_next}
 use Rattle.expr_nodes.proofs.Composing.{begun, joined, cheaper, given, halts}
 
@@ -41,20 +41,20 @@ count_known n bs world k l = outcomes_length (children n) (promises bs world) wo
 
 -- ---- one and two arguments
 
-pub one_evaluates : {limit : ℕ} {bs : List Node} {world : World} {r : Result Value (Halt EvalFault)} {v : Value} {x y : NodeEvaluation} {s t : ℕ} (op : Operator) (n : Node) (want : Want) → length (children n) ≡ 1 → IsReady limit bs world x → EvaluatesNode limit bs world (Ok v) (argument_in op (arguments_of n bs world) 0) (size_in (children n) 0) x y s t → GivesValue r (made_of op want world (data_of v ∷ [])) → EvaluatesNode limit bs world r (each_of op (known_arguments n bs world) want [] world) (total_size (children n)) x y s t
+pub one_evaluates : {limit : ℕ} {bs : List Node} {world : World} {r : Result Value (Halt EvalFault)} {v : Value} {x y : Workspace} {s t : ℕ} (op : Operator) (n : Node) (want : Want) → length (children n) ≡ 1 → IsReady limit bs world x → EvaluatesNode limit bs world (Ok v) (argument_in op (arguments_of n bs world) 0) (size_in (children n) 0) x y s t → GivesValue r (made_of op want world (data_of v ∷ [])) → EvaluatesNode limit bs world r (each_of op (known_arguments n bs world) want [] world) (total_size (children n)) x y s t
 one_evaluates {bs = bs} {world} {r} {v} op n want l i h g =
     let w = size_total (children n) 0 in
     given (0 + size_in (children n) 0) (total_size (children n)) i (joined 0 (size_in (children n) 0) (begun i) h.progress) (omega (arith, w))
     (subst (GivesValue r) (one_given op (known_arguments n bs world) want [] world (data_of v) (count_known n bs world 1 l) (sym (argument_known op (arguments_of n bs world) 0 want [] world) ∙ h.gives)) g)
     h.stands
 
-pub one_halts : {limit : ℕ} {bs : List Node} {world : World} {r : Result Value (Halt EvalFault)} {h : Halt EvalFault} {x y : NodeEvaluation} {s t : ℕ} (op : Operator) (n : Node) (want : Want) → length (children n) ≡ 1 → IsReady limit bs world x → EvaluatesNode limit bs world (Err h) (argument_in op (arguments_of n bs world) 0) (size_in (children n) 0) x y s t → IsErrAnd r (λ k. k ≡ h) → EvaluatesNode limit bs world r (each_of op (known_arguments n bs world) want [] world) (total_size (children n)) x y s t
+pub one_halts : {limit : ℕ} {bs : List Node} {world : World} {r : Result Value (Halt EvalFault)} {h : Halt EvalFault} {x y : Workspace} {s t : ℕ} (op : Operator) (n : Node) (want : Want) → length (children n) ≡ 1 → IsReady limit bs world x → EvaluatesNode limit bs world (Err h) (argument_in op (arguments_of n bs world) 0) (size_in (children n) 0) x y s t → IsErrAnd r (λ k. k ≡ h) → EvaluatesNode limit bs world r (each_of op (known_arguments n bs world) want [] world) (total_size (children n)) x y s t
 one_halts {bs = bs} {world} {r} {h} op n want l i e k =
     let w = size_total (children n) 0 in
     halts 0 (size_in (children n) 0) (total_size (children n)) (begun i) e (omega (arith, w)) k
     (one_halted h op (known_arguments n bs world) want [] world (count_known n bs world 1 l) (as_argument (Err h) world op (arguments_of n bs world) 0 want e.gives))
 
-pub two_evaluate : {limit : ℕ} {bs : List Node} {world : World} {r : Result Value (Halt EvalFault)} {v w : Value} {x y z : NodeEvaluation} {s t u : ℕ} (op : Operator) (n : Node) (want : Want) → length (children n) ≡ 2 → IsReady limit bs world x → EvaluatesNode limit bs world (Ok v) (argument_in op (arguments_of n bs world) 0) (size_in (children n) 0) x y s t → EvaluatesNode limit bs world (Ok w) (argument_in op (arguments_of n bs world) 1) (size_in (children n) 1) y z t u → GivesValue r (made_of op want world (data_of v ∷ data_of w ∷ [])) → EvaluatesNode limit bs world r (each_of op (known_arguments n bs world) want [] world) (total_size (children n)) x z s u
+pub two_evaluate : {limit : ℕ} {bs : List Node} {world : World} {r : Result Value (Halt EvalFault)} {v w : Value} {x y z : Workspace} {s t u : ℕ} (op : Operator) (n : Node) (want : Want) → length (children n) ≡ 2 → IsReady limit bs world x → EvaluatesNode limit bs world (Ok v) (argument_in op (arguments_of n bs world) 0) (size_in (children n) 0) x y s t → EvaluatesNode limit bs world (Ok w) (argument_in op (arguments_of n bs world) 1) (size_in (children n) 1) y z t u → GivesValue r (made_of op want world (data_of v ∷ data_of w ∷ [])) → EvaluatesNode limit bs world r (each_of op (known_arguments n bs world) want [] world) (total_size (children n)) x z s u
 two_evaluate {bs = bs} {world} {r} {v} {w} op n want l i h j g =
     let os = arguments_of n bs world in
     let a = size_in (children n) 0 in
@@ -64,13 +64,13 @@ two_evaluate {bs = bs} {world} {r} {v} {w} op n want l i h j g =
     (subst (GivesValue r) (two_given op (known_arguments n bs world) want [] world (data_of v) (data_of w) (count_known n bs world 2 l) (sym (argument_known op os 0 want [] world) ∙ h.gives) (sym (argument_known op os 1 want [] world) ∙ j.gives)) g)
     (j.stands ∙ h.stands)
 
-pub first_halts : {limit : ℕ} {bs : List Node} {world : World} {r : Result Value (Halt EvalFault)} {h : Halt EvalFault} {x y : NodeEvaluation} {s t : ℕ} (op : Operator) (n : Node) (want : Want) → length (children n) ≡ 2 → IsReady limit bs world x → EvaluatesNode limit bs world (Err h) (argument_in op (arguments_of n bs world) 0) (size_in (children n) 0) x y s t → IsErrAnd r (λ k. k ≡ h) → EvaluatesNode limit bs world r (each_of op (known_arguments n bs world) want [] world) (total_size (children n)) x y s t
+pub first_halts : {limit : ℕ} {bs : List Node} {world : World} {r : Result Value (Halt EvalFault)} {h : Halt EvalFault} {x y : Workspace} {s t : ℕ} (op : Operator) (n : Node) (want : Want) → length (children n) ≡ 2 → IsReady limit bs world x → EvaluatesNode limit bs world (Err h) (argument_in op (arguments_of n bs world) 0) (size_in (children n) 0) x y s t → IsErrAnd r (λ k. k ≡ h) → EvaluatesNode limit bs world r (each_of op (known_arguments n bs world) want [] world) (total_size (children n)) x y s t
 first_halts {bs = bs} {world} {r} {h} op n want l i e k =
     let w = size_total (children n) 0 in
     halts 0 (size_in (children n) 0) (total_size (children n)) (begun i) e (omega (arith, w)) k
     (two_halted h op (known_arguments n bs world) want [] world (count_known n bs world 2 l) (as_argument (Err h) world op (arguments_of n bs world) 0 want e.gives))
 
-pub second_halts : {limit : ℕ} {bs : List Node} {world : World} {r : Result Value (Halt EvalFault)} {v : Value} {h : Halt EvalFault} {x y z : NodeEvaluation} {s t u : ℕ} (op : Operator) (n : Node) (want : Want) → length (children n) ≡ 2 → EvaluatesNode limit bs world (Ok v) (argument_in op (arguments_of n bs world) 0) (size_in (children n) 0) x y s t → EvaluatesNode limit bs world (Err h) (argument_in op (arguments_of n bs world) 1) (size_in (children n) 1) y z t u → IsErrAnd r (λ k. k ≡ h) → EvaluatesNode limit bs world r (each_of op (known_arguments n bs world) want [] world) (total_size (children n)) x z s u
+pub second_halts : {limit : ℕ} {bs : List Node} {world : World} {r : Result Value (Halt EvalFault)} {v : Value} {h : Halt EvalFault} {x y z : Workspace} {s t u : ℕ} (op : Operator) (n : Node) (want : Want) → length (children n) ≡ 2 → EvaluatesNode limit bs world (Ok v) (argument_in op (arguments_of n bs world) 0) (size_in (children n) 0) x y s t → EvaluatesNode limit bs world (Err h) (argument_in op (arguments_of n bs world) 1) (size_in (children n) 1) y z t u → IsErrAnd r (λ k. k ≡ h) → EvaluatesNode limit bs world r (each_of op (known_arguments n bs world) want [] world) (total_size (children n)) x z s u
 second_halts {bs = bs} {world} {r} {v} {h} op n want l e j k =
     let os = arguments_of n bs world in
     let w = two_sizes (children n) 0 in
@@ -91,7 +91,7 @@ after_nothing (Err f) = refl
 pub values_begin : (vs : List Value) (whole : Result (List Data) EvalFault) → after (added vs vs) whole ≡ whole
 values_begin vs whole = ap (λ ds. after ds whole) (nothing_added vs) ∙ after_nothing whole
 
-pub values_halt : {limit : ℕ} {bs : List Node} {world : World} {A : Type 0} {r : Result A (Halt EvalFault)} {h : Halt EvalFault} {x y z : NodeEvaluation} {s t u : ℕ} (op : Operator) (n : Node) {k : ℕ} → k < length (children n) → HasProgressed limit bs world (total_size (take k (children n))) x y s t → after (added x.values.items y.values.items) (values_from op (known_arguments n bs world) k Any [] world) ≡ values_from op (known_arguments n bs world) 0 Any [] world → EvaluatesNode limit bs world (Err h) (argument_in op (arguments_of n bs world) k) (size_in (children n) k) y z t u → IsErrAnd r (λ j. j ≡ h) → EvaluatesNodes limit bs world r (values_from op (known_arguments n bs world) 0 Any [] world) (total_size (children n)) x z s u
+pub values_halt : {limit : ℕ} {bs : List Node} {world : World} {A : Type 0} {r : Result A (Halt EvalFault)} {h : Halt EvalFault} {x y z : Workspace} {s t u : ℕ} (op : Operator) (n : Node) {k : ℕ} → k < length (children n) → HasProgressed limit bs world (total_size (take k (children n))) x y s t → after (added x.values.items y.values.items) (values_from op (known_arguments n bs world) k Any [] world) ≡ values_from op (known_arguments n bs world) 0 Any [] world → EvaluatesNode limit bs world (Err h) (argument_in op (arguments_of n bs world) k) (size_in (children n) k) y z t u → IsErrAnd r (λ j. j ≡ h) → EvaluatesNodes limit bs world r (values_from op (known_arguments n bs world) 0 Any [] world) (total_size (children n)) x z s u
 values_halt {r = Ok a} op n l p q e j = absurd j
 values_halt {bs = bs} {world} {r = Err j} {h} {x} {y} op n {k} l p q e i =
     let ms = known_arguments n bs world in
@@ -109,7 +109,7 @@ values_halt {bs = bs} {world} {r = Err j} {h} {x} {y} op n {k} l p q e i =
 
 -- ---- the first that decides
 
-pub deciding_halts : {limit : ℕ} {bs : List Node} {world : World} {r : Result Value (Halt EvalFault)} {h : Halt EvalFault} {x y z : NodeEvaluation} {s t u : ℕ} (op : Operator) (n : Node) (want : Want) {k : ℕ} → k < length (children n) → HasProgressed limit bs world (total_size (take k (children n))) x y s t → decision_from op (known_arguments n bs world) k want [] world ≡ decision_from op (known_arguments n bs world) 0 want [] world → EvaluatesNode limit bs world (Err h) (argument_in op (arguments_of n bs world) k) (size_in (children n) k) y z t u → IsErrAnd r (λ j. j ≡ h) → EvaluatesNode limit bs world r (deciding_of op (known_arguments n bs world) want [] world) (total_size (children n)) x z s u
+pub deciding_halts : {limit : ℕ} {bs : List Node} {world : World} {r : Result Value (Halt EvalFault)} {h : Halt EvalFault} {x y z : Workspace} {s t u : ℕ} (op : Operator) (n : Node) (want : Want) {k : ℕ} → k < length (children n) → HasProgressed limit bs world (total_size (take k (children n))) x y s t → decision_from op (known_arguments n bs world) k want [] world ≡ decision_from op (known_arguments n bs world) 0 want [] world → EvaluatesNode limit bs world (Err h) (argument_in op (arguments_of n bs world) k) (size_in (children n) k) y z t u → IsErrAnd r (λ j. j ≡ h) → EvaluatesNode limit bs world r (deciding_of op (known_arguments n bs world) want [] world) (total_size (children n)) x z s u
 deciding_halts {bs = bs} {world} {r} {h} op n want {k} l p q e j =
     let ms = known_arguments n bs world in
     let count = outcomes_length (children n) (promises bs world) world in
@@ -117,7 +117,7 @@ deciding_halts {bs = bs} {world} {r} {h} op n want {k} l p q e j =
     halts (total_size (take k (children n))) (size_in (children n) k) (total_size (children n)) p e w j
     (decision_halted h op ms k want [] world (omega (arith, l, count)) q (as_argument (Err h) world op (arguments_of n bs world) k want e.gives))
 
-pub deciding_evaluates : {limit : ℕ} {bs : List Node} {world : World} {r : Result Value (Halt EvalFault)} {v : Value} {x y z : NodeEvaluation} {s t u : ℕ} (found : Value) (op : Operator) (n : Node) (want : Want) {k : ℕ} → k < length (children n) → IsReady limit bs world x → HasProgressed limit bs world (total_size (take k (children n))) x y s t → y.values.items ≡ x.values.items → decision_from op (known_arguments n bs world) k want [] world ≡ decision_from op (known_arguments n bs world) 0 want [] world → EvaluatesNode limit bs world (Ok v) (argument_in op (arguments_of n bs world) k) (size_in (children n) k) y z t u → Some (data_of found) ≡ decided_by (rule_of op) (data_of v) → GivesValue r (fit want (data_of found)) → EvaluatesNode limit bs world r (deciding_of op (known_arguments n bs world) want [] world) (total_size (children n)) x z s u
+pub deciding_evaluates : {limit : ℕ} {bs : List Node} {world : World} {r : Result Value (Halt EvalFault)} {v : Value} {x y z : Workspace} {s t u : ℕ} (found : Value) (op : Operator) (n : Node) (want : Want) {k : ℕ} → k < length (children n) → IsReady limit bs world x → HasProgressed limit bs world (total_size (take k (children n))) x y s t → y.values.items ≡ x.values.items → decision_from op (known_arguments n bs world) k want [] world ≡ decision_from op (known_arguments n bs world) 0 want [] world → EvaluatesNode limit bs world (Ok v) (argument_in op (arguments_of n bs world) k) (size_in (children n) k) y z t u → Some (data_of found) ≡ decided_by (rule_of op) (data_of v) → GivesValue r (fit want (data_of found)) → EvaluatesNode limit bs world r (deciding_of op (known_arguments n bs world) want [] world) (total_size (children n)) x z s u
 deciding_evaluates {bs = bs} {world} {r} {v} found op n want {k} l i p e q h d g =
     let ms = known_arguments n bs world in
     let count = outcomes_length (children n) (promises bs world) world in
@@ -138,7 +138,7 @@ none_decides bs world op n want k l q =
     undecided op (known_arguments n bs world) k want [] world (omega (arith, l, count)) q
 
 -- the stack of values is no part of the slots
-pub slots_stay : {limit cost : ℕ} {bs : List Node} {world : World} {x y z : NodeEvaluation} {s t : ℕ} → HasProgressed limit bs world cost x y s t → z.slots ≡ y.slots → HasProgressed limit bs world cost x z s t
+pub slots_stay : {limit cost : ℕ} {bs : List Node} {world : World} {x y z : Workspace} {s t : ℕ} → HasProgressed limit bs world cost x y s t → z.slots ≡ y.slots → HasProgressed limit bs world cost x z s t
 slots_stay {limit} {bs = bs} {world} {z = z} p q =
     let w = ap (λ (k : Vec PromiseSlot Global). k.items) q in
     let P : List PromiseSlot → Type 0 = λ ss. HoldPromises (promises bs world) ss in
@@ -163,7 +163,7 @@ values_halted : (h : Halt EvalFault) (a : Result (List Data) EvalFault) (go : Li
 values_halted (Fault f) a go g = ap (λ x. then_values x go) g
 values_halted NoMemory a go g = tt
 
-pub many_halts : {limit : ℕ} {bs : List Node} {world : World} {r : Result Value (Halt EvalFault)} {h : Halt EvalFault} {A : Type 0} {x y : NodeEvaluation} {s t : ℕ} (op : Operator) (n : Node) (want : Want) → EvaluatesNodes {A = A} limit bs world (Err h) (values_from op (known_arguments n bs world) 0 Any [] world) (total_size (children n)) x y s t → IsErrAnd r (λ k. k ≡ h) → EvaluatesNode limit bs world r (each_of op (known_arguments n bs world) want [] world) (total_size (children n)) x y s t
+pub many_halts : {limit : ℕ} {bs : List Node} {world : World} {r : Result Value (Halt EvalFault)} {h : Halt EvalFault} {A : Type 0} {x y : Workspace} {s t : ℕ} (op : Operator) (n : Node) (want : Want) → EvaluatesNodes {A = A} limit bs world (Err h) (values_from op (known_arguments n bs world) 0 Any [] world) (total_size (children n)) x y s t → IsErrAnd r (λ k. k ≡ h) → EvaluatesNode limit bs world r (each_of op (known_arguments n bs world) want [] world) (total_size (children n)) x y s t
 many_halts {r = Ok v} op n want e k = absurd k
 many_halts {bs = bs} {world} {r = Err k} {h} op n want e q =
     let os = arguments_of n bs world in
@@ -177,7 +177,7 @@ many_halts {bs = bs} {world} {r = Err k} {h} op n want e q =
       stands = tt;
     }
 
-pub many_evaluates : {limit : ℕ} {bs : List Node} {world : World} {r : Result Value (Halt EvalFault)} {A : Type 0} {u : A} {x y z : NodeEvaluation} {s t : ℕ} (op : Operator) (n : Node) (want : Want) (base : ℕ) → base ≡ length x.values.items → IsReady limit bs world x → EvaluatesNodes limit bs world (Ok u) (values_from op (known_arguments n bs world) 0 Any [] world) (total_size (children n)) x y s t → z.slots ≡ y.slots → z.values.items ≡ take base y.values.items → GivesValue r (then_value (applied_by (rule_of op) world (values_view (drop base y.values.items))) (fit want)) → EvaluatesNode limit bs world r (each_of op (known_arguments n bs world) want [] world) (total_size (children n)) x z s t
+pub many_evaluates : {limit : ℕ} {bs : List Node} {world : World} {r : Result Value (Halt EvalFault)} {A : Type 0} {u : A} {x y z : Workspace} {s t : ℕ} (op : Operator) (n : Node) (want : Want) (base : ℕ) → base ≡ length x.values.items → IsReady limit bs world x → EvaluatesNodes limit bs world (Ok u) (values_from op (known_arguments n bs world) 0 Any [] world) (total_size (children n)) x y s t → z.slots ≡ y.slots → z.values.items ≡ take base y.values.items → GivesValue r (then_value (applied_by (rule_of op) world (values_view (drop base y.values.items))) (fit want)) → EvaluatesNode limit bs world r (each_of op (known_arguments n bs world) want [] world) (total_size (children n)) x z s t
 many_evaluates {limit} {bs} {world} {r} {x = x} {y} {z} {s} {t} op n want base b i e q v g =
     let os = arguments_of n bs world in
     let cost = total_size (children n) in
@@ -188,7 +188,7 @@ many_evaluates {limit} {bs} {world} {r} {x = x} {y} {z} {s} {t} op n want base b
     given cost cost i far (omega arith) (subst (GivesValue r) there g) (v ∙ (ap (λ k. take k y.values.items) b ∙ e.stands))
 
 -- a value that is not kept
-pub values_fail : {limit : ℕ} {bs : List Node} {world : World} {A : Type 0} {r : Result A (Halt EvalFault)} {v : Value} {m : Result (List Data) EvalFault} {x y z w : NodeEvaluation} {s t u : ℕ} (op : Operator) (n : Node) (k : ℕ) → HasProgressed limit bs world (total_size (take k (children n))) x y s t → EvaluatesNode limit bs world (Ok v) (argument_in op (arguments_of n bs world) k) (size_in (children n) k) y z t u → IsErrAnd r (λ j. j ≡ NoMemory) → EvaluatesNodes limit bs world r m (total_size (children n)) x w s u
+pub values_fail : {limit : ℕ} {bs : List Node} {world : World} {A : Type 0} {r : Result A (Halt EvalFault)} {v : Value} {m : Result (List Data) EvalFault} {x y z w : Workspace} {s t u : ℕ} (op : Operator) (n : Node) (k : ℕ) → HasProgressed limit bs world (total_size (take k (children n))) x y s t → EvaluatesNode limit bs world (Ok v) (argument_in op (arguments_of n bs world) k) (size_in (children n) k) y z t u → IsErrAnd r (λ j. j ≡ NoMemory) → EvaluatesNodes limit bs world r m (total_size (children n)) x w s u
 values_fail {r = Ok a} op n k p e j = absurd j
 values_fail {r = Err j} {m = m} op n k p e i =
     let w = take_next (children n) k in
@@ -202,7 +202,7 @@ values_fail {r = Err j} {m = m} op n k p e i =
     }
 
 -- one value more
-pub one_further : {limit : ℕ} {bs : List Node} {world : World} {v : Value} {m : Evaluated} {x y z : NodeEvaluation} {s t u : ℕ} (n : Node) (k : ℕ) → HasProgressed limit bs world (total_size (take k (children n))) x y s t → EvaluatesNode limit bs world (Ok v) m (size_in (children n) k) y z t u → HasProgressed limit bs world (total_size (take (k + 1) (children n))) x z s u
+pub one_further : {limit : ℕ} {bs : List Node} {world : World} {v : Value} {m : Evaluated} {x y z : Workspace} {s t u : ℕ} (n : Node) (k : ℕ) → HasProgressed limit bs world (total_size (take k (children n))) x y s t → EvaluatesNode limit bs world (Ok v) m (size_in (children n) k) y z t u → HasProgressed limit bs world (total_size (take (k + 1) (children n))) x z s u
 one_further n k p e =
     let a = total_size (take k (children n)) in
     let b = size_in (children n) k in

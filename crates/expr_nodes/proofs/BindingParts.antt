@@ -16,40 +16,40 @@ use Rattle.expr_nodes.specs.Node.{Node, size}
 use Rattle.expr_nodes.specs.Outcome.{outcome, promised, promises}
 use Rattle.expr_nodes.specs.Slots.{HoldPromises, pending, done_in}
 use Rattle.expr_nodes.specs.EvaluatesNode.{IsReady, HasProgressed, EvaluatesNode, outcome_at}
-use Rattle.expr_nodes.specs.declared.slots.NodeEvaluation.{NodeEvaluation}
-use Rattle.expr_nodes.specs.declared.slots.PromiseSlot.{PromiseSlot}
-use Rattle.expr_nodes.specs.declared.slots.PromiseSlot.TheVariants.{Done}
+use Rattle.expr_nodes.specs.declared.workspace.Workspace.{Workspace}
+use Rattle.expr_nodes.specs.declared.workspace.PromiseSlot.{PromiseSlot}
+use Rattle.expr_nodes.specs.declared.workspace.PromiseSlot.TheVariants.{Done}
 use Rattle.expr_nodes.proofs.PromiseLaws.{promise_count}
 use Rattle.expr_nodes.proofs.BindingPlaces.{promise_at}
 use Rattle.expr_nodes.proofs.SlotLaws.{kept_length, kept_done, kept_set, still_waits, above_set, pending_at, pending_set}
 use Rattle.expr_nodes.proofs.Composing.{begun, given}
 
 -- there is a slot for each binding below the limit
-pub slot_within : {limit : ℕ} {bs : List Node} {world : World} {x : NodeEvaluation} (slot : ℕ) → slot < limit → IsReady limit bs world x → slot < length x.slots.items
+pub slot_within : {limit : ℕ} {bs : List Node} {world : World} {x : Workspace} (slot : ℕ) → slot < limit → IsReady limit bs world x → slot < length x.slots.items
 slot_within {bs = bs} {world} {x} slot h i =
     let k = kept_length (promises bs world) x.slots.items i.kept in
     let l = promise_count bs world in
     omega (arith, h, i.within)
 
-pub binding_ready : {limit : ℕ} {bs : List Node} {world : World} {x : NodeEvaluation} (slot : ℕ) → slot < limit → IsReady limit bs world x → IsReady slot bs world x
+pub binding_ready : {limit : ℕ} {bs : List Node} {world : World} {x : Workspace} (slot : ℕ) → slot < limit → IsReady limit bs world x → IsReady slot bs world x
 binding_ready slot h i = record { within = omega (arith, h, i.within); earlier = i.earlier; kept = i.kept }
 
-binding_outcome : {limit : ℕ} {bs : List Node} {world : World} {x : NodeEvaluation} (slot : ℕ) (b : Node) → slice_get bs slot ≡ Some b → IsReady limit bs world x → outcome_at (promises bs world) slot ≡ outcome b (promises bs world) world
+binding_outcome : {limit : ℕ} {bs : List Node} {world : World} {x : Workspace} (slot : ℕ) (b : Node) → slice_get bs slot ≡ Some b → IsReady limit bs world x → outcome_at (promises bs world) slot ≡ outcome b (promises bs world) world
 binding_outcome {bs = bs} {world} slot b e i = ap promised (promise_at bs world slot b i.earlier e)
 
 -- it was asked for before
-pub asked_before : {limit : ℕ} {bs : List Node} {world : World} {r : Result Value (Halt EvalFault)} {x : NodeEvaluation} {s : ℕ} (slot : ℕ) (want : Want) (d : Data) → IsReady limit bs world x → Some d ≡ done_in (slice_get x.slots.items slot) → GivesValue r (fit want d) → EvaluatesNode limit bs world r (then_value (outcome_at (promises bs world) slot) (fit want)) 0 x x s s
+pub asked_before : {limit : ℕ} {bs : List Node} {world : World} {r : Result Value (Halt EvalFault)} {x : Workspace} {s : ℕ} (slot : ℕ) (want : Want) (d : Data) → IsReady limit bs world x → Some d ≡ done_in (slice_get x.slots.items slot) → GivesValue r (fit want d) → EvaluatesNode limit bs world r (then_value (outcome_at (promises bs world) slot) (fit want)) 0 x x s s
 asked_before {bs = bs} {world} {r} {x} slot want d i e g =
     given 0 0 i (begun i) (omega arith)
     (subst (GivesValue r) (sym (ap (λ o. then_value o (fit want)) (kept_done (promises bs world) x.slots.items slot d i.kept (sym e)))) g)
     refl
 
 -- it waits, and costs what it is
-waits : {limit : ℕ} {bs : List Node} {world : World} {x : NodeEvaluation} (slot : ℕ) (b : Node) → slot < limit → slice_get bs slot ≡ Some b → IsReady limit bs world x → done_in (slice_get x.slots.items slot) ≡ None → pending slot bs x.slots.items + size b ≤ pending limit bs x.slots.items
+waits : {limit : ℕ} {bs : List Node} {world : World} {x : Workspace} (slot : ℕ) (b : Node) → slot < limit → slice_get bs slot ≡ Some b → IsReady limit bs world x → done_in (slice_get x.slots.items slot) ≡ None → pending slot bs x.slots.items + size b ≤ pending limit bs x.slots.items
 waits {limit} {bs} {world} {x} slot b h e i d =
     pending_at limit slot bs x.slots.items b h e (still_waits x.slots.items slot (slot_within slot h i) d)
 
-pub asked_halts : {limit : ℕ} {bs : List Node} {world : World} {r : Result Value (Halt EvalFault)} {h : Halt EvalFault} {x y : NodeEvaluation} {s t : ℕ} (slot : ℕ) (want : Want) (b : Node) → slot < limit → slice_get bs slot ≡ Some b → IsReady limit bs world x → done_in (slice_get x.slots.items slot) ≡ None → EvaluatesNode slot bs world (Err h) (outcome b (promises bs world) world) (size b) x y s t → IsErrAnd r (λ k. k ≡ h) → EvaluatesNode limit bs world r (then_value (outcome_at (promises bs world) slot) (fit want)) 0 x y s t
+pub asked_halts : {limit : ℕ} {bs : List Node} {world : World} {r : Result Value (Halt EvalFault)} {h : Halt EvalFault} {x y : Workspace} {s t : ℕ} (slot : ℕ) (want : Want) (b : Node) → slot < limit → slice_get bs slot ≡ Some b → IsReady limit bs world x → done_in (slice_get x.slots.items slot) ≡ None → EvaluatesNode slot bs world (Err h) (outcome b (promises bs world) world) (size b) x y s t → IsErrAnd r (λ k. k ≡ h) → EvaluatesNode limit bs world r (then_value (outcome_at (promises bs world) slot) (fit want)) 0 x y s t
 asked_halts {r = Ok v} slot want b l e i d j k = absurd k
 asked_halts {limit} {bs} {world} {r = Err k} {h} slot want b l e i d j q =
     let w = waits slot b l e i d in
@@ -64,7 +64,7 @@ asked_halts {limit} {bs} {world} {r = Err k} {h} slot want b l e i d j q =
     }
 
 -- its value is not kept
-pub asked_fails : {limit : ℕ} {bs : List Node} {world : World} {r : Result Value (Halt EvalFault)} {v : Value} {x y z : NodeEvaluation} {s t : ℕ} (slot : ℕ) (want : Want) (b : Node) → slot < limit → slice_get bs slot ≡ Some b → IsReady limit bs world x → done_in (slice_get x.slots.items slot) ≡ None → EvaluatesNode slot bs world (Ok v) (outcome b (promises bs world) world) (size b) x y s t → IsErrAnd r (λ k. k ≡ NoMemory) → EvaluatesNode limit bs world r (then_value (outcome_at (promises bs world) slot) (fit want)) 0 x z s t
+pub asked_fails : {limit : ℕ} {bs : List Node} {world : World} {r : Result Value (Halt EvalFault)} {v : Value} {x y z : Workspace} {s t : ℕ} (slot : ℕ) (want : Want) (b : Node) → slot < limit → slice_get bs slot ≡ Some b → IsReady limit bs world x → done_in (slice_get x.slots.items slot) ≡ None → EvaluatesNode slot bs world (Ok v) (outcome b (promises bs world) world) (size b) x y s t → IsErrAnd r (λ k. k ≡ NoMemory) → EvaluatesNode limit bs world r (then_value (outcome_at (promises bs world) slot) (fit want)) 0 x z s t
 asked_fails {r = Ok v} slot want b l e i d j k = absurd k
 asked_fails {bs = bs} {world} {r = Err k} slot want b l e i d j q =
     let w = waits slot b l e i d in
@@ -78,7 +78,7 @@ asked_fails {bs = bs} {world} {r = Err k} slot want b l e i d j q =
     }
 
 -- its value is kept
-pub asked_evaluates : {limit : ℕ} {bs : List Node} {world : World} {r : Result Value (Halt EvalFault)} {v : Value} {x y z : NodeEvaluation} {s t : ℕ} (slot : ℕ) (want : Want) (b : Node) → slot < limit → slice_get bs slot ≡ Some b → IsReady limit bs world x → done_in (slice_get x.slots.items slot) ≡ None → EvaluatesNode slot bs world (Ok v) (outcome b (promises bs world) world) (size b) x y s t → z.slots.items ≡ set y.slots.items slot (Done v) → z.values.items ≡ y.values.items → GivesValue r (fit want (data_of v)) → EvaluatesNode limit bs world r (then_value (outcome_at (promises bs world) slot) (fit want)) 0 x z s t
+pub asked_evaluates : {limit : ℕ} {bs : List Node} {world : World} {r : Result Value (Halt EvalFault)} {v : Value} {x y z : Workspace} {s t : ℕ} (slot : ℕ) (want : Want) (b : Node) → slot < limit → slice_get bs slot ≡ Some b → IsReady limit bs world x → done_in (slice_get x.slots.items slot) ≡ None → EvaluatesNode slot bs world (Ok v) (outcome b (promises bs world) world) (size b) x y s t → z.slots.items ≡ set y.slots.items slot (Done v) → z.values.items ≡ y.values.items → GivesValue r (fit want (data_of v)) → EvaluatesNode limit bs world r (then_value (outcome_at (promises bs world) slot) (fit want)) 0 x z s t
 asked_evaluates {limit} {bs} {world} {r} {v} {x} {y} {z} {s} {t} slot want b l e i d j u p g =
     let ss = x.slots.items in
     let us = y.slots.items in

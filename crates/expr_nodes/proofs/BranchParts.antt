@@ -32,7 +32,7 @@ use Rattle.expr_nodes.specs.Node.{Node, children, size, total_size}
 use Rattle.expr_nodes.specs.Outcome.{outcome, promises, each_outcome, known, all_known}
 use Rattle.expr_nodes.specs.EvaluatesNode.{IsReady, HasProgressed, EvaluatesNode, arguments_of, known_arguments, outcome_at, size_in}
 use Rattle.expr_nodes.specs.MovedInput.{moved_in}
-use Rattle.expr_nodes.specs.declared.slots.NodeEvaluation.{NodeEvaluation}
+use Rattle.expr_nodes.specs.declared.workspace.Workspace.{Workspace}
 use Rattle.expr_nodes.proofs.NodeLaws.{output_known, outcome_here, size_at, size_total, child_size, take_total, take_next, take_within, first_and_rest, size_rest, two_sizes}
 use Rattle.expr_nodes.proofs.Composing.{begun, joined, cheaper, given, fails, halts, ended}
 
@@ -217,7 +217,7 @@ between_halted_second NoMemory x x0 x1 a b d e g = tt
 -- ---- what is given of what decides and of the output that it chooses
 
 -- the condition of a `case` that halts
-pub case_halts : {limit : ℕ} {bs : List Node} {world : World} {r : Result Value (Halt EvalFault)} {h : Halt EvalFault} {x y z : NodeEvaluation} {s t u : ℕ} (n : Node) (k : ℕ) (b : Node) → k + 2 ≤ length (children n) → HasProgressed limit bs world (total_size (take k (children n))) x y s t → case_of (drop k (known_arguments n bs world)) wants.Any [] world ≡ case_of (known_arguments n bs world) wants.Any [] world → slice_get (children n) k ≡ Some b → EvaluatesNode limit bs world (Err h) (outcome b (promises bs world) world) (size b) y z t u → IsErrAnd r (λ j. j ≡ h) → EvaluatesNode limit bs world r (case_of (known_arguments n bs world) wants.Any [] world) (total_size (children n)) x z s u
+pub case_halts : {limit : ℕ} {bs : List Node} {world : World} {r : Result Value (Halt EvalFault)} {h : Halt EvalFault} {x y z : Workspace} {s t u : ℕ} (n : Node) (k : ℕ) (b : Node) → k + 2 ≤ length (children n) → HasProgressed limit bs world (total_size (take k (children n))) x y s t → case_of (drop k (known_arguments n bs world)) wants.Any [] world ≡ case_of (known_arguments n bs world) wants.Any [] world → slice_get (children n) k ≡ Some b → EvaluatesNode limit bs world (Err h) (outcome b (promises bs world) world) (size b) y z t u → IsErrAnd r (λ j. j ≡ h) → EvaluatesNode limit bs world r (case_of (known_arguments n bs world) wants.Any [] world) (total_size (children n)) x z s u
 case_halts {bs = bs} {world} {r} {h} n k b l p q e j i =
     let os = arguments_of n bs world in
     let w = take_next (children n) k in
@@ -227,7 +227,7 @@ case_halts {bs = bs} {world} {r} {h} n k b l p q e j i =
     (subst (GivesValue (Err h)) q (case_halted h os k world (let c = count_here n bs world in omega (arith, l, c)) (subst (GivesValue (Err h)) (sym o) j.gives)))
 
 -- or that is no truth value
-pub case_faults : {limit : ℕ} {bs : List Node} {world : World} {r : Result Value (Halt EvalFault)} {v : Value} {x y z : NodeEvaluation} {s t u : ℕ} (fault : EvalFault) (n : Node) (k : ℕ) (b : Node) → k + 2 ≤ length (children n) → HasProgressed limit bs world (total_size (take k (children n))) x y s t → case_of (drop k (known_arguments n bs world)) wants.Any [] world ≡ case_of (known_arguments n bs world) wants.Any [] world → slice_get (children n) k ≡ Some b → EvaluatesNode limit bs world (Ok v) (outcome b (promises bs world) world) (size b) y z t u → Err fault ≡ condition_in (data_of v) → IsErrAnd r (λ j. j ≡ Fault fault) → EvaluatesNode limit bs world r (case_of (known_arguments n bs world) wants.Any [] world) (total_size (children n)) x z s u
+pub case_faults : {limit : ℕ} {bs : List Node} {world : World} {r : Result Value (Halt EvalFault)} {v : Value} {x y z : Workspace} {s t u : ℕ} (fault : EvalFault) (n : Node) (k : ℕ) (b : Node) → k + 2 ≤ length (children n) → HasProgressed limit bs world (total_size (take k (children n))) x y s t → case_of (drop k (known_arguments n bs world)) wants.Any [] world ≡ case_of (known_arguments n bs world) wants.Any [] world → slice_get (children n) k ≡ Some b → EvaluatesNode limit bs world (Ok v) (outcome b (promises bs world) world) (size b) y z t u → Err fault ≡ condition_in (data_of v) → IsErrAnd r (λ j. j ≡ Fault fault) → EvaluatesNode limit bs world r (case_of (known_arguments n bs world) wants.Any [] world) (total_size (children n)) x z s u
 case_faults {bs = bs} {world} {v = v} fault n k b l p q e j f i =
     let os = arguments_of n bs world in
     let w = take_next (children n) k in
@@ -237,7 +237,7 @@ case_faults {bs = bs} {world} {v = v} fault n k b l p q e j f i =
     (sym q ∙ sym (case_by os k world (data_of v) (Err fault) (let c = count_here n bs world in omega (arith, l, c)) (o ∙ j.gives) f))
 
 -- the condition is true
-pub case_chooses : {limit : ℕ} {bs : List Node} {world : World} {r : Result Value (Halt EvalFault)} {v : Value} {x y z w : NodeEvaluation} {s t u m : ℕ} (n : Node) (k : ℕ) (b c : Node) → k + 2 ≤ length (children n) → HasProgressed limit bs world (total_size (take k (children n))) x y s t → y.values.items ≡ x.values.items → case_of (drop k (known_arguments n bs world)) wants.Any [] world ≡ case_of (known_arguments n bs world) wants.Any [] world → slice_get (children n) k ≡ Some b → slice_get (children n) (k + 1) ≡ Some c → EvaluatesNode limit bs world (Ok v) (outcome b (promises bs world) world) (size b) y z t u → Ok true ≡ condition_in (data_of v) → EvaluatesNode limit bs world r (outcome c (promises bs world) world) (size c) z w u m → EvaluatesNode limit bs world r (case_of (known_arguments n bs world) wants.Any [] world) (total_size (children n)) x w s m
+pub case_chooses : {limit : ℕ} {bs : List Node} {world : World} {r : Result Value (Halt EvalFault)} {v : Value} {x y z w : Workspace} {s t u m : ℕ} (n : Node) (k : ℕ) (b c : Node) → k + 2 ≤ length (children n) → HasProgressed limit bs world (total_size (take k (children n))) x y s t → y.values.items ≡ x.values.items → case_of (drop k (known_arguments n bs world)) wants.Any [] world ≡ case_of (known_arguments n bs world) wants.Any [] world → slice_get (children n) k ≡ Some b → slice_get (children n) (k + 1) ≡ Some c → EvaluatesNode limit bs world (Ok v) (outcome b (promises bs world) world) (size b) y z t u → Ok true ≡ condition_in (data_of v) → EvaluatesNode limit bs world r (outcome c (promises bs world) world) (size c) z w u m → EvaluatesNode limit bs world r (case_of (known_arguments n bs world) wants.Any [] world) (total_size (children n)) x w s m
 case_chooses {bs = bs} {world} {v = v} n k b c l p g q e f j d i =
     let os = arguments_of n bs world in
     let cs = children n in
@@ -252,12 +252,12 @@ case_chooses {bs = bs} {world} {v = v} n k b c l p g q e f j d i =
     ended (a + size b) (size c) (total_size cs) (joined a (size b) p j.progress) i (omega (arith, one, two, sb, sc)) (sym oc ∙ (there ∙ q)) (j.stands ∙ g)
 
 -- the condition is false
-pub case_later : {limit : ℕ} {bs : List Node} {world : World} {v : Value} {y z : NodeEvaluation} {t u : ℕ} (n : Node) (k : ℕ) (b : Node) → k + 2 ≤ length (children n) → case_of (drop k (known_arguments n bs world)) wants.Any [] world ≡ case_of (known_arguments n bs world) wants.Any [] world → slice_get (children n) k ≡ Some b → EvaluatesNode limit bs world (Ok v) (outcome b (promises bs world) world) (size b) y z t u → Ok false ≡ condition_in (data_of v) → case_of (drop (k + 2) (known_arguments n bs world)) wants.Any [] world ≡ case_of (known_arguments n bs world) wants.Any [] world
+pub case_later : {limit : ℕ} {bs : List Node} {world : World} {v : Value} {y z : Workspace} {t u : ℕ} (n : Node) (k : ℕ) (b : Node) → k + 2 ≤ length (children n) → case_of (drop k (known_arguments n bs world)) wants.Any [] world ≡ case_of (known_arguments n bs world) wants.Any [] world → slice_get (children n) k ≡ Some b → EvaluatesNode limit bs world (Ok v) (outcome b (promises bs world) world) (size b) y z t u → Ok false ≡ condition_in (data_of v) → case_of (drop (k + 2) (known_arguments n bs world)) wants.Any [] world ≡ case_of (known_arguments n bs world) wants.Any [] world
 case_later {bs = bs} {world} {v} n k b l q e j d =
     let ob = outcome_here (children n) k b (promises bs world) world e in
     case_by (arguments_of n bs world) k world (data_of v) (Ok false) (let h = count_here n bs world in omega (arith, l, h)) (ob ∙ j.gives) d ∙ q
 
-pub case_further : {limit : ℕ} {bs : List Node} {world : World} {v : Value} {m : Evaluated} {x y z : NodeEvaluation} {s t u : ℕ} (n : Node) (k : ℕ) (b : Node) → slice_get (children n) k ≡ Some b → HasProgressed limit bs world (total_size (take k (children n))) x y s t → EvaluatesNode limit bs world (Ok v) m (size b) y z t u → HasProgressed limit bs world (total_size (take (k + 2) (children n))) x z s u
+pub case_further : {limit : ℕ} {bs : List Node} {world : World} {v : Value} {m : Evaluated} {x y z : Workspace} {s t u : ℕ} (n : Node) (k : ℕ) (b : Node) → slice_get (children n) k ≡ Some b → HasProgressed limit bs world (total_size (take k (children n))) x y s t → EvaluatesNode limit bs world (Ok v) m (size b) y z t u → HasProgressed limit bs world (total_size (take (k + 2) (children n))) x z s u
 case_further n k b e p j =
     let cs = children n in
     let a = total_size (take k cs) in
@@ -269,7 +269,7 @@ case_further n k b e p j =
     cheaper (a + size b) (total_size (take (k + 2) cs)) (joined a (size b) p j.progress) (omega (arith, one, two, three, sb))
 
 -- the last output
-pub case_ends : {limit : ℕ} {bs : List Node} {world : World} {r : Result Value (Halt EvalFault)} {x y z : NodeEvaluation} {s t u : ℕ} (n : Node) (k : ℕ) (b : Node) → length (children n) ≡ k + 1 → HasProgressed limit bs world (total_size (take k (children n))) x y s t → y.values.items ≡ x.values.items → case_of (drop k (known_arguments n bs world)) wants.Any [] world ≡ case_of (known_arguments n bs world) wants.Any [] world → slice_get (children n) k ≡ Some b → EvaluatesNode limit bs world r (outcome b (promises bs world) world) (size b) y z t u → EvaluatesNode limit bs world r (case_of (known_arguments n bs world) wants.Any [] world) (total_size (children n)) x z s u
+pub case_ends : {limit : ℕ} {bs : List Node} {world : World} {r : Result Value (Halt EvalFault)} {x y z : Workspace} {s t u : ℕ} (n : Node) (k : ℕ) (b : Node) → length (children n) ≡ k + 1 → HasProgressed limit bs world (total_size (take k (children n))) x y s t → y.values.items ≡ x.values.items → case_of (drop k (known_arguments n bs world)) wants.Any [] world ≡ case_of (known_arguments n bs world) wants.Any [] world → slice_get (children n) k ≡ Some b → EvaluatesNode limit bs world r (outcome b (promises bs world) world) (size b) y z t u → EvaluatesNode limit bs world r (case_of (known_arguments n bs world) wants.Any [] world) (total_size (children n)) x z s u
 case_ends {bs = bs} {world} n k b l p g q e i =
     let cs = children n in
     let w = take_next cs k in
@@ -278,7 +278,7 @@ case_ends {bs = bs} {world} n k b l p g q e i =
     let last = case_last (arguments_of n bs world) k world (count_here n bs world ∙ l) in
     ended (total_size (take k cs)) (size b) (total_size cs) p i (omega (arith, w, sb)) (sym ob ∙ (sym last ∙ q)) g
 
-pub case_fails : {limit : ℕ} {bs : List Node} {world : World} {x y : NodeEvaluation} {s t : ℕ} (n : Node) {k : ℕ} → length (children n) ≤ k → IsReady limit bs world x → HasProgressed limit bs world (total_size (take k (children n))) x y s t → y.values.items ≡ x.values.items → case_of (drop k (known_arguments n bs world)) wants.Any [] world ≡ case_of (known_arguments n bs world) wants.Any [] world → EvaluatesNode limit bs world (Err (Fault WrongType)) (case_of (known_arguments n bs world) wants.Any [] world) (total_size (children n)) x y s t
+pub case_fails : {limit : ℕ} {bs : List Node} {world : World} {x y : Workspace} {s t : ℕ} (n : Node) {k : ℕ} → length (children n) ≤ k → IsReady limit bs world x → HasProgressed limit bs world (total_size (take k (children n))) x y s t → y.values.items ≡ x.values.items → case_of (drop k (known_arguments n bs world)) wants.Any [] world ≡ case_of (known_arguments n bs world) wants.Any [] world → EvaluatesNode limit bs world (Err (Fault WrongType)) (case_of (known_arguments n bs world) wants.Any [] world) (total_size (children n)) x y s t
 case_fails {bs = bs} {world} n {k} l i p g q =
     let h = count_here n bs world in
     given (total_size (take k (children n))) (total_size (children n)) i p (take_within (children n) k)
@@ -287,20 +287,20 @@ case_fails {bs = bs} {world} n {k} l i p g q =
 -- ---- an input, and the output that it chooses
 
 -- the input halts
-pub input_halts : {limit : ℕ} {bs : List Node} {world : World} {r : Result Value (Halt EvalFault)} {h : Halt EvalFault} {m : Evaluated} {x y : NodeEvaluation} {s t : ℕ} (n b : Node) → IsReady limit bs world x → slice_get (children n) 0 ≡ Some b → EvaluatesNode limit bs world (Err h) (outcome b (promises bs world) world) (size b) x y s t → IsErrAnd r (λ j. j ≡ h) → (GivesValue (Err h) (outcome_at (arguments_of n bs world) 0) → GivesValue (Err h) m) → EvaluatesNode limit bs world r m (total_size (children n)) x y s t
+pub input_halts : {limit : ℕ} {bs : List Node} {world : World} {r : Result Value (Halt EvalFault)} {h : Halt EvalFault} {m : Evaluated} {x y : Workspace} {s t : ℕ} (n b : Node) → IsReady limit bs world x → slice_get (children n) 0 ≡ Some b → EvaluatesNode limit bs world (Err h) (outcome b (promises bs world) world) (size b) x y s t → IsErrAnd r (λ j. j ≡ h) → (GivesValue (Err h) (outcome_at (arguments_of n bs world) 0) → GivesValue (Err h) m) → EvaluatesNode limit bs world r m (total_size (children n)) x y s t
 input_halts {bs = bs} {world} {h = h} n b i e j k go =
     let w = child_size (children n) 0 b e in
     halts 0 (size b) (total_size (children n)) (begun i) j (omega (arith, w)) k
     (go (subst (GivesValue (Err h)) (sym (outcome_here (children n) 0 b (promises bs world) world e)) j.gives))
 
 -- the input is no number
-pub input_fails : {limit : ℕ} {bs : List Node} {world : World} {r : Result Value (Halt EvalFault)} {v : Value} {m : Evaluated} {x y : NodeEvaluation} {s t : ℕ} (fault : EvalFault) (n b : Node) → slice_get (children n) 0 ≡ Some b → EvaluatesNode limit bs world (Ok v) (outcome b (promises bs world) world) (size b) x y s t → IsErrAnd r (λ j. j ≡ Fault fault) → m ≡ Err fault → EvaluatesNode limit bs world r m (total_size (children n)) x y s t
+pub input_fails : {limit : ℕ} {bs : List Node} {world : World} {r : Result Value (Halt EvalFault)} {v : Value} {m : Evaluated} {x y : Workspace} {s t : ℕ} (fault : EvalFault) (n b : Node) → slice_get (children n) 0 ≡ Some b → EvaluatesNode limit bs world (Ok v) (outcome b (promises bs world) world) (size b) x y s t → IsErrAnd r (λ j. j ≡ Fault fault) → m ≡ Err fault → EvaluatesNode limit bs world r m (total_size (children n)) x y s t
 input_fails fault n b e j k q =
     let w = child_size (children n) 0 b e in
     fails (Fault fault) (size b) (total_size (children n)) j.progress w k q
 
 -- the output of a place is evaluated after the input
-pub output_follows : {limit : ℕ} {bs : List Node} {world : World} {r : Result Value (Halt EvalFault)} {v : Value} {m : Evaluated} {x y z : NodeEvaluation} {s t u : ℕ} (n b : Node) (place : ℕ) → slice_get (children n) 0 ≡ Some b → EvaluatesNode limit bs world (Ok v) (outcome b (promises bs world) world) (size b) x y s t → EvaluatesNode limit bs world r (outcome_at (arguments_of n bs world) (place + 1)) (size_in (children n) (place + 1)) y z t u → outcome_at (arguments_of n bs world) (place + 1) ≡ m → EvaluatesNode limit bs world r m (total_size (children n)) x z s u
+pub output_follows : {limit : ℕ} {bs : List Node} {world : World} {r : Result Value (Halt EvalFault)} {v : Value} {m : Evaluated} {x y z : Workspace} {s t u : ℕ} (n b : Node) (place : ℕ) → slice_get (children n) 0 ≡ Some b → EvaluatesNode limit bs world (Ok v) (outcome b (promises bs world) world) (size b) x y s t → EvaluatesNode limit bs world r (outcome_at (arguments_of n bs world) (place + 1)) (size_in (children n) (place + 1)) y z t u → outcome_at (arguments_of n bs world) (place + 1) ≡ m → EvaluatesNode limit bs world r m (total_size (children n)) x z s u
 output_follows {bs = bs} {world} n b place e j i q =
     let cs = children n in
     let a = size_at cs 0 b e in
@@ -310,12 +310,12 @@ output_follows {bs = bs} {world} n b place e j i q =
     ended (size b) (size_in cs (place + 1)) (total_size cs) j.progress i (omega (arith, a, c, d, f)) q j.stands
 
 -- what an input that was evaluated gives
-pub input_gives : {limit cost : ℕ} {bs : List Node} {world : World} {v : Value} {x y : NodeEvaluation} {s t : ℕ} (n b : Node) → slice_get (children n) 0 ≡ Some b → EvaluatesNode limit bs world (Ok v) (outcome b (promises bs world) world) cost x y s t → outcome_at (arguments_of n bs world) 0 ≡ Ok (data_of v)
+pub input_gives : {limit cost : ℕ} {bs : List Node} {world : World} {v : Value} {x y : Workspace} {s t : ℕ} (n b : Node) → slice_get (children n) 0 ≡ Some b → EvaluatesNode limit bs world (Ok v) (outcome b (promises bs world) world) cost x y s t → outcome_at (arguments_of n bs world) 0 ≡ Ok (data_of v)
 input_gives {bs = bs} {world} n b e j = outcome_here (children n) 0 b (promises bs world) world e ∙ j.gives
 
 -- ---- a ramp
 
-pub ramp_halts : {limit : ℕ} {bs : List Node} {world : World} {r : Result Value (Halt EvalFault)} {v : Value} {h : Halt EvalFault} {z : ℤ} {x y w : NodeEvaluation} {s t u : ℕ} (curve : Curve) (inputs : List ℤ) (n b : Node) (want : Want) → 1 ≤ length (children n) → slice_get (children n) 0 ≡ Some b → EvaluatesNode limit bs world (Ok v) (outcome b (promises bs world) world) (size b) x y s t → Ok z ≡ moved_in curve inputs (data_of v) → EvaluatesNode limit bs world (Err h) (at_input inputs (arguments_of n bs world) world z) (total_size (drop 1 (children n))) y w t u → IsErrAnd r (λ j. j ≡ h) → EvaluatesNode limit bs world r (ramp_of curve inputs (known_arguments n bs world) want [] world) (total_size (children n)) x w s u
+pub ramp_halts : {limit : ℕ} {bs : List Node} {world : World} {r : Result Value (Halt EvalFault)} {v : Value} {h : Halt EvalFault} {z : ℤ} {x y w : Workspace} {s t u : ℕ} (curve : Curve) (inputs : List ℤ) (n b : Node) (want : Want) → 1 ≤ length (children n) → slice_get (children n) 0 ≡ Some b → EvaluatesNode limit bs world (Ok v) (outcome b (promises bs world) world) (size b) x y s t → Ok z ≡ moved_in curve inputs (data_of v) → EvaluatesNode limit bs world (Err h) (at_input inputs (arguments_of n bs world) world z) (total_size (drop 1 (children n))) y w t u → IsErrAnd r (λ j. j ≡ h) → EvaluatesNode limit bs world r (ramp_of curve inputs (known_arguments n bs world) want [] world) (total_size (children n)) x w s u
 ramp_halts {bs = bs} {world} {v = v} {h} {z} curve inputs n b want l e j d i k =
     let cs = children n in
     let os = arguments_of n bs world in
@@ -325,7 +325,7 @@ ramp_halts {bs = bs} {world} {v = v} {h} {z} curve inputs n b want l e j d i k =
     halts (size b) (total_size (drop 1 cs)) (total_size cs) j.progress i (omega (arith, a, c)) k
     (subst (GivesValue (Err h)) there (then_halted h (at_input inputs os world z) (fit want) i.gives))
 
-pub ramp_evaluates : {limit : ℕ} {bs : List Node} {world : World} {r : Result Value (Halt EvalFault)} {v o : Value} {z : ℤ} {x y w : NodeEvaluation} {s t u : ℕ} (curve : Curve) (inputs : List ℤ) (n b : Node) (want : Want) → 1 ≤ length (children n) → IsReady limit bs world x → slice_get (children n) 0 ≡ Some b → EvaluatesNode limit bs world (Ok v) (outcome b (promises bs world) world) (size b) x y s t → Ok z ≡ moved_in curve inputs (data_of v) → EvaluatesNode limit bs world (Ok o) (at_input inputs (arguments_of n bs world) world z) (total_size (drop 1 (children n))) y w t u → GivesValue r (fit want (data_of o)) → EvaluatesNode limit bs world r (ramp_of curve inputs (known_arguments n bs world) want [] world) (total_size (children n)) x w s u
+pub ramp_evaluates : {limit : ℕ} {bs : List Node} {world : World} {r : Result Value (Halt EvalFault)} {v o : Value} {z : ℤ} {x y w : Workspace} {s t u : ℕ} (curve : Curve) (inputs : List ℤ) (n b : Node) (want : Want) → 1 ≤ length (children n) → IsReady limit bs world x → slice_get (children n) 0 ≡ Some b → EvaluatesNode limit bs world (Ok v) (outcome b (promises bs world) world) (size b) x y s t → Ok z ≡ moved_in curve inputs (data_of v) → EvaluatesNode limit bs world (Ok o) (at_input inputs (arguments_of n bs world) world z) (total_size (drop 1 (children n))) y w t u → GivesValue r (fit want (data_of o)) → EvaluatesNode limit bs world r (ramp_of curve inputs (known_arguments n bs world) want [] world) (total_size (children n)) x w s u
 ramp_evaluates {bs = bs} {world} {r} {v} {o} {z} curve inputs n b want l f e j d i g =
     let cs = children n in
     let os = arguments_of n bs world in
@@ -340,7 +340,7 @@ ramp_evaluates {bs = bs} {world} {r} {v} {o} {z} curve inputs n b want l f e j d
 stop_output : (n : Node) (bs : List Node) (world : World) (place : ℕ) → outcome_at (arguments_of n bs world) (place + 1) ≡ output_at (drop 1 (known_arguments n bs world)) place wants.Any [] world
 stop_output n bs world place = output_place (arguments_of n bs world) place wants.Any world
 
-pub stop_alone : {limit : ℕ} {bs : List Node} {world : World} {r : Result Value (Halt EvalFault)} {m : Evaluated} {x y : NodeEvaluation} {s t : ℕ} (n : Node) (place : ℕ) → IsReady limit bs world x → EvaluatesNode limit bs world r (outcome_at (arguments_of n bs world) (place + 1)) (size_in (children n) (place + 1)) x y s t → output_at (drop 1 (known_arguments n bs world)) place wants.Any [] world ≡ m → EvaluatesNode limit bs world r m (total_size (drop 1 (children n))) x y s t
+pub stop_alone : {limit : ℕ} {bs : List Node} {world : World} {r : Result Value (Halt EvalFault)} {m : Evaluated} {x y : Workspace} {s t : ℕ} (n : Node) (place : ℕ) → IsReady limit bs world x → EvaluatesNode limit bs world r (outcome_at (arguments_of n bs world) (place + 1)) (size_in (children n) (place + 1)) x y s t → output_at (drop 1 (known_arguments n bs world)) place wants.Any [] world ≡ m → EvaluatesNode limit bs world r m (total_size (drop 1 (children n))) x y s t
 stop_alone {bs = bs} {world} n place i j q =
     let cs = children n in
     let d = size_rest cs place in
@@ -351,7 +351,7 @@ stop_alone {bs = bs} {world} n place i j q =
 abbrev pub between_places : Node → List Node → World → ℤ → ℤ → ℤ → ℕ → Evaluated
 between_places n bs world x x0 x1 k = between_values x x0 x1 (output_at (drop 1 (known_arguments n bs world)) k wants.Any [] world) (output_at (drop 1 (known_arguments n bs world)) (k + 1) wants.Any [] world)
 
-pub lower_halts : {limit : ℕ} {bs : List Node} {world : World} {r : Result Value (Halt EvalFault)} {h : Halt EvalFault} {m : Evaluated} {x y : NodeEvaluation} {s t : ℕ} (n : Node) (place : ℕ) (a a0 a1 : ℤ) → IsReady limit bs world x → EvaluatesNode limit bs world (Err h) (outcome_at (arguments_of n bs world) (place + 1)) (size_in (children n) (place + 1)) x y s t → IsErrAnd r (λ j. j ≡ h) → between_places n bs world a a0 a1 place ≡ m → EvaluatesNode limit bs world r m (total_size (drop 1 (children n))) x y s t
+pub lower_halts : {limit : ℕ} {bs : List Node} {world : World} {r : Result Value (Halt EvalFault)} {h : Halt EvalFault} {m : Evaluated} {x y : Workspace} {s t : ℕ} (n : Node) (place : ℕ) (a a0 a1 : ℤ) → IsReady limit bs world x → EvaluatesNode limit bs world (Err h) (outcome_at (arguments_of n bs world) (place + 1)) (size_in (children n) (place + 1)) x y s t → IsErrAnd r (λ j. j ≡ h) → between_places n bs world a a0 a1 place ≡ m → EvaluatesNode limit bs world r m (total_size (drop 1 (children n))) x y s t
 lower_halts {bs = bs} {world} {h = h} n place a a0 a1 i j k q =
     let cs = children n in
     let d = size_rest cs place in
@@ -366,13 +366,13 @@ two_outputs cs place =
     let f = two_sizes (drop 1 cs) place in
     omega (arith, d, e, f)
 
-pub upper_halts : {limit : ℕ} {bs : List Node} {world : World} {r : Result Value (Halt EvalFault)} {v : Value} {h : Halt EvalFault} {m : Evaluated} {x y z : NodeEvaluation} {s t u : ℕ} (n : Node) (place : ℕ) (a a0 a1 : ℤ) → EvaluatesNode limit bs world (Ok v) (outcome_at (arguments_of n bs world) (place + 1)) (size_in (children n) (place + 1)) x y s t → EvaluatesNode limit bs world (Err h) (outcome_at (arguments_of n bs world) (place + 1 + 1)) (size_in (children n) (place + 1 + 1)) y z t u → IsErrAnd r (λ j. j ≡ h) → between_places n bs world a a0 a1 place ≡ m → EvaluatesNode limit bs world r m (total_size (drop 1 (children n))) x z s u
+pub upper_halts : {limit : ℕ} {bs : List Node} {world : World} {r : Result Value (Halt EvalFault)} {v : Value} {h : Halt EvalFault} {m : Evaluated} {x y z : Workspace} {s t u : ℕ} (n : Node) (place : ℕ) (a a0 a1 : ℤ) → EvaluatesNode limit bs world (Ok v) (outcome_at (arguments_of n bs world) (place + 1)) (size_in (children n) (place + 1)) x y s t → EvaluatesNode limit bs world (Err h) (outcome_at (arguments_of n bs world) (place + 1 + 1)) (size_in (children n) (place + 1 + 1)) y z t u → IsErrAnd r (λ j. j ≡ h) → between_places n bs world a a0 a1 place ≡ m → EvaluatesNode limit bs world r m (total_size (drop 1 (children n))) x z s u
 upper_halts {bs = bs} {world} {v = v} {h} n place a a0 a1 i j k q =
     let cs = children n in
     halts (size_in cs (place + 1)) (size_in cs (place + 1 + 1)) (total_size (drop 1 cs)) i.progress j (two_outputs cs place) k
     (subst (GivesValue (Err h)) q (between_halted_second h a a0 a1 _ _ (data_of v) (sym (stop_output n bs world place) ∙ i.gives) (subst (GivesValue (Err h)) (stop_output n bs world (place + 1)) j.gives)))
 
-pub both_evaluate : {limit : ℕ} {bs : List Node} {world : World} {r : Result Value (Halt EvalFault)} {v w : Value} {m : Evaluated} {x y z : NodeEvaluation} {s t u : ℕ} (n : Node) (place : ℕ) (a a0 a1 : ℤ) → IsReady limit bs world x → EvaluatesNode limit bs world (Ok v) (outcome_at (arguments_of n bs world) (place + 1)) (size_in (children n) (place + 1)) x y s t → EvaluatesNode limit bs world (Ok w) (outcome_at (arguments_of n bs world) (place + 1 + 1)) (size_in (children n) (place + 1 + 1)) y z t u → GivesValue r (between_of a a0 (data_of v) a1 (data_of w)) → between_places n bs world a a0 a1 place ≡ m → EvaluatesNode limit bs world r m (total_size (drop 1 (children n))) x z s u
+pub both_evaluate : {limit : ℕ} {bs : List Node} {world : World} {r : Result Value (Halt EvalFault)} {v w : Value} {m : Evaluated} {x y z : Workspace} {s t u : ℕ} (n : Node) (place : ℕ) (a a0 a1 : ℤ) → IsReady limit bs world x → EvaluatesNode limit bs world (Ok v) (outcome_at (arguments_of n bs world) (place + 1)) (size_in (children n) (place + 1)) x y s t → EvaluatesNode limit bs world (Ok w) (outcome_at (arguments_of n bs world) (place + 1 + 1)) (size_in (children n) (place + 1 + 1)) y z t u → GivesValue r (between_of a a0 (data_of v) a1 (data_of w)) → between_places n bs world a a0 a1 place ≡ m → EvaluatesNode limit bs world r m (total_size (drop 1 (children n))) x z s u
 both_evaluate {bs = bs} {world} {r} {v} {w} n place a a0 a1 f i j g q =
     let cs = children n in
     let lower = sym (stop_output n bs world place) ∙ i.gives in

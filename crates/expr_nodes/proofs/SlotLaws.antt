@@ -8,8 +8,8 @@ use Rattle.operator_values.specs.Evaluated.{Evaluated}
 use Rattle.expr_nodes.specs.Node.{Node, size, total_size}
 use Rattle.expr_nodes.specs.Outcome.{promised}
 use Rattle.expr_nodes.specs.Slots.{HoldPromises, wait_of, pending, reach, done_in}
-use Rattle.expr_nodes.specs.declared.slots.PromiseSlot.{PromiseSlot}
-use Rattle.expr_nodes.specs.declared.slots.PromiseSlot.TheVariants.{Waiting, Done}
+use Rattle.expr_nodes.specs.declared.workspace.PromiseSlot.{PromiseSlot}
+use Rattle.expr_nodes.specs.declared.workspace.PromiseSlot.TheVariants.{Waiting, Done}
 use Rattle.expr_nodes.proofs.BindingPlaces.{node_or}
 
 at_set : (ss : List PromiseSlot) (j : ℕ) (x : PromiseSlot) (i : ℕ) → j < i → slice_get (set ss j x) i ≡ slice_get ss i

@@ -17,7 +17,7 @@ use Rattle.expr_nodes.specs.Node.{Node, size, children}
 use Rattle.expr_nodes.specs.Outcome.{promised, promises, each_outcome, all_known}
 use Rattle.expr_nodes.specs.Limits.{AskEarlier}
 use Rattle.expr_nodes.specs.Slots.{HoldPromises, pending}
-use Rattle.expr_nodes.specs.declared.slots.NodeEvaluation.{NodeEvaluation}
+use Rattle.expr_nodes.specs.declared.workspace.Workspace.{Workspace}
 
 -- the arguments of a node, by what they give
 abbrev pub arguments_of : Node → List Node → World → List Evaluated
@@ -34,14 +34,14 @@ abbrev pub argument_in : Operator → List Evaluated → ℕ → Evaluated
 argument_in op outcomes k = looked_at (is_sequence (row (operator_name op)).sequence k) (outcome_at outcomes k)
 
 -- An evaluation under a limit is made over bindings that ask for earlier ones, and its slots hold what they promise.
-pub record IsReady (limit : ℕ) (bindings : List Node) (world : World) (evaluation : NodeEvaluation) : Type 0 where
+pub record IsReady (limit : ℕ) (bindings : List Node) (world : World) (evaluation : Workspace) : Type 0 where
   pub within : limit ≤ length bindings
   pub earlier : AskEarlier bindings
   pub kept : HoldPromises (promises bindings world) evaluation.slots.items
 
 -- Of an evaluation that came so far: it visited as many nodes as it cost, those of a binding once, and no slot from the limit on
 -- has changed.
-pub record HasProgressed (limit : ℕ) (bindings : List Node) (world : World) (cost : ℕ) (old new : NodeEvaluation)
+pub record HasProgressed (limit : ℕ) (bindings : List Node) (world : World) (cost : ℕ) (old new : Workspace)
     (before after : ℕ) : Type 0 where
   pub kept : HoldPromises (promises bindings world) new.slots.items
   pub above : (i : ℕ) → limit ≤ i → slice_get new.slots.items i ≡ slice_get old.slots.items i
@@ -50,7 +50,7 @@ pub record HasProgressed (limit : ℕ) (bindings : List Node) (world : World) (c
 
 -- What is given is what is meant, unless an allocation fails. At most as many nodes were visited as it costs and as wait.
 pub record EvaluatesNode (limit : ℕ) (bindings : List Node) (world : World) (result : Result Value (Halt EvalFault)) (meant : Evaluated)
-    (cost : ℕ) (old new : NodeEvaluation) (before after : ℕ) : Type 0 where
+    (cost : ℕ) (old new : Workspace) (before after : ℕ) : Type 0 where
   pub gives : GivesValue result meant
   pub rises : before ≤ after
   pub most : after ≤ before + cost + pending limit bindings old.slots.items
@@ -60,7 +60,7 @@ pub record EvaluatesNode (limit : ℕ) (bindings : List Node) (world : World) (r
 
 -- The values that are meant are added to the stack of values.
 pub record EvaluatesNodes {A : Type 0} (limit : ℕ) (bindings : List Node) (world : World) (result : Result A (Halt EvalFault))
-    (meant : Result (List Data) EvalFault) (cost : ℕ) (old new : NodeEvaluation) (before after : ℕ) : Type 0 where
+    (meant : Result (List Data) EvalFault) (cost : ℕ) (old new : Workspace) (before after : ℕ) : Type 0 where
   pub gives : GivesAll result (added old.values.items new.values.items) meant
   pub rises : before ≤ after
   pub most : after ≤ before + cost + pending limit bindings old.slots.items

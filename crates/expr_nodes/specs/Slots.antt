@@ -5,8 +5,8 @@ use Rattle.prop_values.specs.Data.{Data}
 use Rattle.prop_values.specs.View.{data_of}
 use Rattle.operator_values.specs.Evaluated.{Evaluated}
 use Rattle.expr_nodes.specs.Node.{Node, size}
-use Rattle.expr_nodes.specs.declared.slots.PromiseSlot.{PromiseSlot}
-use Rattle.expr_nodes.specs.declared.slots.PromiseSlot.TheVariants.{Waiting, Done}
+use Rattle.expr_nodes.specs.declared.workspace.PromiseSlot.{PromiseSlot}
+use Rattle.expr_nodes.specs.declared.workspace.PromiseSlot.TheVariants.{Waiting, Done}
 
 -- what a slot holds
 abbrev pub done_in : Option PromiseSlot → Option Data

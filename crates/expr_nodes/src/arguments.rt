@@ -12,7 +12,7 @@ ghost use Rattle.expr_nodes.specs.EvaluatesNode.{known_arguments, arguments_of, 
 use crate::access::{Bindings, NodeHandle};
 use crate::evaluation::Surroundings;
 use crate::leaves::{sequence_value, undecided_value};
-use crate::slots::NodeEvaluation;
+use crate::workspace::Workspace;
 use expr_syntax::Operator;
 use operator_rules::{WorldView, decided, fitted, is_sequence, node_value};
 use operator_values::Halt;
@@ -20,7 +20,7 @@ use outside_io::Steps;
 use prop_values::{Value, Want};
 use std::sync::ledger::Ledger;
 
-impl NodeEvaluation {
+impl Workspace {
     /// A node whose operator evaluates all its arguments. The values of one and of two take no memory.
     #[tactic(auto, using(crate::proofs::NodeLaws::below_at, crate::proofs::NodeLaws::child_size))]
     #[cycle(nodes)]

@@ -5,6 +5,7 @@ ghost use Rattle.expr_nodes.specs.Evaluators.{sized_node};
 
 use crate::boxed_expression::BoxedExpression;
 use crate::evaluator::CountedEvaluator;
+use crate::workspace::Workspace;
 use operator_rules::WorldView;
 use operator_values::Halt;
 use outside_io::Steps;
@@ -48,13 +49,13 @@ impl CountedEvaluator for Boxed {
 
     fn evaluated<W: WorldView, L: Ledger>(
         &self,
-        alloc: Global,
+        workspace: &mut Workspace,
         slot: u32,
         world: &W,
         steps: &mut Steps<L>,
     ) -> Result<Value, Halt> {
         let expression = &self.expressions[slot as usize];
-        expression.evaluated(alloc, world, steps)
+        expression.evaluated(workspace, world, steps)
     }
 
     fn nodes(&self, slot: u32) -> u64 {

@@ -7,11 +7,11 @@ ghost use Rattle.expr_nodes.specs.Evaluators.{IsEvaluable, sized_node};
 
 use crate::boxed_node::{BoxedBindings, BoxedNode};
 use crate::evaluation::evaluate;
+use crate::workspace::Workspace;
 use operator_rules::WorldView;
 use operator_values::Halt;
 use outside_io::Steps;
 use prop_values::Value;
-use std::alloc::Global;
 use std::marker::Model;
 use std::sync::ledger::Ledger;
 
@@ -53,10 +53,18 @@ impl BoxedExpression {
         }
     }
 
+    /// The node, its bindings, and how many nodes the expression has.
+    pub fn into_parts(self) -> (BoxedNode, Vec<BoxedNode>, u64)
+        ensures parts { (boxed_node result.0, map boxed_node result.1.items, result.2) ≡ self }
+        ensures evaluable { IsEvaluable (boxed_node result.0, map boxed_node result.1.items, result.2) }
+    {
+        (self.root, self.bindings, self.nodes)
+    }
+
     /// The value in a world, or the first fault.
     pub fn evaluated<W: WorldView, L: Ledger>(
         &self,
-        alloc: Global,
+        workspace: &mut Workspace,
         world: &W,
         steps: &mut Steps<L>,
     ) -> Result<Value, Halt>
@@ -67,7 +75,7 @@ impl BoxedExpression {
         let bindings = BoxedBindings {
             nodes: self.bindings.as_slice(),
         };
-        evaluate(alloc, &self.root, &bindings, world, steps)
+        evaluate(workspace, &self.root, &bindings, world, steps)
     }
 
     /// How many nodes the expression has, literals counted.

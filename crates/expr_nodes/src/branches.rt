@@ -13,7 +13,7 @@ ghost use Rattle.expr_nodes.specs.EvaluatesNode.{known_arguments, arguments_of, 
 use crate::access::{Bindings, NodeHandle};
 use crate::evaluation::Surroundings;
 use crate::leaves::moved_input;
-use crate::slots::NodeEvaluation;
+use crate::workspace::Workspace;
 use expr_syntax::{Labels, Ramp};
 use fixed_num::Fixed;
 use interpolate_fixed::{StopPlace, step_place, stop_place};
@@ -23,7 +23,7 @@ use outside_io::Steps;
 use prop_values::{EvalFault, Value, Want};
 use std::sync::ledger::Ledger;
 
-impl NodeEvaluation {
+impl Workspace {
     /// `case`.
     #[tactic(auto, using(crate::proofs::NodeLaws::below_at, crate::proofs::NodeLaws::child_size))]
     #[cycle(nodes)]

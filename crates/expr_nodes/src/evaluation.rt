@@ -12,13 +12,12 @@ ghost use Rattle.expr_nodes.specs.EvaluatesNode.{IsReady, EvaluatesNode, known_a
 
 use crate::access::{Bindings, NodeForm, NodeHandle};
 use crate::leaves::property_value;
-use crate::slots::NodeEvaluation;
+use crate::workspace::Workspace;
 use expr_syntax::Operator;
 use operator_rules::{OperatorRule, WorldView, fitted, fitted_copy, rule_of};
 use operator_values::Halt;
 use outside_io::Steps;
 use prop_values::{Value, Want};
-use std::alloc::Global;
 use std::sync::ledger::Ledger;
 
 /// What a node is evaluated in: the bindings, the world, and the number below which bindings are asked for.
@@ -30,9 +29,10 @@ pub(crate) struct Surroundings<'x, B, W> {
 }
 
 /// The value of a node, with its bindings, in a world. At least one step is counted, and at most as many as
-/// all of them have nodes: a binding is evaluated at most once, and only where it is asked for.
+/// all of them have nodes: a binding is evaluated at most once, and only where it is asked for. What the workspace
+/// holds before does not matter.
 pub fn evaluate<N: NodeHandle, B: Bindings<N>, W: WorldView, L: Ledger>(
-    alloc: Global,
+    workspace: &mut Workspace,
     tree: N,
     bindings: &B,
     world: &W,
@@ -46,24 +46,19 @@ pub fn evaluate<N: NodeHandle, B: Bindings<N>, W: WorldView, L: Ledger>(
     ensures most { steps.new ≤ steps.old + size (N.node tree) + total_size (B.listed bindings.now) }
 {
     let limit = bindings.count();
-    match NodeEvaluation::new(alloc, limit) {
-        Ok(evaluation) => {
-            let mut evaluation = evaluation;
-            let around = Surroundings {
-                bindings: &*bindings,
-                world: &*world,
-                limit,
-            };
-            evaluation.evaluate_node(tree, &around, steps)
-        }
-        Err(_) => {
-            steps.tick();
-            Err(Halt::NoMemory)
-        }
-    }
+    let Ok(()) = workspace.begin(limit) else {
+        steps.tick();
+        return Err(Halt::NoMemory);
+    };
+    let around = Surroundings {
+        bindings: &*bindings,
+        world: &*world,
+        limit,
+    };
+    workspace.evaluate_node(tree, &around, steps)
 }
 
-impl NodeEvaluation {
+impl Workspace {
     /// The value of a node. Its step is counted.
     #[tactic(auto, using(crate::proofs::NodeLaws::below_at, crate::proofs::NodeLaws::child_size))]
     #[cycle(nodes)]

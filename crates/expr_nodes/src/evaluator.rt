@@ -3,11 +3,11 @@
 ghost use Rattle.std.specs.Prelude.{◌≡◌, ◌+◌, ◌<◌, ◌≤◌, List, length};
 ghost use Rattle.expr_nodes.specs.Evaluators.{Sized, GivesAt, nodes_at};
 
+use crate::workspace::Workspace;
 use operator_rules::WorldView;
 use operator_values::Halt;
 use outside_io::Steps;
 use prop_values::Value;
-use std::alloc::Global;
 use std::sync::ledger::Ledger;
 
 /// Expressions by their numbers, each under a want of its own, wherever their nodes are kept.
@@ -16,10 +16,10 @@ pub trait CountedEvaluator {
     ghost slots: { Self → List Sized };
 
     /// The value of an expression in a world, or its first fault. At least one step is counted, and at most as
-    /// many as the expression has nodes.
+    /// many as the expression has nodes. Any workspace serves, and keeps its room for the next evaluation.
     fn evaluated<W: WorldView, L: Ledger>(
         &self,
-        alloc: Global,
+        workspace: &mut Workspace,
         slot: u32,
         world: &W,
         steps: &mut Steps<L>,

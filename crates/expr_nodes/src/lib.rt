@@ -1,26 +1,31 @@
-//! Expressions without names, as counted evaluators have them: nodes, what they give, and how an expression becomes one.
+//! Expressions without names, as counted evaluators have them: nodes, what they give, and how an expression becomes
+//! one.
 //!
 //! ```text
 //! // ["let","a",["+",1,1],["*",["var","a"],["var","a"]]] under Want::Number, an expression of 7 nodes
 //! // binding 0: ["+",1,1]; the root: ["*", binding 0, binding 0]
-//! evaluate(alloc, root, &bindings, &world, &mut steps)?     // 4, in 6 steps
+//! let mut workspace = Workspace::new(alloc);
+//! evaluate(&mut workspace, root, &bindings, &world, &mut steps)?     // 4, in 6 steps
 //! ```
 //!
 //! What is promised, for all nodes, bindings and worlds: `evaluate` gives exactly the value or the fault that is the
-//! outcome of the node, `outcome` of `specs/Outcome.antt`, unless an allocation fails. It counts at least one step, and at
-//! most as many as the node and its bindings have nodes, each counted once, also after a fault and where an allocation
-//! fails. The same holds wherever nodes are kept: a [`NodeHandle`] reads a node, and [`Bindings`] are those of an
-//! expression. A [`CountedEvaluator`] has many expressions by their numbers; [`Boxed`] is the one whose nodes own their
-//! arguments. A resolved expression (`resolve`) gives in every world what the expression means, faults included; its
-//! bindings can be evaluated in their order; and it has no more nodes (`resolved_expressions_mean_the_same`). `Represents`
-//! says when a node and its bindings represent an expression under a want.
+//! outcome of the node, `outcome` of `specs/Outcome.antt`, unless an allocation fails. It counts at least one step,
+//! and at most as many as the node and its bindings have nodes, each counted once, also after a fault and where an
+//! allocation fails. The same holds wherever nodes are kept: a [`NodeHandle`] reads a node, and [`Bindings`] are
+//! those of an expression. A [`CountedEvaluator`] has many expressions by their numbers; [`Boxed`] is the one whose
+//! nodes own their arguments. A resolved expression (`resolve`) gives in every world what the expression means,
+//! faults included; its bindings can be evaluated in their order; and it has no more nodes
+//! (`resolved_expressions_mean_the_same`). `Represents` says when a node and its bindings represent an expression
+//! under a want.
 //!
-//! A node knows what it is wanted as, and a literal is fitted already. The property of a literal key is a node of its own.
-//! Names are gone: a `let` is its body, and its bindings are in one list, each after those that it asks for. A binding is
-//! evaluated when it is first asked for, and its value is kept.
+//! A [`Workspace`] is the memory of evaluations, made once. What it holds before an evaluation does not matter.
 //!
-//! The functions are those of `expr_plain`, over nodes (`evaluation.rt`, `arguments.rt`, `branches.rt`), and what they make
-//! of values is in `operator_rules`. They are methods of one `NodeEvaluation`, which has what changes (`slots.rt`): a slot
+//! A node knows what it is wanted as, and a literal is fitted already. The property of a literal key is a node of its
+//! own. Names are gone: a `let` is its body, and its bindings are in one list, each after those that it asks for. A
+//! binding is evaluated when it is first asked for, and its value is kept.
+//!
+//! The functions are those of `expr_plain`, over nodes (`evaluation.rt`, `arguments.rt`, `branches.rt`), and what
+//! they make of values is in `operator_rules`. They are methods of the `Workspace`, which has what changes: a slot
 //! for each binding, and the values of arguments whose node is not evaluated yet.
 //!
 //! The text to believe is in `specs/`: `Node`, `Outcome`, `Limits`, `Resolving`, `Resolved`, `Evaluators`.
@@ -36,7 +41,7 @@ mod evaluation;
 mod evaluator;
 mod laws;
 mod leaves;
-mod slots;
+mod workspace;
 
 pub use access::{Bindings, NodeForm, NodeHandle};
 pub use boxed::Boxed;
@@ -45,3 +50,4 @@ pub use boxed_node::{BoxedBindings, BoxedNode};
 pub use evaluation::evaluate;
 pub use evaluator::CountedEvaluator;
 pub use laws::resolved_expressions_mean_the_same;
+pub use workspace::Workspace;

@@ -11,8 +11,8 @@ use expr_syntax::Expr;
 use prop_values::Want;
 use std::alloc::{AllocError, Global};
 
-/// An expression under a want as its nodes, which give in every world what the expression means, with how many nodes the
-/// expression has. More than `u64::MAX` nodes are refused as a failed allocation is.
+/// An expression under a want as its nodes, which give in every world what the expression means, with how many nodes
+/// the expression has. It is an error only where an allocation fails or there are more than `u64::MAX` nodes.
 pub fn boxed(alloc: Global, expression: Expr, want: Want) -> Result<BoxedExpression, AllocError>
     ensures { IfOk result (λ made. sized_node made ≡ sized_term (term_of expression) want) }
 {

@@ -6,13 +6,13 @@
 //! // bindings: ["+",1,1]; root: ["*", binding 0, binding 0]
 //! ```
 //!
-//! What is promised, for all expressions and wants: [`resolve`] gives exactly the node and the bindings of the definition
-//! `resolve` of `expr_nodes`, and [`boxed`] gives nodes that mean in every world what the expression means, faults included,
-//! with how many nodes the expression has, unless an allocation fails. An expression of more nodes than a `u64` counts is
-//! refused by `boxed` as a failed allocation is.
+//! What is promised, for all expressions and wants: [`resolve`] gives exactly the node and the bindings of the
+//! definition `resolve` of `expr_nodes`, and [`boxed`] gives nodes that mean in every world what the expression
+//! means, faults included, with how many nodes the expression has, unless an allocation fails. An expression of 2^64
+//! nodes or more, and no other, is refused by `boxed` as a failed allocation is.
 //!
-//! An expression is taken by value: its operators are moved into the nodes. What is copied is the key of a property, which
-//! is shared.
+//! An expression is taken by value: its operators are moved into the nodes. What is copied is the key of a property,
+//! which is shared.
 //!
 //! The text to believe is in `specs/` of `expr_nodes`; the files of `specs/` here are of private functions alone.
 #![tactic(auto)]

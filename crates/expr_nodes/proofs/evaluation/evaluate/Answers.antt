@@ -1,5 +1,5 @@
 use Rattle.std.proofs.Common.{◌∙◌, sym, ap, subst, arith, List}
-use Rattle.expr_nodes.specs.declared.slots.PromiseSlot.{PromiseSlot}
+use Rattle.expr_nodes.specs.declared.workspace.PromiseSlot.{PromiseSlot}
 use Rattle.expr_nodes.specs.Outcome.{promises}
 use Rattle.expr_nodes.specs.Slots.{pending, HoldPromises}
 use Rattle.expr_nodes.proofs.NodeLaws.{size_pos}
@@ -18,14 +18,14 @@ evaluate_node-requires-clause-ready g c =
       kept = subst P (sym c.in-Ok.ensures) (kept_waiting (promises bs world) c.count-limit.result (promise_count bs world ∙ sym c.count-limit.ensures));
     }
 
-pub returns-in-Ok-clause-most : goal.returns-in-Ok-clause-most
-returns-in-Ok-clause-most g c =
+pub returns-clause-most : goal.returns-clause-most
+returns-clause-most g c =
     let bs = g.B.Bindings.listed c.args.bindings.now in
     let q = ap (pending c.count-limit.result bs) c.in-Ok.ensures in
     let r = pending_all bs c.count-limit.result (sym c.count-limit.ensures) in
     omega (arith, c.evaluate_node.ensures.all.most)
 
-pub returns-in-Err-clause-most : goal.returns-in-Err-clause-most
-returns-in-Err-clause-most g c =
+pub returns-in_default-clause-most : goal.returns-in_default-clause-most
+returns-in_default-clause-most g c =
     let s = size_pos (g.N.NodeHandle.node c.args.tree) in
     omega (arith, c.tick.ensures)

@@ -8,10 +8,10 @@ use Rattle.expr_resolving.proofs.boxing.boxed.Goals as goal
 pub new-requires : goal.new-requires
 new-requires c =
     evaluable c.resolved_expressions_mean_the_same.ensures (term_of c.args.expression) c.args.want (boxed_node c.in_ok-root.root)
-    (boxed_nodes c.in_ok-root.bindings.items) c.in-Some.nodes c.in_ok-root.ensures c.in-Some.ensures
+    (boxed_nodes c.in_ok-root.bindings.items) c.in-Some.nodes c.in_ok-root.ensures c.in-Some.ensures.some
 
 pub returns : goal.returns
 returns c =
     ap sized_node c.new.ensures
     ∙ means_term c.resolved_expressions_mean_the_same.ensures (term_of c.args.expression) c.args.want (boxed_node c.in_ok-root.root)
-    (boxed_nodes c.in_ok-root.bindings.items) c.in-Some.nodes c.in_ok-root.ensures c.in-Some.ensures
+    (boxed_nodes c.in_ok-root.bindings.items) c.in-Some.nodes c.in_ok-root.ensures c.in-Some.ensures.some

@@ -6,7 +6,7 @@ use Rattle.operator_rules.proofs.ArgumentLaws.{after, values_from, decision_from
 use Rattle.expr_nodes.specs.Node.{children, size, total_size}
 use Rattle.expr_nodes.specs.Slots.{reach}
 use Rattle.expr_nodes.specs.EvaluatesNode.{IsReady, HasProgressed, known_arguments}
-use Rattle.expr_nodes.proofs.slots.NodeEvaluation.+nodes.Given as goal
+use Rattle.expr_nodes.proofs.workspace.Workspace.+nodes.Given as goal
 
 -- An argument has fewer nodes than its node, and a binding asks for earlier ones.
 

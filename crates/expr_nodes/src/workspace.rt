@@ -1,4 +1,4 @@
-//! The memory of an evaluation: what bindings gave so far, and the values of arguments that wait for their node.
+//! The memory of evaluations: what bindings gave so far, and the values of arguments that wait for their node.
 
 ghost use Rattle.std.specs.Prelude.{◌≡◌, ◌<◌, ◌≤◌, [], drop, length, take, slice_set, replicate, IfOk};
 ghost use Rattle.std.specs.Option.{option_map};
@@ -10,7 +10,7 @@ ghost use Rattle.operator_values.specs.Evaluated.{GivesValue, then_value};
 ghost use Rattle.eval_face.specs.Rules.{rule_of};
 ghost use Rattle.operator_rules.specs.RuleParts.{applied_by};
 ghost use Rattle.expr_nodes.specs.Slots.{done_in};
-ghost use Rattle.expr_nodes.specs.declared.slots.PromiseSlot.TheVariants.{Waiting, Done};
+ghost use Rattle.expr_nodes.specs.declared.workspace.PromiseSlot.TheVariants.{Waiting, Done};
 
 use expr_syntax::Operator;
 use operator_rules::{WorldView, node_value};
@@ -25,9 +25,10 @@ pub(crate) enum PromiseSlot {
     Done(Value),
 }
 
-/// An evaluation under way.
+/// The memory in which expressions are evaluated, one after another. It keeps its room, and what an evaluation leaves
+/// in it means nothing to the next one.
 #[derive(Drop)]
-pub(crate) struct NodeEvaluation {
+pub struct Workspace {
     pub(crate) alloc: Global,
     /// A slot for each binding.
     pub(crate) slots: Vec<PromiseSlot>,
@@ -35,21 +36,27 @@ pub(crate) struct NodeEvaluation {
     pub(crate) values: Vec<Value>,
 }
 
-impl NodeEvaluation {
-    /// An evaluation of an expression with so many bindings, none of which was asked for.
-    pub(crate) fn new(alloc: Global, count: usize) -> Result<NodeEvaluation, AllocError>
-        ensures { IfOk result (λ made. made.slots.items ≡ replicate count Waiting) }
-    {
-        let mut slots = Vec::new(alloc);
-        slots.reserve(count)?;
-        for _slot in 0..count {
-            slots.push(PromiseSlot::Waiting)?;
-        }
-        Ok(NodeEvaluation {
+impl Workspace {
+    /// An empty one, which takes no memory.
+    pub fn new(alloc: Global) -> Workspace {
+        Workspace {
             alloc,
-            slots,
+            slots: Vec::new(alloc),
             values: Vec::new(alloc),
-        })
+        }
+    }
+
+    /// Begins the evaluation of an expression with so many bindings, none of which was asked for.
+    pub(crate) fn begin(&mut self, count: usize) -> Result<(), AllocError>
+        ensures { IfOk result (λ _. self.new.slots.items ≡ replicate count Waiting) }
+    {
+        self.values.clear();
+        self.slots.clear();
+        self.slots.reserve(count)?;
+        for _slot in 0..count {
+            self.slots.push(PromiseSlot::Waiting)?;
+        }
+        Ok(())
     }
 
     /// What a binding gave, where it was asked for.

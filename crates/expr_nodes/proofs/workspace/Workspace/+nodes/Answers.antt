@@ -33,7 +33,7 @@ use Rattle.expr_nodes.proofs.Composing.{begun, ticked, cheaper, given, halts, en
 use Rattle.expr_nodes.proofs.BindingParts.{slot_within, binding_ready, asked_before, asked_halts, asked_fails, asked_evaluates}
 use Rattle.expr_nodes.proofs.ArgumentParts.{one_evaluates, one_halts, two_evaluate, first_halts, second_halts, values_begin, values_halt, values_fail, one_further, many_halts, many_evaluates, deciding_halts, deciding_evaluates, decides_later, none_decides}
 use Rattle.expr_nodes.proofs.BranchParts.{count_here, no_match, no_step, no_ramp, case_any, match_any, step_any, case_halts, case_faults, case_chooses, case_later, case_further, case_ends, case_fails, input_halts, input_fails, output_follows, input_gives, match_halted, match_with, step_halted, step_with, ramp_halted, ramp_with, ramp_halts, ramp_evaluates, stop_alone, lower_halts, upper_halts, both_evaluate}
-use Rattle.expr_nodes.proofs.slots.NodeEvaluation.+nodes.Goals as goal
+use Rattle.expr_nodes.proofs.workspace.Workspace.+nodes.Goals as goal
 
 -- A node.
 
