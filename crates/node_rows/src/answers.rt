@@ -1,16 +1,17 @@
-//! What an expression gives by its tree and by its nodes.
+//! What an expression gives by its tree, by nodes of its own and by nodes of a pool.
 
-ghost use Rattle.std.specs.Prelude.{◌≡◌, ◌<◌, length};
+ghost use Rattle.std.specs.Prelude.{◌≡◌, ◌+◌, ◌<◌, length, IfOk, OnOk};
 
 use anyhow::{Result, bail};
 use decimal_json::parse;
 use eval_face::Context;
-use expr_nodes::{Boxed, CountedEvaluator};
+use expr_nodes::{Boxed, CountedEvaluator, Workspace};
 use expr_plain::eval_plain;
 use expr_resolving::boxed;
 use expr_syntax::{Expr, Reading, read_expr};
 use fixed_num::Fixed;
 use host_ops::{HostOp, ImageSet, ScriptTest};
+use node_pool::Pool;
 use operator_rules::{TestedContext, WorldView};
 use operator_values::Halt;
 use outside_io::Steps;
@@ -21,6 +22,9 @@ use std::sync::ledger::{Blank, Ledger};
 
 /// Each expression is wanted in so many ways.
 const WANTS: u8 = 6;
+
+/// The expression beside which others are in a pool.
+const OTHER: &str = "[\"let\",\"a\",[\"+\",1,1],[\"*\",[\"var\",\"a\"],[\"var\",\"a\"]]]";
 
 fn want_of(place: u8) -> Want {
     match place {
@@ -33,13 +37,13 @@ fn want_of(place: u8) -> Want {
     }
 }
 
-/// How many nodes the expression of a line has, where its tree and its nodes give one answer under each want.
+/// How many nodes the expression of a line has, where its tree, its nodes and those in a pool give one answer under
+/// each want.
 pub fn agreed_nodes(alloc: Global, line: &str) -> Result<Option<u64>> {
+    let mut workspace = Workspace::new(alloc);
     let mut nodes = None;
     for place in 0..WANTS {
-        let by_tree = read_line(alloc, line)?;
-        let by_nodes = read_line(alloc, line)?;
-        nodes = node_count(alloc, &by_tree, by_nodes, want_of(place))?;
+        nodes = node_count(alloc, line, want_of(place), &mut workspace)?;
         if nodes.is_none() {
             break;
         }
@@ -57,8 +61,13 @@ fn read_line(alloc: Global, line: &str) -> Result<Expr> {
     }
 }
 
-// How many nodes there are, where both answers are one.
-fn node_count(alloc: Global, tree: &Expr, expression: Expr, want: Want) -> Result<Option<u64>> {
+// How many nodes there are, where all answers are one. The workspace is that of earlier lines.
+fn node_count(
+    alloc: Global,
+    line: &str,
+    want: Want,
+    workspace: &mut Workspace,
+) -> Result<Option<u64>> {
     let context = Context {
         zoom: half(),
         feature: None,
@@ -68,18 +77,23 @@ fn node_count(alloc: Global, tree: &Expr, expression: Expr, want: Want) -> Resul
     let scripts = ScriptTest::new();
     let images: &dyn HostOp = &images;
     let scripts: &dyn HostOp = &scripts;
-    let given = eval_plain(alloc, tree, &want, &context, images, scripts)?;
+    let tree = read_line(alloc, line)?;
+    let given = eval_plain(alloc, &tree, &want, &context, images, scripts)?;
     let world = TestedContext {
         context: &context,
         images: &images,
         scripts: &scripts,
     };
-    let mut evaluator = Boxed::new(alloc);
-    evaluator.put(boxed(alloc, expression, want)?)?;
-    let counted = evaluated::<Brand, _>(alloc, &evaluator, &world, Blank::new(1))?;
-    match are_same(&given, &counted) {
-        true => Ok(Some(evaluator.nodes(0))),
-        false => Ok(None),
+    let mut boxes = Boxed::new(alloc);
+    boxes.put(boxed(alloc, tree, want)?)?;
+    let by_boxes = answer::<Brand, _, _>(&boxes, 0, workspace, &world, Blank::new(1))?;
+    let pool = filled_pool(alloc, line, want)?;
+    let by_pool = answer::<Brand, _, _>(&pool, 1, workspace, &world, Blank::new(1))?;
+    let nodes = boxes.nodes(0);
+    if are_same(&given, &by_boxes) && are_same(&given, &by_pool) && pool.nodes(1) == nodes {
+        Ok(Some(nodes))
+    } else {
+        Ok(None)
     }
 }
 
@@ -90,20 +104,51 @@ fn half() -> Fixed {
     }
 }
 
-// The answer of the first expression of an evaluator.
-fn evaluated<L: Ledger, W: WorldView>(
-    alloc: Global,
-    evaluator: &Boxed,
+// A pool that has the expression of a line at 1, whose nodes were moved since others were replaced.
+fn filled_pool(alloc: Global, line: &str, want: Want) -> Result<Pool>
+    ensures { IfOk result (λ pool. 1 < length (⟦<Pool as CountedEvaluator>⟧.slots pool)) }
+{
+    let mut pool = Pool::new(alloc);
+    add(alloc, &mut pool, line, Want::Text)?;
+    add(alloc, &mut pool, OTHER, want)?;
+    replace(alloc, &mut pool, 1, line, want)?;
+    replace(alloc, &mut pool, 0, OTHER, Want::Any)?;
+    replace(alloc, &mut pool, 0, OTHER, Want::Text)?;
+    Ok(pool)
+}
+
+fn add(alloc: Global, pool: &mut Pool, line: &str, want: Want) -> Result<()>
+    ensures { OnOk result (length (⟦<Pool as CountedEvaluator>⟧.slots pool.new)
+        ≡ length (⟦<Pool as CountedEvaluator>⟧.slots pool.old) + 1) }
+{
+    pool.put(boxed(alloc, read_line(alloc, line)?, want)?)?;
+    Ok(())
+}
+
+fn replace(alloc: Global, pool: &mut Pool, slot: u32, line: &str, want: Want) -> Result<()>
+    requires { slot < length (⟦<Pool as CountedEvaluator>⟧.slots pool.old) }
+    ensures { OnOk result (length (⟦<Pool as CountedEvaluator>⟧.slots pool.new)
+        ≡ length (⟦<Pool as CountedEvaluator>⟧.slots pool.old)) }
+{
+    pool.put_at(slot, boxed(alloc, read_line(alloc, line)?, want)?)?;
+    Ok(())
+}
+
+// The answer of the expression of a number. A ledger rises by 1 at least, and by the expression's nodes at most.
+fn answer<L: Ledger, E: CountedEvaluator, W: WorldView>(
+    evaluator: &E,
+    slot: u32,
+    workspace: &mut Workspace,
     world: &W,
     blank: Blank,
 ) -> Result<Result<Value, EvalFault>, AllocError>
-    requires slot { 0 < length (⟦<Boxed as CountedEvaluator>⟧.slots evaluator.now) }
+    requires slot { slot < length (E.slots evaluator.now) }
     requires name { blank.name ≡ L.name }
     requires parts { blank.parts ≡ L.parts }
     requires some { 0 < blank.parts }
 {
     let mut steps: Steps<L> = Steps::new(blank);
-    match evaluator.evaluated(alloc, 0, world, &mut steps) {
+    match evaluator.evaluated(workspace, slot, world, &mut steps) {
         Ok(value) => Ok(Ok(value)),
         Err(Halt::Fault(fault)) => Ok(Err(fault)),
         Err(Halt::NoMemory) => Err(AllocError),

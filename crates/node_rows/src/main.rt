@@ -1,8 +1,9 @@
-//! Expressions, each evaluated by its tree and by its nodes.
+//! Expressions, each evaluated by its tree, by nodes of its own and by those of a pool.
 //!
-//! Standard input holds one expression a line, as JSON. For each `ok NODES` is printed, where NODES says how many nodes
-//! it has, or `FAILED EXPRESSION` where its tree and its nodes give two answers under some want; the exit status is 0
-//! where none failed. A line that is no expression ends the run with an error.
+//! Standard input holds one expression a line, as JSON. For each `ok NODES` is printed, where NODES says how many
+//! nodes it has, or `FAILED EXPRESSION` where these give two answers under some want; the exit status is 0 where none
+//! failed. NODES is also the most by which a ledger rises when the expression is evaluated once, as contracts say. A
+//! line that is no expression ends the run with an error.
 #![tactic(auto)]
 
 mod answers;

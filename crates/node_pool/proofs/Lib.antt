@@ -1,0 +1,3 @@
+mod PoolLaws
+mod FlatLaws
+mod BlockLaws
