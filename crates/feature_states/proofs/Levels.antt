@@ -7,7 +7,7 @@ use Rattle.std.specs.Str.{bytes_eq}
 use Rattle.std.proofs.lemmas.Slice.Eq.{bytes_eq-Decides}
 use Rattle.std.specs.declared.string.String.{String}
 use Rattle.std.specs.declared.alloc.Global.{Global}
-use Rattle.prop_values.specs.declared.value.Entries.{Entries}
+use Rattle.feature_states.specs.declared.feature_members.FeatureMembers.{FeatureMembers}
 use Rattle.feature_states.specs.Members.{members_of_id, members_in_layer}
 
 -- what is seen inside the value at a name, or d where there is none
@@ -32,8 +32,8 @@ pub unchanged : {X L : Type 0} (inner : X → L) (d : L) (old new : List ℕ →
 unchanged inner d old new name x h n q = unchanged_by inner d old new name q x (bytes_eq name q) refl h (n q)
 
 -- An empty map has no members.
-pub none_of_id : {S : Type 0} (ids : IndexMap ℕ Entries S) (i : ℕ) → ids.entries ≡ [] → members_of_id ids i ≡ []
+pub none_of_id : {S : Type 0} (ids : IndexMap ℕ FeatureMembers S) (i : ℕ) → ids.entries ≡ [] → members_of_id ids i ≡ []
 none_of_id ids i e = ap (λ es. unwrap_or (lookup (nat_eq i) es) []) e
 
-pub none_in_layer : {S T : Type 0} (layers : IndexMap (String Global) (IndexMap ℕ Entries S) T) (l : List ℕ) (i : ℕ) → layers.entries ≡ [] → members_in_layer layers l i ≡ []
+pub none_in_layer : {S T : Type 0} (layers : IndexMap (String Global) (IndexMap ℕ FeatureMembers S) T) (l : List ℕ) (i : ℕ) → layers.entries ≡ [] → members_in_layer layers l i ≡ []
 none_in_layer layers l i e = ap (λ es. seen (λ ids. members_of_id ids i) [] (lookup (λ k. bytes_eq l (string_bytes k)) es)) e

@@ -10,14 +10,16 @@
 //!
 //! What is promised: contracts see the members of every feature (`members_at`). Each call says which members
 //! the feature that it names has afterwards, and that every other feature has the members that it had. `get`
-//! is `None` exactly where a feature has no members. When allocation fails all features have the members that
-//! they had, and `remove` can't fail. The last member takes the place of one that is removed, in time
-//! logarithmic in the members; no listing shows their order. A source without layers keeps its features under
-//! the layer of the empty name.
+//! is `None` exactly where a feature has no members, and no feature without members takes memory: what is kept
+//! for an id is never empty, which its type says. When allocation fails all features have the members that they
+//! had, and `remove` can't fail. The last member takes the place of one that is removed, in time logarithmic in
+//! the members; no listing shows their order. A source without layers keeps its features under the layer of the
+//! empty name.
 //!
 //! The text to believe is in `specs/`: `Features`, `Members`.
 #![tactic(auto)]
 
+mod feature_members;
 mod kept;
 mod states;
 

@@ -60,9 +60,6 @@ impl States {
         ensures none { IsNone result ↔ (members_at self.now source.now layer.now id ≡ []) }
     {
         let kept = self.sources.get(source)?.get(layer)?.get(&id)?;
-        if kept.as_slice().is_empty() {
-            return None;
-        }
-        Some(kept)
+        Some(kept.entries())
     }
 }

@@ -1,5 +1,5 @@
 ghost use Rattle.std.specs.Prelude.{◌≡◌, ℕ, ◌↔◌, List, Bool, false, IsErrOf, OnOk, OnErr};
-ghost use Rattle.host_ops.specs.Change.{ChangesAt, IsSameTest};
+ghost use Rattle.host_ops.specs.Change.{ChangesAt, IsSameTest, count_after};
 
 use std::alloc::Global;
 
@@ -20,6 +20,9 @@ pub trait HostOp: Drop {
     /// Whether the test can change.
     ghost changes: { Self → Bool };
 
+    /// How often `tell` was called, while the test can change: whatever it answered, and at most 2^64 - 1.
+    ghost tell_count: { Self → ℕ };
+
     /// Whether the text passes the test.
     fn answer(&self, text: &str) -> bool
         ensures { result ≡ test self.now text.now };
@@ -33,6 +36,7 @@ pub trait HostOp: Drop {
     fn tell(&mut self, alloc: Global, text: &str, present: bool) -> Result<(), TellFault>
         ensures fixed { IsErrOf result TellFault.Fixed ↔ (changes self.old ≡ false) }
         ensures kind { changes self.new ≡ changes self.old }
+        ensures count { tell_count self.new ≡ count_after (changes self.old) (tell_count self.old) }
         ensures ok { OnOk result (ChangesAt (test self.old) (test self.new) text.now present) }
         ensures err { OnErr result (IsSameTest (test self.old) (test self.new)) };
 }

@@ -9,6 +9,8 @@ use std::alloc::Global;
 #[derive(Drop)]
 pub struct ImageSet {
     names: IndexSet<String>,
+    /// How often `tell` was called. It stops at the greatest number.
+    calls: u64,
 }
 
 impl ImageSet {
@@ -16,9 +18,11 @@ impl ImageSet {
     pub fn new(alloc: Global) -> ImageSet
         ensures test { (text : List ℕ) → ⟦<ImageSet as HostOp>⟧.test result text ≡ false }
         ensures changes { ⟦<ImageSet as HostOp>⟧.changes result ≡ true }
+        ensures count { ⟦<ImageSet as HostOp>⟧.tell_count result ≡ 0 }
     {
         ImageSet {
             names: IndexSet::new(alloc),
+            calls: 0,
         }
     }
 }
@@ -27,6 +31,8 @@ impl HostOp for ImageSet {
     ghost test = { λ images. has_name images };
 
     ghost changes = { λ _. true };
+
+    ghost tell_count = { λ images. images.calls };
 
     fn answer(&self, text: &str) -> bool {
         self.names.contains(text)
@@ -39,6 +45,7 @@ impl HostOp for ImageSet {
     // What is known already takes no memory. No call shows the order of the names, so a name that goes is
     // replaced by the last, in constant time.
     fn tell(&mut self, alloc: Global, text: &str, present: bool) -> Result<(), TellFault> {
+        self.calls = self.calls.saturating_add(1);
         if self.names.contains(text) == present {
             return Ok(());
         }

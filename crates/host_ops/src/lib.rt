@@ -12,7 +12,8 @@
 //! What is promised:
 //! - The meaning of a [`HostOp`] is a test on texts, and `answer` gives it.
 //! - `tell` changes the test at the text that it names, or refuses and changes nothing. It answers `Fixed`
-//!   exactly where the test cannot change, and no call changes whether it can.
+//!   exactly where the test cannot change, and no call changes whether it can. Of a test that can change the
+//!   calls of `tell` are counted, whatever they answer.
 //! - [`ImageSet`] lets no name pass when it is made, and then those that the last `tell` of each made
 //! present.
 //! - [`ScriptTest`] answers false exactly where a text has a scalar value from U+0590 to U+08FF.

@@ -12,6 +12,7 @@ impl ScriptTest {
     pub fn new() -> ScriptTest
         ensures test { ⟦<ScriptTest as HostOp>⟧.test result ≡ is_plain }
         ensures fixed { ⟦<ScriptTest as HostOp>⟧.changes result ≡ false }
+        ensures count { ⟦<ScriptTest as HostOp>⟧.tell_count result ≡ 0 }
     {
         ScriptTest
     }
@@ -21,6 +22,8 @@ impl HostOp for ScriptTest {
     ghost test = { λ _. is_plain };
 
     ghost changes = { λ _. false };
+
+    ghost tell_count = { λ _. 0 };
 
     fn answer(&self, text: &str) -> bool {
         !text.chars().any(|c| c >= '\u{590}' && c <= '\u{8FF}')
