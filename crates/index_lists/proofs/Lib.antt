@@ -4,3 +4,4 @@ pub mod Chains
 pub mod Turns
 pub mod Kept
 pub mod SeenNodes
+pub mod Holding

@@ -1,0 +1,11 @@
+pub mod Places
+pub mod SlotLaws
+pub mod Listings
+pub mod Keeping
+pub mod TableLaws
+pub mod ItemLaws
+pub mod GrowthLaws
+pub mod CellLaws
+pub mod SourceLaws
+pub mod AddLaws
+pub mod ClearLaws
