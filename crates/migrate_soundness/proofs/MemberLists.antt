@@ -1,22 +1,12 @@
 -- The members of an object as a list, and back.
-use Rattle.std.proofs.Common.{◌≡◌, ℕ, List, [], ◌∷◌, refl, ap, sym, subst}
-use Rattle.decimal_json.specs.Tree.{members_of, Tree, object, Fields, no_fields, field, fields_of}
+use Rattle.std.proofs.Common.{◌≡◌, ℕ, List, refl, ap}
+use Rattle.decimal_json.specs.Tree.{members_of, Tree, Fields, no_fields, field, fields_of}
 use Rattle.decimal_json.specs.Sound.{LacksKey, HasDistinctKeys}
 use Rattle.style_migrate.specs.Migrated.{mapped_fields}
-use Rattle.migrate_soundness.specs.SoundnessLaw.{HasDistinctMembers}
 
 pub members_back : (fs : Fields) → fields_of (members_of fs) ≡ fs
 members_back no_fields = refl
 members_back (field k t fs) = ap (field k t) (members_back fs)
-
-fields_back : (ms : List (List ℕ × Tree)) → members_of (fields_of ms) ≡ ms
-fields_back [] = refl
-fields_back (m ∷ ms) = ap (λ rest. m ∷ rest) (fields_back ms)
-
--- the object of members whose keys differ
-pub distinct_members : (ms : List (List ℕ × Tree)) → HasDistinctKeys ms
-    → HasDistinctMembers (object (fields_of ms))
-distinct_members ms distinct = subst HasDistinctKeys (sym (fields_back ms)) distinct
 
 lacking_kept : (change : List ℕ → Tree → Tree) (key : List ℕ) (fs : Fields) → LacksKey key (members_of fs)
     → LacksKey key (members_of (mapped_fields change fs))

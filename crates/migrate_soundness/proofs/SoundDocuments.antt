@@ -22,7 +22,7 @@ use Rattle.style_rules.specs.Findings.{reports, reports_or}
 use Rattle.style_rules.specs.LayerContext.{LayerContext, sources_for, named_type, context_of}
 use Rattle.style_rules.specs.Levels.{fields_reports, fields_or_none, items_or_none, property_reports, member_reports}
 use Rattle.style_rules.specs.Levels.{context_reports, layer_reports, layers_reports, named_reports}
-use Rattle.style_rules.specs.Levels.{document_reports, WalksByLevels}
+use Rattle.style_rules.specs.Levels.{document_reports, HasDistinctMembers, WalksByLevels}
 use Rattle.style_rules.specs.Places.{unless_broken, least_broken, root_mark, root_member_mark}
 use Rattle.style_rules.specs.Places.{properties_mark, row_mark, used_in}
 use Rattle.style_rules.specs.Rules.{is_on_vector, count_of}
@@ -31,7 +31,7 @@ use Rattle.style_migrate.specs.Migrated.{migrated_property, migrated_properties,
 use Rattle.style_migrate.specs.Migrated.{migrated_layer, migrated_part, migrated}
 use Rattle.migrate_laws.proofs.MappedMembers.{mapped_at, kept_at, member_kept, type_kept}
 use Rattle.migrate_laws.proofs.MigratedParts.{kept_member, migrated_layers}
-use Rattle.migrate_soundness.specs.SoundnessLaw.{HasDistinctMembers, SoundDocumentsStaySound}
+use Rattle.migrate_soundness.specs.SoundnessLaw.{SoundDocumentsStaySound}
 use Rattle.migrate_soundness.specs.SoundnessLaw.{SoundDocumentsKeepTheirNotes}
 use Rattle.migrate_soundness.proofs.MemberLists.{members_back, distinct_kept}
 use Rattle.migrate_soundness.proofs.ReportedAlike.{ToldList, IsReportedAlike, reports_itself, reports_same, both_alike}

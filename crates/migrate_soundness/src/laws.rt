@@ -1,9 +1,6 @@
 //! What the definitions mean, each law on a function that does nothing.
-ghost use Rattle.decimal_json.specs.View.{tree_of};
-ghost use Rattle.migrate_soundness.specs.SoundnessLaw.{HasDistinctMembers};
 ghost use Rattle.migrate_soundness.specs.SoundnessLaw.{SoundDocumentsStaySound, SoundDocumentsKeepTheirNotes};
 
-use decimal_json::Json;
 use legacy_filters::expressions_are_not_legacy;
 use legacy_laws::{
     expressions_mean_their_filters, expressions_mean_their_functions, migrated_filters_are_typed,
@@ -38,14 +35,4 @@ pub fn sound_documents_keep_their_notes()
     migrated_filters_are_typed();
     expressions_are_not_legacy();
     findings_go_by_levels();
-}
-
-/// No two members of a JSON value have the same name, at its root.
-#[tactic(auto, using(crate::proofs::MemberLists::distinct_members))]
-pub fn documents_have_distinct_members(document: &Json)
-    ensures { HasDistinctMembers (tree_of document.now) }
-{
-    if let Json::Object(members) = document {
-        members.as_slice();
-    }
 }

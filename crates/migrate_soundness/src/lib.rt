@@ -9,7 +9,7 @@
 //! What is promised, for each JSON tree whose root has no name twice: where no place breaks a rule, none does
 //! after the document was migrated (`sound_documents_stay_sound`), and the same values and filters are
 //! outside (`sound_documents_keep_their_notes`). The root of a JSON value never has a name twice
-//! (`documents_have_distinct_members`).
+//! (`style_rules::documents_have_distinct_members`).
 //!
 //! Each law is a definition, and a function ensures it: a caller that calls the function has the law.
 //!
@@ -18,6 +18,4 @@
 
 mod laws;
 
-pub use laws::{
-    documents_have_distinct_members, sound_documents_keep_their_notes, sound_documents_stay_sound,
-};
+pub use laws::{sound_documents_keep_their_notes, sound_documents_stay_sound};

@@ -5,11 +5,12 @@ use Rattle.prop_values.specs.Data.{Data}
 use Rattle.edit_session.specs.Applied.{listing_of}
 use Rattle.edit_session.specs.Opening.{open_fault}
 use Rattle.edit_session.specs.SessionState.{SessionState}
-use Rattle.migrate_soundness.specs.SoundnessLaw.{HasDistinctMembers, HasNoFinding}
+use Rattle.migrate_soundness.specs.SoundnessLaw.{HasNoFinding}
 use Rattle.style_layout.specs.Layers.{style_layers}
 use Rattle.style_layout.specs.Shown.{SourceTile}
 use Rattle.style_layout.specs.StyleLayout.{cell_count}
 use Rattle.style_migrate.specs.Migrated.{migrated}
+use Rattle.style_rules.specs.Levels.{HasDistinctMembers}
 
 -- Each migrated document, well formed or not, has as many cells as the document, over all tiles and with any
 -- values of the global state.

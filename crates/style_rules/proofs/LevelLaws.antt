@@ -6,7 +6,7 @@ use Rattle.std.proofs.lemmas.Bool.{cases_Bool}
 use Rattle.std.proofs.Math.Nat.{zero-add, add-zero}
 use Rattle.std.proofs.lemmas.List.{append_assoc}
 use Rattle.std.proofs.lemmas.Slice.Eq.{bytes_eq-Decides}
-use Rattle.decimal_json.specs.Tree.{Tree, null, boolean, number, text, list, object, Trees, no_trees, tree, Fields, no_fields, field, fields_of, field_at}
+use Rattle.decimal_json.specs.Tree.{members_of, Tree, null, boolean, number, text, list, object, Trees, no_trees, tree, Fields, no_fields, field, fields_of, field_at}
 use Rattle.decimal_json.specs.Sound.{LacksKey, HasDistinctKeys}
 use Rattle.decimal_json.specs.View.{fields, members_view}
 use Rattle.decimal_json.specs.declared.paths.PathPart.{PathPart}
@@ -19,7 +19,7 @@ use Rattle.style_parts.specs.Parts.{sources_of, layers_of, is_layers, layer_at}
 use Rattle.value_forms.specs.LayerTypes.{tested_type, place_named}
 use Rattle.style_rules.specs.Findings.{Marks, reports, reports_or, walk, walk_items, walk_fields}
 use Rattle.style_rules.specs.LayerContext.{LayerContext}
-use Rattle.style_rules.specs.Levels.{AreMembers, fields_reports, property_reports, member_below, member_reports, context_reports, layer_reports, layers_reports, named_reports, root_member_below, root_member_reports, document_reports, WalksByLevels}
+use Rattle.style_rules.specs.Levels.{AreMembers, fields_reports, property_reports, member_below, member_reports, context_reports, layer_reports, layers_reports, named_reports, root_member_below, root_member_reports, document_reports, HasDistinctMembers, WalksByLevels}
 use Rattle.style_rules.specs.Rules.{has_root_members}
 use Rattle.style_rules.specs.Places.{mark_at, root_mark, root_member_mark, layer_mark, member_mark, property_mark, used_in, context_at, layer_context}
 use Rattle.style_rules.proofs.PartLaws.{differs}
@@ -237,6 +237,14 @@ pub each_is_found : (ms : List (List ℕ × Tree)) → HasDistinctKeys ms → Ar
 each_is_found [] distinct = tt
 each_is_found (m ∷ ms) distinct =
     (ap (λ b. if b then Some m.1 else field_at m.0 (fields_of ms)) ((bytes_eq-Decides m.0 m.0).1 refl), found_behind m ms ms distinct.0 (each_is_found ms distinct.1))
+
+fields_back : (ms : List (List ℕ × Tree)) → members_of (fields_of ms) ≡ ms
+fields_back [] = refl
+fields_back (m ∷ ms) = ap (λ rest. m ∷ rest) (fields_back ms)
+
+-- the object of members whose keys differ
+pub distinct_members : (ms : List (List ℕ × Tree)) → HasDistinctKeys ms → HasDistinctMembers (object (fields_of ms))
+distinct_members ms distinct = subst HasDistinctKeys (sym (fields_back ms)) distinct
 
 pub walks_by_levels : WalksByLevels
 walks_by_levels ms distinct =

@@ -7,3 +7,4 @@ pub mod PropertyLaws
 pub mod ValueLaws
 pub mod ReportLaws
 pub mod KeyLaws
+pub mod QuietLaws

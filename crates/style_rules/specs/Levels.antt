@@ -1,7 +1,7 @@
 -- What is reported of a document, level by level, as the code walks it. It is what `reports` of Findings gives.
 use Rattle.std.specs.Prelude.{◌≡◌, ℕ, ◌+◌, List, [], ◌∷◌, ◌++◌, codes, Bool, ◌||◌, Option, Some, None, if◌then◌else◌}
 use Rattle.std.specs.Str.{bytes_eq}
-use Rattle.decimal_json.specs.Tree.{Tree, list, object, Trees, no_trees, tree, Fields, no_fields, field, fields_of}
+use Rattle.decimal_json.specs.Tree.{members_of, Tree, list, object, Trees, no_trees, tree, Fields, no_fields, field, fields_of}
 use Rattle.decimal_json.specs.Sound.{HasDistinctKeys}
 use Rattle.decimal_json.specs.declared.paths.PathPart.{PathPart}
 use Rattle.decimal_json.specs.declared.paths.PathPart.TheVariants.{Key, Index}
@@ -70,6 +70,12 @@ document_reports document = reports_or (root_mark document) [] (fields_reports (
 abbrev pub AreMembers : Tree → List (List ℕ × Tree) → Type 0
 AreMembers t [] = Unit {0}
 AreMembers t (m ∷ ms) = (member m.0 t ≡ Some m.1) × AreMembers t ms
+
+-- No two members of a document have the same name, at its root. It is so in each JSON value, read or built
+-- (`documents_have_distinct_members`).
+abbrev pub HasDistinctMembers : Tree → Type 0
+HasDistinctMembers (object fs) = HasDistinctKeys (members_of fs)
+HasDistinctMembers _ = Unit {0}
 
 -- The walk goes by these levels, where the keys of the root differ.
 abbrev pub WalksByLevels : Type 0

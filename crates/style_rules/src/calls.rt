@@ -21,7 +21,8 @@ pub fn examined(alloc: Global, document: &Json) -> Result<Report, AllocError>
     report_of(alloc, reports)
 }
 
-fn report_of(alloc: Global, reports: Diagnostics) -> Result<Report, AllocError>
+/// The three lists of what is reported.
+pub(crate) fn report_of(alloc: Global, reports: Diagnostics) -> Result<Report, AllocError>
     ensures { IfOk result (λ report. IsReportOf reports report) }
 {
     let mut report = Report {

@@ -9,7 +9,9 @@
 //! the order of the text, and none below another. `examined` gives them too, and in the same walk the notes,
 //! which are the values and filters that are outside of what is evaluated, and the values and filters whose
 //! evaluation may fault, with the faults. Each list is exactly the definition of its name in
-//! `specs/Findings.antt`, and each expression is read and typed once for all three.
+//! `specs/Findings.antt`, and each expression is read and typed once for all three. `property_findings`,
+//! `filter_findings` and `layer_findings` give the findings of one part, for whoever knows that the others have
+//! none.
 //!
 //! The text to believe is in `specs/`: `LayerContext`, `Rules`, `Values`, `Places`, `Findings`, `Reports`.
 #![tactic(auto)]
@@ -24,9 +26,11 @@ mod layer;
 mod layer_context;
 mod lists;
 mod names;
+mod part_findings;
 mod properties;
 mod values;
 
 pub use calls::{examined, findings};
-pub use laws::findings_go_by_levels;
+pub use laws::{documents_have_distinct_members, findings_go_by_levels};
 pub use lists::{Finding, Findings, MayLine, MayLines, Paths, Report};
+pub use part_findings::{filter_findings, layer_findings, property_findings};

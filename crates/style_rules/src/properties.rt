@@ -1,15 +1,15 @@
 //! The rules on the members of `layout` and `paint`.
 
-ghost use Rattle.std.specs.Prelude.{◌≡◌, [], ◌++◌, Some, OnOk};
+ghost use Rattle.std.specs.Prelude.{◌≡◌, ◌++◌, Some, IfOk, OnOk};
 ghost use Rattle.decimal_json.specs.View.{path_of, tree_of, fields};
 ghost use Rattle.style_rules.specs.Findings.{reports_or};
 ghost use Rattle.style_rules.specs.Levels.{fields_reports, fields_or_none, property_reports};
-ghost use Rattle.style_rules.specs.Places.{properties_mark, unnamed_mark};
+ghost use Rattle.style_rules.specs.Places.{properties_mark, property_mark, unnamed_mark};
 
-use crate::diagnostics::Diagnostics;
+use crate::diagnostics::{Diagnostics, Mark};
 use crate::document::is_transition;
 use crate::names::is_transition_name;
-use crate::values::value_mark;
+use crate::values::{broken, value_mark};
 use decimal_json::{Here, Json, Member};
 use property_tables::{LayerType, Place, row, unread};
 use std::alloc::{AllocError, Global};
@@ -81,33 +81,44 @@ fn report_property<'x>(
 {
     let name = property.key.as_str();
     let here = Here::Key(name, properties);
+    let mark = property_mark(alloc, layer_type, place, name, &property.value)?;
+    reports.report(alloc, &here, mark)
+}
+
+/// What is reported of the value of a name.
+pub(crate) fn property_mark(
+    alloc: Global,
+    layer_type: LayerType,
+    place: Place,
+    name: &str,
+    value: &Json,
+) -> Result<Mark, AllocError>
+    ensures { IfOk result (λ mark. mark ≡ property_mark (Some layer_type) (Some place) name.now (tree_of value.now)) }
+{
     match row(layer_type, place, name) {
-        Some(row) => {
-            let mark = value_mark(alloc, &row, &property.value)?;
-            reports.report(alloc, &here, mark)
-        }
-        None => report_unnamed(alloc, reports, layer_type, place, property, &here),
+        Some(row) => value_mark(alloc, &row, value),
+        None => Ok(unnamed_mark(alloc, layer_type, place, name, value)),
     }
 }
 
 /// A name that no row has is an unread one, or that of a transition.
-fn report_unnamed(
+fn unnamed_mark(
     alloc: Global,
-    reports: &mut Diagnostics,
     layer_type: LayerType,
     place: Place,
-    property: &Member,
-    here: &Here<'_>,
-) -> Result<(), AllocError>
-    ensures { OnOk result (reports.new ≡ reports.old
-        ++ reports_or (unnamed_mark layer_type place property.now.key (tree_of property.now.value)) (path_of here.now) []) }
+    name: &str,
+    value: &Json,
+) -> Mark
+    ensures { result ≡ unnamed_mark layer_type place name.now (tree_of value.now) }
 {
-    let name = property.key.as_str();
     if unread(layer_type, place, name) {
-        return Ok(());
+        return Mark::Nothing;
     }
-    if is_transition_name(layer_type, place, name) {
-        return reports.report_unless(alloc, here, 21, is_transition(&property.value));
+    if !is_transition_name(layer_type, place, name) {
+        return broken(alloc, 14);
     }
-    reports.report_broken(alloc, here, 14)
+    if is_transition(value) {
+        return Mark::Nothing;
+    }
+    broken(alloc, 21)
 }

@@ -30,7 +30,8 @@ pub(crate) fn value_mark(alloc: Global, row: &Row, json: &Json) -> Result<Mark, 
     }
 }
 
-fn broken(alloc: Global, rule: u8) -> Mark
+/// A place breaks a rule.
+pub(crate) fn broken(alloc: Global, rule: u8) -> Mark
     ensures { result ≡ Mark.Broken [] rule }
 {
     Mark::Broken(Path::new(alloc), rule)
