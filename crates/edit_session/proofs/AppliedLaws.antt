@@ -3,6 +3,7 @@ use Rattle.std.proofs.Common.{◌≡◌, ℕ, List, [], ◌∷◌, map, refl, ap
 use Rattle.std.specs.Prelude.{slice_get, Option, Some, None, option_map, if◌then◌else◌}
 use Rattle.std.specs.Option.{option_or}
 use Rattle.decimal_json.specs.Tree.{Tree}
+use Rattle.decimal_json.specs.declared.paths.PathPart.{PathPart}
 use Rattle.edit_script.specs.Edit as edits
 use Rattle.edit_script.specs.Edit.{Edit}
 use Rattle.feature_states.specs.Features.{same_feature}
@@ -12,12 +13,14 @@ use Rattle.prop_values.proofs.ViewLaws.{entries_of-pairs_of}
 use Rattle.style_edits.specs.Edited.{edited}
 use Rattle.style_edits.specs.Faults.{edit_fault}
 use Rattle.style_edits.specs.declared.faults.EditFault.{EditFault}
+use Rattle.style_layout.specs.Layers.{style_layers}
 use Rattle.style_layout.specs.Shown.{SourceTile}
+use Rattle.style_layout.specs.StyleLayout.{cell_count}
 use Rattle.style_rules.specs.CodeView.{finding_seen}
 use Rattle.style_rules.specs.Findings.{findings}
 use Rattle.style_rules.specs.declared.lists.Finding.{Finding}
 use Rattle.edit_session.proofs.GlobalCells.{values_change_no_cell}
-use Rattle.edit_session.specs.Applied.{FeatureStates, first_finding, limit_refusal, done, refused, refusal_of, whole_refusal, edits_layers, unless_refused, applied}
+use Rattle.edit_session.specs.Applied.{FeatureStates, first_finding, limit_refusal, done, refused, refusal_of, whole_refusal, edits_layers, unless_refused, applied, tell_count_after}
 use Rattle.edit_session.specs.SessionState.{SessionState}
 use Rattle.edit_session.specs.declared.answer.Refusal.{Refusal}
 use Rattle.edit_session.specs.declared.answer.Refusal.TheVariants.{Finding as Refused}
@@ -26,6 +29,29 @@ use Rattle.edit_session.specs.declared.answer.Refusal.TheVariants.{Finding as Re
 pub first_refused : (fs : List Finding) → first_finding (map finding_seen fs) ≡ option_map Refused (slice_get fs 0)
 first_refused [] = refl
 first_refused (f ∷ fs) = refl
+
+-- a document that is accepted has no findings
+no_finding : (fs : List (List PathPart × ℕ)) (limit : Option Refusal) → option_or (first_finding fs) limit ≡ None → fs ≡ []
+no_finding [] limit h = refl
+no_finding (f ∷ fs) limit h = absurd (cc)
+
+pub accepted_is_sound : (tiles : List SourceTile) (globals : List (List ℕ × Data)) (document : Tree) → whole_refusal tiles globals document ≡ None →
+    findings document ≡ []
+accepted_is_sound tiles globals document h = no_finding (findings document) (limit_refusal (cell_count tiles (style_layers globals document))) h
+
+-- one without findings is refused by its cells alone
+pub whole_by_cells : (tiles : List SourceTile) (globals : List (List ℕ × Data)) (document : Tree) → findings document ≡ [] →
+    whole_refusal tiles globals document ≡ limit_refusal (cell_count tiles (style_layers globals document))
+whole_by_cells tiles globals document h = λ i. option_or (first_finding (h i)) (limit_refusal (cell_count tiles (style_layers globals document)))
+
+-- one with a finding by that
+pub whole_by_finding : (tiles : List SourceTile) (globals : List (List ℕ × Data)) (document : Tree) (r : Refusal) → Some r ≡ first_finding (findings document) →
+    whole_refusal tiles globals document ≡ Some r
+whole_by_finding tiles globals document r h = λ i. option_or (sym h i) (limit_refusal (cell_count tiles (style_layers globals document)))
+
+pub found_nothing : (fs : List (List PathPart × ℕ)) → None ≡ first_finding fs → fs ≡ []
+found_nothing [] h = refl
+found_nothing (f ∷ fs) h = absurd (cc)
 
 -- a whole document stays one with other values of the global state
 pub whole_with : (tiles : List SourceTile) (document : Tree) (new old : List (List ℕ × Data)) → whole_refusal tiles old document ≡ None
@@ -44,6 +70,43 @@ refused_by : (fault : Option EditFault) (whole : Option Refusal) (r : Refusal) (
     → (before, refused r) ≡ unless_refused (option_or (option_map refusal_of fault) (option_or whole None)) before after
 refused_by fault whole r before after h w =
     λ k. unless_refused (option_or (option_map refusal_of (sym h k)) (option_or (sym w k) None)) before after
+
+-- an edit with a fault reports nothing to the test of images
+pub fault_tells_nothing : (document : Tree) (e : Edit) (fault : EditFault) (can_change : Bool) (n : ℕ) → edit_fault document e ≡ Some fault
+    → n ≡ tell_count_after can_change e n
+fault_tells_nothing document (edits.set_paint layer name value) fault can_change n h = refl
+fault_tells_nothing document (edits.set_layout layer name value) fault can_change n h = refl
+fault_tells_nothing document (edits.set_filter layer filter) fault can_change n h = refl
+fault_tells_nothing document (edits.set_range layer min max) fault can_change n h = refl
+fault_tells_nothing document (edits.add_layer layer before) fault can_change n h = refl
+fault_tells_nothing document (edits.remove_layer id) fault can_change n h = refl
+fault_tells_nothing document (edits.move_layer id before) fault can_change n h = refl
+fault_tells_nothing document (edits.set_zoom zoom) fault can_change n h = refl
+fault_tells_nothing document (edits.set_state source layer id members) fault can_change n h = refl
+fault_tells_nothing document (edits.remove_state source layer id key) fault can_change n h = refl
+fault_tells_nothing document (edits.add_image name) fault can_change n h = absurd (cc)
+fault_tells_nothing document (edits.remove_image name) fault can_change n h = absurd (cc)
+fault_tells_nothing document (edits.set_global name d) fault can_change n h = refl
+fault_tells_nothing document edits.list fault can_change n h = refl
+fault_tells_nothing document edits.stats fault can_change n h = refl
+
+-- nor does an edit of layers
+pub layers_tell_nothing : (e : Edit) (can_change : Bool) (n : ℕ) → edits_layers e ≡ true → n ≡ tell_count_after can_change e n
+layers_tell_nothing (edits.set_paint layer name value) can_change n h = refl
+layers_tell_nothing (edits.set_layout layer name value) can_change n h = refl
+layers_tell_nothing (edits.set_filter layer filter) can_change n h = refl
+layers_tell_nothing (edits.set_range layer min max) can_change n h = refl
+layers_tell_nothing (edits.add_layer layer before) can_change n h = refl
+layers_tell_nothing (edits.remove_layer id) can_change n h = refl
+layers_tell_nothing (edits.move_layer id before) can_change n h = refl
+layers_tell_nothing (edits.set_zoom zoom) can_change n h = refl
+layers_tell_nothing (edits.set_state source layer id members) can_change n h = refl
+layers_tell_nothing (edits.remove_state source layer id key) can_change n h = refl
+layers_tell_nothing (edits.add_image name) can_change n h = absurd (cc)
+layers_tell_nothing (edits.remove_image name) can_change n h = absurd (cc)
+layers_tell_nothing (edits.set_global name d) can_change n h = refl
+layers_tell_nothing edits.list can_change n h = refl
+layers_tell_nothing edits.stats can_change n h = refl
 
 module _ (tiles : List SourceTile) (scripts : List ℕ → Bool) (can_change : Bool) (p : SessionState) where
   layers_applied : (e : Edit) → edits_layers e ≡ true → applied tiles scripts can_change p e ≡ unless_refused (

@@ -7,6 +7,7 @@ use Rattle.decimal_json.specs.declared.paths.PathPart.{PathPart}
 use Rattle.edit_script.specs.Edit as edits
 use Rattle.edit_script.specs.Edit.{Edit}
 use Rattle.feature_states.specs.Features.{same_feature, left_of}
+use Rattle.host_ops.specs.Change.{count_after}
 use Rattle.listing_text.specs.Listing.{listing}
 use Rattle.prop_values.specs.Changes.{with_member, without_key, merged}
 use Rattle.prop_values.specs.Data.{Data, null, pairs_of, entries_of}
@@ -41,6 +42,17 @@ changed_state source layer id change states s l i =
 -- the test, with one name reported to be there or not
 abbrev pub with_image : List ℕ → Bool → (List ℕ → Bool) → List ℕ → Bool
 with_image name present has_image other = if bytes_eq name other then present else has_image other
+
+-- the edits that are reported to the test of images
+abbrev pub tells_image : Edit → Bool
+tells_image (edits.add_image name) = true
+tells_image (edits.remove_image name) = true
+tells_image _ = false
+
+-- How many reports the test of images had, once an edit is done or refused: an image is reported once, and where the test
+-- cannot change that is not counted. Source: own.
+abbrev pub tell_count_after : Bool → Edit → ℕ → ℕ
+tell_count_after can_change edit n = if tells_image edit then count_after can_change n else n
 
 -- ---- the global state
 

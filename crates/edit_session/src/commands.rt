@@ -1,21 +1,23 @@
 //! What each command does to a session.
 
-ghost use Rattle.std.specs.Prelude.{◌≡◌, ℕ, List, Bool, None, true, option_map, IfOk, OnOk, OnErr};
+ghost use Rattle.std.specs.Prelude.{◌≡◌, ℕ, List, [], Bool, None, true, option_map, IfOk, OnOk, OnErr};
 ghost use Rattle.decimal_json.specs.View.{tree_of};
 ghost use Rattle.edit_script.specs.Edit as edits;
 ghost use Rattle.edit_script.specs.View.{command_seen};
-ghost use Rattle.edit_session.specs.Applied.{edits_layers, listed, listing_of, refusal_of};
+ghost use Rattle.edit_session.specs.Applied.{edits_layers, listed, listing_of, refusal_of, tell_count_after};
 ghost use Rattle.edit_session.specs.View.{session_state, reply_seen, tiles_of, IsAnswer, IsReady, told};
-ghost use Rattle.host_ops.specs.Change.{IsSameTest};
+ghost use Rattle.host_ops.specs.Change.{IsSameTest, count_after};
 ghost use Rattle.prop_values.specs.Data.{pairs_of};
 ghost use Rattle.prop_values.specs.View.{data_of};
+ghost use Rattle.style_edits.specs.Edited.{edited};
 ghost use Rattle.style_edits.specs.Faults.{edit_fault};
 ghost use Rattle.style_edits.specs.Places.{places_of};
+ghost use Rattle.style_rules.specs.Findings.{findings};
 
 use crate::answer::{Answer, Refusal};
 use crate::globals::{reads_globals, set_global};
 use crate::session::Session;
-use crate::whole::prepared_whole;
+use crate::whole::{finding_refusal, prepared_whole};
 use decimal_json::Text;
 use edit_script::Command;
 use host_ops::{HostOp, TellFault};
@@ -26,6 +28,7 @@ use style_layout::{Zoom, prepare};
 
 impl Session<'_> {
     /// The answer to a command, of a session that has memory.
+    #[tactic(auto, using(crate::proofs::AppliedLaws::fault_tells_nothing))]
     pub(crate) fn answer(
         &mut self,
         command: &Command,
@@ -37,6 +40,8 @@ impl Session<'_> {
             (session_state self.old (test images.old)) (session_state self.new (test images.new)) (command_seen command.now)) }
         ensures tiles { tiles_of self.new ≡ tiles_of self.old }
         ensures changes { changes images.new ≡ changes images.old }
+        ensures count { tell_count images.new
+            ≡ tell_count_after (changes images.old) (command_seen command.now) (tell_count images.old) }
         ensures lent { OnErr result (IsSameTest (test images.old) (test images.new)) }
         ensures ready { OnOk result (IsReady self.new) }
     {
@@ -48,6 +53,7 @@ impl Session<'_> {
     }
 
     // The answer to a command without fault.
+    #[tactic(auto, using(crate::proofs::AppliedLaws::layers_tell_nothing))]
     fn answer_possible(
         &mut self,
         command: &Command,
@@ -62,6 +68,8 @@ impl Session<'_> {
             (session_state self.old (test images.old)) (session_state self.new (test images.new)) (command_seen command.now)) }
         ensures tiles { tiles_of self.new ≡ tiles_of self.old }
         ensures changes { changes images.new ≡ changes images.old }
+        ensures count { tell_count images.new
+            ≡ tell_count_after (changes images.old) (command_seen command.now) (tell_count images.old) }
         ensures lent { OnErr result (IsSameTest (test images.old) (test images.new)) }
         ensures ready { OnOk result (IsReady self.new) }
     {
@@ -135,12 +143,31 @@ impl Session<'_> {
         Ok(Answer::Done)
     }
 
-    // The answer to an edit of layers, which is taken back where the whole document is refused.
+    // The answer to an edit of layers, which is refused where the edited document breaks a rule.
     fn edit_layers(&mut self, command: &Command, places: EditPlaces) -> Result<Answer, AllocError>
         requires ready { IsReady self.old }
         requires possible { edit_fault (tree_of self.old.document) (command_seen command.now) ≡ None }
         requires places { places ≡ places_of (tree_of self.old.document) (command_seen command.now) }
         requires layers { edits_layers (command_seen command.now) ≡ true }
+        ensures answer { (has_image scripts : List ℕ → Bool) (can_change : Bool)
+            → IfOk result (IsAnswer (tiles_of self.old) scripts can_change (session_state self.old has_image)
+            (session_state self.new has_image) (command_seen command.now)) }
+        ensures tiles { tiles_of self.new ≡ tiles_of self.old }
+        ensures ready { OnOk result (IsReady self.new) }
+    {
+        match finding_refusal(self.alloc, &self.document, places, command)? {
+            Some(refusal) => Ok(Answer::Refused(refusal)),
+            None => self.edit_sound(command, places),
+        }
+    }
+
+    // The answer where it breaks none: the edit is taken back where the document gets too many cells.
+    fn edit_sound(&mut self, command: &Command, places: EditPlaces) -> Result<Answer, AllocError>
+        requires possible { edit_fault (tree_of self.old.document) (command_seen command.now) ≡ None }
+        requires places { places ≡ places_of (tree_of self.old.document) (command_seen command.now) }
+        requires layers { edits_layers (command_seen command.now) ≡ true }
+        requires sound { findings (edited (tree_of self.old.document) (command_seen command.now)) ≡ [] }
+        requires ready { IsReady self.old }
         ensures answer { (has_image scripts : List ℕ → Bool) (can_change : Bool)
             → IfOk result (IsAnswer (tiles_of self.old) scripts can_change (session_state self.old has_image)
             (session_state self.new has_image) (command_seen command.now)) }
@@ -199,6 +226,7 @@ fn told(
     ensures answer { IfOk result (λ answer. (test images.new, reply_seen answer)
         ≡ told (changes images.old) name.now present (test images.old)) }
     ensures changes { changes images.new ≡ changes images.old }
+    ensures count { tell_count images.new ≡ count_after (changes images.old) (tell_count images.old) }
     ensures lent { OnErr result (IsSameTest (test images.old) (test images.new)) }
 {
     match images.tell(alloc, name.as_str(), present) {

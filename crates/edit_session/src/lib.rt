@@ -10,11 +10,13 @@
 //! global state. `open` gives a session that represents the style before any edit (`opened`), or exactly the first cause why it cannot
 //! (`open_fault`). `apply` answers by `applied`: a command is refused by the first cause that holds, and then nothing changes; else the
 //! session represents what is after the edit; a listing is that of the full layout of the document as it then is, and `listing` appends
-//! it. `set-global` is never refused. Once allocation fails in `apply` a session answers so ever after, and the test of images that was
-//! borrowed is as it was.
+//! it. `set-global` is never refused. `add-image` and `remove-image` report to the test of images once, and nothing else does
+//! (`tell_count_after`). Once allocation fails in `apply` a session answers so ever after, and the test of images that was borrowed
+//! lets the texts pass that it let pass.
 //!
-//! After each edit of layers the whole document is looked at and prepared anew. A value of the global state is set in time logarithmic
-//! in their number, and prepares the document anew only where a text in its layers is `global-state`.
+//! Of an edit of layers only the part that it changes is checked against the rules; then the document is prepared anew. A value of the
+//! global state is set in time logarithmic in their number, and prepares the document anew only where a text in its layers is
+//! `global-state`.
 //!
 //! The text to believe is in `specs/`: `SessionState`, `Opening`, `Applied`, `View`.
 #![tactic(auto)]

@@ -4,7 +4,7 @@ ghost use Rattle.std.specs.Prelude.{◌≡◌, ◌++◌, ℕ, List, [], Bool, ma
 ghost use Rattle.std.specs.Result.{result_err};
 ghost use Rattle.decimal_json.specs.View.{tree_of};
 ghost use Rattle.edit_script.specs.View.{command_seen};
-ghost use Rattle.edit_session.specs.Applied.{applied, listing_of};
+ghost use Rattle.edit_session.specs.Applied.{applied, listing_of, tell_count_after};
 ghost use Rattle.edit_session.specs.Opening.{open_fault, tiles_fault};
 ghost use Rattle.edit_session.specs.SessionState.{opened};
 ghost use Rattle.edit_session.specs.View.{fault_seen, session_state, reply_seen, tiles_of, lacks_memory, IsSoundSession};
@@ -130,6 +130,9 @@ impl<'a> Session<'a> {
             (command_seen command.now)) }
         ensures tiles { tiles_of self.new ≡ tiles_of self.old }
         ensures changes { changes images.new ≡ changes images.old }
+        ensures count { lacks_memory self.old ≡ false → tell_count images.new
+            ≡ tell_count_after (changes images.old) (command_seen command.now) (tell_count images.old) }
+        ensures silent { lacks_memory self.old ≡ true → tell_count images.new ≡ tell_count images.old }
         ensures lent { OnErr result (IsSameTest (test images.old) (test images.new)) }
         ensures sound { IsSoundSession self.new }
         ensures lacks { lacks_memory self.new ≡ is_err result }

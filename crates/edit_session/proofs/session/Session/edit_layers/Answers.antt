@@ -1,25 +1,24 @@
-use Rattle.std.proofs.Common.{ap, sym, ◌∙◌, map}
-use Rattle.std.specs.Result.{result_err}
+use Rattle.std.proofs.Common.{refl, sym, ◌∙◌}
 use Rattle.decimal_json.specs.View.{tree_of}
 use Rattle.edit_script.specs.View.{command_seen}
-use Rattle.style_layout.specs.CodeView.{tile_seen}
-use Rattle.edit_session.specs.Applied.{whole_refusal}
+use Rattle.style_edits.specs.Edited.{edited}
+use Rattle.style_rules.specs.Findings.{findings}
 use Rattle.edit_session.specs.View.{session_state, tiles_of}
-use Rattle.edit_session.proofs.AppliedLaws.{layers_accepted, layers_refused}
+use Rattle.edit_session.proofs.AppliedLaws.{accepted_is_sound, found_nothing, layers_refused, whole_by_finding}
 use Rattle.edit_session.proofs.session.Session.edit_layers.Goals as goal
 
-pub returns-in-Ok-clause-answer : goal.returns-in-Ok-clause-answer
-returns-in-Ok-clause-answer c = λ has_image scripts can_change.
-    layers_accepted (tiles_of c.args.self.now) scripts can_change (session_state c.args.self.now has_image) (command_seen c.args.command.now)
-    c.requires.layers c.requires.possible (tree_of c.edit_at.new.style) c.in_ok-undo.ensures.edited
-    (ap (λ ts. whole_refusal (map tile_seen ts) c.args.self.now.globals (tree_of c.edit_at.new.style)) (sym c.as_slice.ensures.value)
-    ∙ (sym c.in_ok-prepared.ensures.refusal ∙ ap result_err c.in-Ok.is))
+pub finding_refusal-requires-clause-sound : goal.finding_refusal-requires-clause-sound
+finding_refusal-requires-clause-sound c =
+    let s = c.args.self.now in accepted_is_sound (tiles_of s) s.globals (tree_of s.document) c.requires.ready.is_accepted
 
-pub returns-in_ok-undo_edit-in-Err-clause-answer : goal.returns-in_ok-undo_edit-in-Err-clause-answer
-returns-in_ok-undo_edit-in-Err-clause-answer c = λ has_image scripts can_change.
-    layers_refused (tiles_of c.args.self.now) scripts can_change (session_state c.args.self.now has_image) (command_seen c.args.command.now)
-    c.requires.layers c.requires.possible (tree_of c.edit_at.new.style) c.in_ok-undo.ensures.edited
-    c.in-Err.refusal (tree_of c.undo_edit.new.style)
-    (ap (λ ts. whole_refusal (map tile_seen ts) c.args.self.now.globals (tree_of c.edit_at.new.style)) (sym c.as_slice.ensures.value)
-    ∙ (sym c.in_ok-prepared.ensures.refusal ∙ ap result_err c.in-Err.is))
-    (c.in_ok-undo_edit-in-Err.ensures.ok ∙ c.in_ok-undo.ensures.undo.1)
+pub edit_sound-requires-clause-sound : goal.edit_sound-requires-clause-sound
+edit_sound-requires-clause-sound c =
+    found_nothing (findings (edited (tree_of c.args.self.now.document) (command_seen c.args.command.now))) (sym c.in-None.is ∙ c.in_ok-refusal.ensures)
+
+pub returns-in-Some-clause-answer : goal.returns-in-Some-clause-answer
+returns-in-Some-clause-answer c = λ has_image scripts can_change.
+    let s = c.args.self.now in
+    let made = edited (tree_of s.document) (command_seen c.args.command.now) in
+    layers_refused (tiles_of s) scripts can_change (session_state s has_image) (command_seen c.args.command.now)
+    c.requires.layers c.requires.possible made refl c.in-Some.refusal (tree_of s.document)
+    (whole_by_finding (tiles_of s) s.globals made c.in-Some.refusal (sym c.in-Some.is ∙ c.in_ok-refusal.ensures)) refl

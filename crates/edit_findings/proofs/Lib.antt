@@ -1,0 +1,13 @@
+pub mod FieldLaws
+pub mod OtherMembers
+pub mod LayerLaws
+pub mod RangeLaws
+pub mod MarkLaws
+pub mod IdLaws
+pub mod OrderLaws
+pub mod ChangeLaws
+pub mod TypedLaws
+pub mod DocumentLaws
+pub mod AgreeLaws
+pub mod KeyedLaws
+pub mod AfterLaws
