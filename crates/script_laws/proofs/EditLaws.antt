@@ -36,7 +36,7 @@ no_second (Some x) b c h = absurd (cc)
 no_second None (Some y) c h = absurd (cc)
 no_second None None c h = refl
 
-possible : (document : Tree) (edit : Edit) → IsPossible document edit → edit_fault document edit ≡ None
+pub possible : (document : Tree) (edit : Edit) → IsPossible document edit → edit_fault document edit ≡ None
 possible document edit h = λ i. first_cause (
     then_some (h.layer i) UnknownLayer ∷
     then_some (h.before i) UnknownBefore ∷
@@ -180,23 +180,25 @@ not_cells None [] true (Some r) few other h = other h
 not_cells None [] true None few other h = absurd (cc)
 not_cells None [] false images few other h = absurd (cc)
 
-refused_by : (r : Option Refusal) (before after : SessionState) → (unless_refused r before after).1 ≡ refused CellLimit → r ≡ Some CellLimit
-refused_by None before after h = absurd (cc)
-refused_by (Some x) before after h = let same : x ≡ CellLimit = cc in ap Some same
+pub refused_by : (r : Option Refusal) (cause : Refusal) (before after : SessionState) → (unless_refused r before after).1 ≡ refused cause → r ≡ Some cause
+refused_by None cause before after h = absurd (cc)
+refused_by (Some x) cause before after h = let same : x ≡ cause = cc in ap Some same
 
 layers_cells : (tiles : List SourceTile) (scripts : List ℕ → Bool) (can_change : Bool) (p : SessionState) (e : Edit) → rearranges e ≡ true →
     cell_count tiles (style_layers p.globals (edited p.document e)) ≤ cell_limit →
     (applied tiles scripts can_change p e).1 ≡ refused CellLimit → ⊥
 layers_cells tiles scripts can_change p (edits.remove_layer id) is few h =
-    not_cells (edit_fault p.document (edits.remove_layer id)) (findings (edited p.document (edits.remove_layer id))) _ None (le-leb _ cell_limit few) (λ e. absurd (cc)) (refused_by _ p _ h)
+    not_cells (edit_fault p.document (edits.remove_layer id)) (findings (edited p.document (edits.remove_layer id))) _ None (le-leb _ cell_limit few) (λ e. absurd (cc)) (refused_by _ CellLimit p _ h)
 layers_cells tiles scripts can_change p (edits.move_layer id before) is few h =
-    not_cells (edit_fault p.document (edits.move_layer id before)) (findings (edited p.document (edits.move_layer id before))) _ None (le-leb _ cell_limit few) (λ e. absurd (cc)) (refused_by _ p _ h)
+    not_cells (edit_fault p.document (edits.move_layer id before)) (findings (edited p.document (edits.move_layer id before))) _ None (le-leb _ cell_limit few) (λ e. absurd (cc)) (refused_by _ CellLimit p _ h)
 layers_cells tiles scripts can_change p (edits.set_range layer min max) is few h =
-    not_cells (edit_fault p.document (edits.set_range layer min max)) (findings (edited p.document (edits.set_range layer min max))) _ None (le-leb _ cell_limit few) (λ e. absurd (cc)) (refused_by _ p _ h)
+    not_cells (edit_fault p.document (edits.set_range layer min max)) (findings (edited p.document (edits.set_range layer min max))) _ None (le-leb _ cell_limit few) (λ e. absurd (cc)) (refused_by _ CellLimit p _ h)
 layers_cells tiles scripts can_change p _ is few h = absurd (cc)
+
+pub few_cells : (tiles : List SourceTile) (p : SessionState) (e : Edit) → rearranges e ≡ true → IsSoundState tiles p →
+    cell_count tiles (style_layers p.globals (edited p.document e)) ≤ cell_limit
+few_cells tiles p e is h = omega (arith, no_cell_comes tiles p.globals p.document e is, h.cells)
 
 pub rearranging_brings_no_cell : RearrangingBringsNoCell
 rearranging_brings_no_cell tiles scripts can_change p e is h =
-    let few : cell_count tiles (style_layers p.globals (edited p.document e)) ≤ cell_limit =
-    omega (arith, no_cell_comes tiles p.globals p.document e is, h.cells) in
-    (few, layers_cells tiles scripts can_change p e is few)
+    let few = few_cells tiles p e is h in (few, layers_cells tiles scripts can_change p e is few)

@@ -2,3 +2,4 @@ mod CellLaws
 mod EditLaws
 mod LineLaws
 mod ListLaws
+mod RearrangingLaws

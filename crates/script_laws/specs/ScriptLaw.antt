@@ -11,16 +11,19 @@ use Rattle.edit_script.specs.Edit.{Edit, list, stats, set_global, set_range, rem
 use Rattle.edit_script.specs.declared.command.LineFault.{LineFault}
 use Rattle.edit_script.specs.declared.command.LineFault.TheVariants.{Json}
 use Rattle.style_edits.specs.Edited.{edited}
-use Rattle.style_edits.specs.Faults.{lacks_layer, lacks_source, named_layer, named_before, named_source, named_zooms, is_zoom_or_none, unsets_nothing}
+use Rattle.style_edits.specs.Faults.{edit_fault, lacks_layer, lacks_source, named_layer, named_before, named_source, named_zooms, is_zoom_or_none, unsets_nothing}
 use Rattle.style_edits.specs.Layers.{layer_list}
 use Rattle.style_layout.specs.Layers.{style_layers}
 use Rattle.style_layout.specs.Shown.{SourceTile}
 use Rattle.style_layout.specs.StyleLayout.{cell_count}
 use Rattle.style_rules.specs.Findings.{findings}
+use Rattle.style_rules.specs.Levels.{HasDistinctMembers}
+use Rattle.style_rules.specs.declared.lists.Finding.{Finding as Found}
+use Rattle.edit_findings.specs.FoundAfter.{AreKeyed}
 use Rattle.edit_session.specs.Applied.{Reply, done, refused, applied, presented_after, images_refusal}
 use Rattle.edit_session.specs.Opening.{cell_limit}
 use Rattle.edit_session.specs.SessionState.{SessionState}
-use Rattle.edit_session.specs.declared.answer.Refusal.TheVariants.{CellLimit}
+use Rattle.edit_session.specs.declared.answer.Refusal.TheVariants.{Finding, CellLimit}
 use Rattle.program_runs.specs.Outcome.{RunOutcome, said}
 use Rattle.program_runs.specs.Runs.{HasOutcome}
 use Rattle.script_runs.specs.AnswerTexts.{reply_text}
@@ -47,6 +50,11 @@ pub record IsPossible (document : Tree) (edit : Edit) : Type 0 where
   pub source : lacks_source document (named_source edit) ≡ false
   pub zooms : list_all is_zoom_or_none (named_zooms edit) ≡ true
   pub property : unsets_nothing (layer_list document) edit ≡ false
+
+-- No two members of the document have one name, nor of one of its layers. It is so in each JSON value.
+pub record HasNamesOnce (document : Tree) : Type 0 where
+  pub root : HasDistinctMembers document
+  pub layers : AreKeyed (layer_list document)
 
 -- one of a listing or of its evaluations asks, and changes nothing
 abbrev pub asks : Edit → Bool
@@ -168,3 +176,19 @@ RearrangingBringsNoCell =
     rearranges edit ≡ true → IsSoundState tiles p →
     (cell_count tiles (style_layers p.globals (edited p.document edit)) ≤ cell_limit)
     × ((applied tiles scripts can_change p edit).1 ≢ refused CellLimit)
+
+-- An edit that removes or moves a layer, or sets its range, is never refused for a rule: where it has no fault, the edited
+-- document has no findings.
+abbrev pub RearrangingBreaksNoRule : Type 0
+RearrangingBreaksNoRule =
+    (tiles : List SourceTile) (scripts : List ℕ → Bool) (can_change : Bool) (p : SessionState) (edit : Edit) →
+    rearranges edit ≡ true → HasNamesOnce p.document → IsSoundState tiles p →
+    (edit_fault p.document edit ≡ None → findings (edited p.document edit) ≡ [])
+    × ((found : Found) → (applied tiles scripts can_change p edit).1 ≢ refused (Finding found))
+
+-- So it is accepted where it names what is there, with zooms in range.
+abbrev pub PossibleRearrangingIsAccepted : Type 0
+PossibleRearrangingIsAccepted =
+    (tiles : List SourceTile) (scripts : List ℕ → Bool) (can_change : Bool) (p : SessionState) (edit : Edit) →
+    rearranges edit ≡ true → HasNamesOnce p.document → IsSoundState tiles p → IsPossible p.document edit →
+    applied tiles scripts can_change p edit ≡ (presented_after p edit, done)

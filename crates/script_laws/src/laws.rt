@@ -1,6 +1,7 @@
 //! What the definitions mean, each law on a function that does nothing.
 ghost use Rattle.script_laws.specs.EvalLaw.{EvalIsReplayOfList};
-ghost use Rattle.script_laws.specs.ScriptLaw.{GlobalsAreAlwaysSet, PossibleEditsAreAccepted, RearrangingBringsNoCell};
+ghost use Rattle.script_laws.specs.ScriptLaw.{GlobalsAreAlwaysSet, PossibleEditsAreAccepted};
+ghost use Rattle.script_laws.specs.ScriptLaw.{PossibleRearrangingIsAccepted, RearrangingBreaksNoRule, RearrangingBringsNoCell};
 ghost use Rattle.script_laws.specs.ScriptLaw.{RefusedLinesCountForNothing, ScriptsGoByTheirLines, ScriptsKeepStatesSound};
 
 /// An outcome of a script is that of its lines, one after another, and no file is read.
@@ -29,6 +30,16 @@ pub fn possible_edits_are_accepted()
 /// Removing or moving a layer, or setting its range, is never refused for the cells of the style.
 pub fn rearranging_brings_no_cell()
     ensures { RearrangingBringsNoCell }
+{}
+
+/// Removing or moving a layer, or setting its range, is never refused for a rule.
+pub fn rearranging_breaks_no_rule()
+    ensures { RearrangingBreaksNoRule }
+{}
+
+/// It is accepted where it names what is there, with zooms in range.
+pub fn possible_rearranging_is_accepted()
+    ensures { PossibleRearrangingIsAccepted }
 {}
 
 /// `set-global` is never refused.

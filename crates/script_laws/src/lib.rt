@@ -14,8 +14,9 @@
 //!   (`refused_lines_count_for_nothing`).
 //! - An edit that names what is there, with zooms in range, is accepted where the edited style has no findings and at
 //!   most the cells allowed (`possible_edits_are_accepted`). `set-global` is never refused (`globals_are_always_set`),
-//!   and removing or moving a layer or setting its range never for the cells of the style
-//!   (`rearranging_brings_no_cell`).
+//!   and removing or moving a layer or setting its range neither for the cells of the style
+//!   (`rearranging_brings_no_cell`) nor for a rule (`rearranging_breaks_no_rule`): so it is accepted where it names
+//!   what is there, with zooms in range (`possible_rearranging_is_accepted`).
 //! - `eval` writes what `replay` writes of the script `["list"]` (`eval_is_replay_of_list`).
 //!
 //! Each law is a definition, and a function without arguments ensures it: a caller that calls the function
@@ -28,6 +29,6 @@ mod laws;
 
 pub use laws::{
     eval_is_replay_of_list, globals_are_always_set, possible_edits_are_accepted,
-    rearranging_brings_no_cell, refused_lines_count_for_nothing, scripts_go_by_their_lines,
-    scripts_keep_states_sound,
+    possible_rearranging_is_accepted, rearranging_breaks_no_rule, rearranging_brings_no_cell,
+    refused_lines_count_for_nothing, scripts_go_by_their_lines, scripts_keep_states_sound,
 };
