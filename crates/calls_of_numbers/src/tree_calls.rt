@@ -65,6 +65,17 @@ fn trees_are_built(rt: HostRuntime) -> Result<(), Fail> {
     Ok(())
 }
 
+#[test]
+fn a_member_is_put_before_another(rt: HostRuntime) -> Result<(), Fail> {
+    let mut members = Members::new(rt.alloc());
+    members.push(Text::copy_of(rt.alloc(), "b")?, Json::Bool(true))?;
+    members.insert_at(0, Text::copy_of(rt.alloc(), "a")?, Json::Null)?;
+    let mut out = Vec::new(rt.alloc());
+    write(&Json::Object(members), &mut out)?;
+    assert!(rt; out.as_slice() == b"{\"a\":null,\"b\":true}".as_slice());
+    Ok(())
+}
+
 // Source: RFC 6901 §3 and §5.
 #[test]
 fn paths_are_written(rt: HostRuntime) -> Result<(), Fail> {
