@@ -7,7 +7,8 @@
 //!
 //! What is promised: the answer is the outcome of `script_run` of `specs/ScriptRun.antt`: line by line what
 //! the line's command is answered by `applied` of `edit_session`, in the texts of `specs/AnswerTexts.antt`;
-//! and the ending is `Found` exactly where a line was refused.
+//! and the ending is `Found` exactly where a line was refused. `answer_line` is one step of it, for callers that make
+//! their lines.
 //!
 //! The text to believe is in `specs/`: `ScriptLines`, `AnswerTexts`, `ScriptRun`.
 #![tactic(auto)]
@@ -16,4 +17,4 @@ mod answers;
 mod lines;
 mod script;
 
-pub use script::answer_script;
+pub use script::{ScriptLine, answer_line, answer_script, ending_by};

@@ -17,9 +17,9 @@ use std::alloc::{AllocError, Global};
 
 /// A line of a script, with its number counted from 1.
 #[derive(Clone, Copy)]
-struct ScriptLine<'a> {
-    number: usize,
-    bytes: &'a [u8],
+pub struct ScriptLine<'a> {
+    pub number: usize,
+    pub bytes: &'a [u8],
 }
 
 /// What a script is answered, over a session that was just opened or is sound.
@@ -53,14 +53,15 @@ pub fn answer_script(
     Ok(answer_out(alloc, out, ending_by(any)))
 }
 
-fn ending_by(any: bool) -> Ending
+/// How a script ends, by whether a line of it was refused.
+pub fn ending_by(any: bool) -> Ending
     ensures { result ≡ ending_by any }
 {
     if any { Ending::Found } else { Ending::Fine }
 }
 
-// Appends what the line of this number is answered, and says whether it is refused.
-fn answer_line(
+/// Appends what the line of this number is answered, and says whether it is refused.
+pub fn answer_line(
     alloc: Global,
     session: &mut Session<'_>,
     line: &ScriptLine<'_>,

@@ -1,6 +1,6 @@
 -- How each end of a run keeps what is promised.
-use Rattle.std.proofs.Common.{◌≡◌, ℕ, ◌+◌, ◌<◌, List, [], ◌++◌, take, length, refl, sym, ap, ◌∙◌, inl, inr, arith}
-use Rattle.std.specs.Prelude.{◌≢◌, Option, Some, None, ◌⊎◌}
+use Rattle.std.proofs.Common.{◌≡◌, ℕ, ◌<◌, List, [], length, refl, sym, ap, ◌∙◌, inl, inr, arith}
+use Rattle.std.specs.Prelude.{Option, Some, None, ◌⊎◌}
 use Rattle.std.proofs.lemmas.List.{append-nil}
 use Rattle.outside_io.specs.Counts.{raised, Still}
 use Rattle.outside_io.specs.Writing.{Gains, GainsPrefix}
@@ -16,7 +16,7 @@ use Rattle.program_runs.specs.Runs.{Run, HasOutcome, HasAsked, IsFileless}
 use Rattle.program_runs.specs.Written.{EndsUnread, unread_line}
 use Rattle.program_runs.proofs.Asked.{all_asked}
 use Rattle.program_runs.proofs.Fronts.{front}
-use Rattle.style_program.specs.Promises.{Outside, outside, KeepsPromises}
+use Rattle.style_program.specs.Promises.{outside, KeepsPromises}
 
 -- an ending is no fault of the outside
 never_a_read_fault : (e : Ending) → status_of e ≡ ReadFault → ⊥

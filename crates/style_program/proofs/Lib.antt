@@ -1,3 +1,5 @@
+pub mod FeatureNumbers
+pub mod GeneratedRuns
 mod TypedOutcome
 pub mod Answered
 pub mod AtFirst

@@ -1,5 +1,5 @@
 -- The run of `replay` after its style and its tiles.
-use Rattle.std.proofs.Common.{◌≡◌, ℕ, List, sym, subst}
+use Rattle.std.proofs.Common.{◌≡◌, ℕ, List, subst}
 use Rattle.std.specs.Prelude.{Option, Bool}
 use Rattle.program_runs.specs.FailedReads.{NoneFailed}
 use Rattle.program_runs.specs.Outcome.{RunOutcome}

@@ -8,6 +8,7 @@ pub mod MigrateRun
 pub mod ShownRun
 pub mod EvalRun
 pub mod ReplayRun
+pub mod GenerateRun
 pub mod Commands
 pub mod Promises
 pub mod ListedFaults

@@ -1,5 +1,5 @@
 -- What the words of a command line ask for.
-use Rattle.std.specs.Prelude.{ℕ, ℤ, List, [], ◌∷◌, length, filter, codes, nat_eq, nat_le, Bool, not, ◌&&◌, Option, Some, None, option_map, Result, Ok, Err, if◌then◌else◌}
+use Rattle.std.specs.Prelude.{ℕ, ℤ, ◌+◌, ◌-◌, ◌*◌, List, [], ◌∷◌, length, filter, codes, nat_eq, nat_le, Bool, not, ◌&&◌, Option, Some, None, option_map, Result, Ok, Err, if◌then◌else◌}
 use Rattle.std.specs.List.{before_first, after_first, list_all}
 use Rattle.std.specs.Str.{bytes_eq}
 use Rattle.fixed_num.specs.Decimal.{read_text}
@@ -32,6 +32,8 @@ pub data Asked : Type 0 where
   Eval : EvalWords → Asked
   -- what it shows while it is edited by a script
   Replay : ReplayWords → Asked
+  -- how much it shows of so many features that are made
+  Generate : (features : ℕ) → Asked
   Help : Asked
   Version : Asked
   -- an unknown command or wrong arguments
@@ -113,12 +115,35 @@ asked_of_more command style word words =
 abbrev pub asked_alone : List ℕ → Asked
 asked_alone word = if bytes_eq word (codes "--help") then Help else if bytes_eq word (codes "--version") then Version else Wrong
 
--- `value`, `validate` and `migrate` have one word more
+-- ---- a number of features: a word of one to six digits, from 1 to 100,000
+
+abbrev pub is_digit : ℕ → Bool
+is_digit b = nat_le 48 b && nat_le b 57
+
+-- the number that digits say, after those before them
+abbrev pub digits_value : (before : ℕ) → List ℕ → ℕ
+digits_value before [] = before
+digits_value before (b ∷ bs) = digits_value (10 * before + (b - 48)) bs
+
+abbrev pub most_features : ℕ
+most_features = 100000
+
+abbrev pub features_named : List ℕ → Option ℕ
+features_named word =
+    if list_all is_digit word && (nat_le (length word) 6 && (nat_le 1 (digits_value 0 word) && nat_le (digits_value 0 word) most_features))
+    then Some (digits_value 0 word) else None
+
+abbrev pub asked_generate : Option ℕ → Asked
+asked_generate (Some features) = Generate features
+asked_generate None = Wrong
+
+-- `value`, `validate`, `migrate` and `generate` have one word more
 abbrev pub asked_of_one : (command word : List ℕ) → Asked
 asked_of_one command word =
     if bytes_eq command (codes "value") then Value word else
     if bytes_eq command (codes "validate") then Validate word else
     if bytes_eq command (codes "migrate") then Migrate word else
+    if bytes_eq command (codes "generate") then asked_generate (features_named word) else
     Wrong
 
 abbrev pub asked : List (List ℕ) → Asked

@@ -6,7 +6,7 @@ use Rattle.style_program.specs.declared.words.Request.{Request}
 use Rattle.style_program.specs.declared.words.Request.TheVariants as code
 use Rattle.style_program.specs.declared.words.TileWord.{TileWord}
 use Rattle.style_program.specs.Words as words
-use Rattle.style_program.specs.Words.{EvalWords, ReplayWords, Asked, Value, Validate, Migrate, Eval, Replay, Help, Version, Wrong}
+use Rattle.style_program.specs.Words.{EvalWords, ReplayWords, Asked, Value, Validate, Migrate, Eval, Replay, Generate, Help, Version, Wrong}
 
 abbrev pub tile_word : TileWord → words.TileWord
 tile_word t = (t.source.now, t.tile.now)
@@ -23,6 +23,7 @@ asked_by (code.Validate style) = Validate style.now
 asked_by (code.Migrate style) = Migrate style.now
 asked_by (code.Eval r) = Eval (eval_words r)
 asked_by (code.Replay r) = Replay (replay_words r)
+asked_by (code.Generate features) = Generate features
 asked_by code.Help = Help
 asked_by code.Version = Version
 asked_by code.Wrong = Wrong

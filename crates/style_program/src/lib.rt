@@ -12,11 +12,12 @@
 //! that says which file could not be read; and each status has its cause.
 //!
 //! The text to believe is in `specs/`: `Words`, `Refusals`, `ValueRun`, `StyleFile`, `ValidateRun`,
-//! `MigrateRun`, `ShownRun`, `EvalRun`, `ReplayRun`, `Commands`, `Promises`, `ListedFaults`. Law of it:
+//! `MigrateRun`, `ShownRun`, `EvalRun`, `ReplayRun`, `GenerateRun`, `Commands`, `Promises`, `ListedFaults`. Law of it:
 //! `OneOutcome`.
 #![tactic(auto)]
 
 mod eval_command;
+mod generate_command;
 mod laws;
 mod loading;
 mod migrate_command;

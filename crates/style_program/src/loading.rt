@@ -58,8 +58,8 @@ pub fn read_shown<'a, F: Files>(
     Ok(LoadedStyle { style, tiles })
 }
 
-// Halts the run where the style has findings.
-fn refuse_broken<'a>(alloc: Global, style: &Json) -> Result<(), RunHalt<'a>>
+/// Halts the run where the style has findings.
+pub(crate) fn refuse_broken<'a>(alloc: Global, style: &Json) -> Result<(), RunHalt<'a>>
     ensures sound { OnOk result (findings (tree_of style.now) ≡ []) }
     ensures halt { (files : List ℕ → Option (List ℕ)) (count : ℕ) (failed : Option (List ℕ)) (asked : List (List ℕ)) (next : Run) → IfErr result (λ halt. HaltsAt files
         (sound_or_broken (findings (tree_of style.now)) next) count count failed failed asked asked halt) }

@@ -6,6 +6,7 @@ ghost use Rattle.style_program.specs.Commands.{asked_run};
 ghost use Rattle.style_program.specs.WordsView.{asked_by};
 
 use crate::eval_command::answer_eval;
+use crate::generate_command::answer_generate;
 use crate::migrate_command::answer_migrate;
 use crate::replay_command::answer_replay;
 use crate::validate_command::answer_validate;
@@ -24,6 +25,7 @@ usage: pirgesh value EXPR
        pirgesh migrate STYLE
        pirgesh eval STYLE ZOOM [SOURCE=TILE ..]
        pirgesh replay STYLE SCRIPT ZOOM [SOURCE=TILE ..]
+       pirgesh generate N
        pirgesh --help
        pirgesh --version
 
@@ -32,9 +34,10 @@ usage: pirgesh value EXPR
   migrate   a style with its legacy forms as expressions, or the rules that it breaks and invalid
   eval      what a style shows at a zoom over tiles of its sources
   replay    the answer to each line of a script, which edits the style and asks for listings
+  generate  how many lines and bytes replay writes of a style over N features that are made; no file is read
 
 STYLE, SCRIPT and TILE are files, and /dev/stdin is standard input. ZOOM is a number from 0 to 24.
-SOURCE names a source of the style, and TILE is an uncompressed vector tile of it.
+SOURCE names a source of the style, and TILE is an uncompressed vector tile of it. N is from 1 to 100000.
 EXPR is one word, so quote it:
 
   pirgesh value '[\"+\",0.1,0.2]'
@@ -81,6 +84,7 @@ pub fn answer_to<'a, F: Files>(
         Request::Migrate(style) => answer_migrate(alloc, style, files),
         Request::Eval(request) => answer_eval(alloc, request, files, images, scripts),
         Request::Replay(request) => answer_replay(alloc, request, files, images, scripts),
+        Request::Generate(features) => answer_generate(alloc, *features, images, scripts),
         Request::Help => Ok(answer_said(alloc, HELP)?),
         Request::Version => Ok(answer_said(alloc, VERSION)?),
         Request::Wrong => Ok(answer_usage(alloc)?),

@@ -79,7 +79,8 @@ fn answer_checked<'a>(
     }
 }
 
-fn zero() -> Fixed
+/// The number 0.
+pub(crate) fn zero() -> Fixed
     ensures { result ≡ pos 0 }
 {
     match Fixed::from_millionths(0) {

@@ -1,6 +1,6 @@
 ghost use Rattle.std.specs.Prelude.{◌≡◌, ◌≤◌, length, map, string_bytes, option_map, IfOk, nat_eq, if◌then◌else◌};
 ghost use Rattle.fixed_num.specs.Decimal.{read_text};
-ghost use Rattle.style_program.specs.Words.{asked, asked_alone, asked_of_one, asked_of_more, asked_with_script, shown_words, source_and_tile, tiles_named, are_allowed, count_of};
+ghost use Rattle.style_program.specs.Words.{asked, asked_alone, asked_of_one, asked_of_more, asked_with_script, features_named, shown_words, source_and_tile, tiles_named, are_allowed, count_of};
 ghost use Rattle.style_program.specs.WordsView.{asked_by, eval_words, tile_word};
 
 use fixed_num::{Fixed, read_decimal};
@@ -41,6 +41,8 @@ pub enum Request<'a> {
     Eval(EvalRequest<'a>),
     /// What it shows while it is edited by a script.
     Replay(ReplayRequest<'a>),
+    /// How much it shows of so many features that are made.
+    Generate(u32),
     Help,
     Version,
     /// Nothing that the program knows.
@@ -84,8 +86,34 @@ fn request_of_one<'a>(command: &str, word: &'a str) -> Request<'a>
         "value" => Request::Value(word),
         "validate" => Request::Validate(word),
         "migrate" => Request::Migrate(word),
+        "generate" => match features_named(word) {
+            Some(features) => Request::Generate(features),
+            None => Request::Wrong,
+        },
         _ => Request::Wrong,
     }
+}
+
+const MOST_FEATURES: u32 = 100_000;
+
+// The number of features that a word of at most six digits says, where it is one from 1 to 100,000.
+fn features_named(word: &str) -> Option<u32>
+    ensures { result ≡ features_named word.now }
+{
+    let mut features: u32 = 0;
+    for byte in word.as_bytes() {
+        if *byte < b'0' || *byte > b'9' {
+            return None;
+        }
+        features = 10 * features + (*byte - b'0') as u32;
+        if features > MOST_FEATURES {
+            return None;
+        }
+    }
+    if word.len() > 6 || features == 0 {
+        return None;
+    }
+    Some(features)
 }
 
 fn request_of_more<'a>(

@@ -1,5 +1,4 @@
-use Rattle.std.proofs.Common.{ℕ, List, ◌∙◌}
-use Rattle.decimal_json.specs.View.{tree_of}
+use Rattle.std.proofs.Common.{◌∙◌}
 use Rattle.program_runs.specs.declared.halt.RunHalt.TheVariants.{Stopped}
 use Rattle.program_runs.specs.declared.halt.RunStop.TheVariants.{NoMemory}
 use Rattle.program_runs.proofs.Asked.{none_asked}
@@ -7,9 +6,9 @@ use Rattle.program_runs.specs.Progress.{HaltsAt, outcome_of}
 use Rattle.program_runs.specs.Runs.{Run}
 use Rattle.program_runs.proofs.Going.{at_residual}
 use Rattle.style_program.specs.ReplayRun.{replay_run, script_part, edited_run}
-use Rattle.style_program.specs.ShownRun.{LoadedStyle, load_part}
+use Rattle.style_program.specs.ShownRun.{LoadedStyle}
 use Rattle.style_program.specs.TileRunView.{shown_seen}
-use Rattle.style_program.specs.WordsView.{eval_words, replay_words}
+use Rattle.style_program.specs.WordsView.{replay_words}
 use Rattle.style_program.proofs.ScriptRuns.{outcome_of_script, script_comes, script_halts}
 use Rattle.style_program.proofs.replay_command.answer_replay.Goals as goal
 

@@ -1,0 +1,4 @@
+mod CountLaws
+mod LineLaws
+mod ScriptLaws
+mod TileLaws

@@ -1,0 +1,23 @@
+use Rattle.std.proofs.Common.{◌≡◌, ◌+◌, drop, ℕ, List}
+use Rattle.std.specs.Prelude.{Option}
+use Rattle.edit_session.specs.View.{IsSoundSession}
+use Rattle.program_runs.specs.Runs.{Run}
+use Rattle.generated_runs.specs.Counting.{CountsOn, IsSmall, lines_left}
+use Rattle.generated_runs.specs.GeneratedScript.{generated_lines}
+use Rattle.generated_runs.proofs.counting.Counting.answer_all.Given as goal
+
+abbrev pub invariant-loop-place : goal.invariant-loop-place
+invariant-loop-place g l =
+    let images = (goal.HostOp-dyn g l.images.now).test l.images.now.1 in
+    let images_first = (goal.HostOp-dyn g l.fn.images.now).test l.fn.images.now.1 in
+    let can_change = (goal.HostOp-dyn g l.fn.images.now).changes l.fn.images.now.1 in
+    let scripts = (goal.HostOp-dyn g l.scripts.now).test l.scripts.now.1 in
+    record {
+      sound : IsSoundSession l.session;
+      changes : (goal.HostOp-dyn g l.images.now).changes l.images.now.1 ≡ can_change;
+      small : IsSmall l.self;
+      number : l.self.number ≡ l.place + 1;
+      on : (files : List ℕ → Option (List ℕ)) (run : Run) → CountsOn files run
+          (lines_left scripts can_change images_first l.fn.session l.fn.self (generated_lines l.fn.features)) l.fn.self
+          → CountsOn files run (lines_left scripts can_change images l.session l.self (drop l.place (generated_lines l.fn.features))) l.self;
+    }

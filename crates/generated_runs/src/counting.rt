@@ -1,0 +1,162 @@
+//! A script whose answers are counted and not kept.
+
+ghost use Rattle.std.specs.Prelude.{◌≡◌, ◌+◌, ◌≤◌, ◌∷◌, ◌++◌, ℕ, List, [], Bool, false, length, decimal, ◌^◌, OnOk, IfOk, Option};
+ghost use Rattle.edit_session.specs.View.{session_state, tiles_of, IsSoundSession};
+ghost use Rattle.program_runs.specs.Outcome.{said};
+ghost use Rattle.program_runs.specs.Progress.{outcome_of};
+ghost use Rattle.program_runs.specs.Runs.{Run, HasOutcome};
+ghost use Rattle.script_runs.specs.ScriptRun.{lines_run, ending_by};
+ghost use Rattle.generated_runs.specs.Counted.{counted, counts_line, line_count};
+ghost use Rattle.generated_runs.specs.Counting.{CountsOn, IsSmall, lines_left};
+ghost use Rattle.generated_runs.specs.GeneratedScript.{generated_lines};
+
+use crate::lines::{line_count_of, put_line};
+use edit_session::Session;
+use host_ops::HostOp;
+use itoa::Buffer;
+use program_runs::{RunOutput, answer_out};
+use script_runs::{ScriptLine, answer_line, ending_by};
+use std::alloc::{AllocError, Global};
+
+/// The number of the next line of a script, and the counts of what the lines before it were answered.
+#[derive(Drop)]
+struct Counting {
+    alloc: Global,
+    number: usize,
+    lines: u128,
+    bytes: u128,
+    any: bool,
+    text: Vec<u8>,
+}
+
+/// The counts of what the script of so many features is answered, over a session that was just opened or is sound.
+pub fn answer_counted(
+    alloc: Global,
+    session: Session<'_>,
+    features: u32,
+    images: &mut dyn HostOp,
+    scripts: &dyn HostOp,
+) -> Result<RunOutput, AllocError>
+    requires { IsSoundSession session }
+    ensures { (files : List ℕ → Option (List ℕ)) (asked : List (List ℕ)) → IfOk result (λ answer. HasOutcome files
+        (counted features (lines_run (tiles_of session.entry) (test scripts.now) (changes images.old) 1
+        (session_state session.entry (test images.old)) [] false (generated_lines features)))
+        asked asked (outcome_of answer)) }
+{
+    let mut session = session;
+    count_answers(alloc, &mut session, features, images, scripts)
+}
+
+fn count_answers(
+    alloc: Global,
+    session: &mut Session<'_>,
+    features: u32,
+    images: &mut dyn HostOp,
+    scripts: &dyn HostOp,
+) -> Result<RunOutput, AllocError>
+    requires { IsSoundSession session.old }
+    ensures { (files : List ℕ → Option (List ℕ)) (asked : List (List ℕ)) → IfOk result (λ answer. HasOutcome files
+        (counted features (lines_run (tiles_of session.old) (test scripts.now) (changes images.old) 1
+        (session_state session.old (test images.old)) [] false (generated_lines features)))
+        asked asked (outcome_of answer)) }
+{
+    let mut counting = Counting {
+        alloc,
+        number: 1,
+        lines: 0,
+        bytes: 0,
+        any: false,
+        text: Vec::new(alloc),
+    };
+    counting.answer_all(session, features, images, scripts)?;
+    counting.finish(features)
+}
+
+impl Counting {
+    // Counts what all lines are answered.
+    fn answer_all(
+        &mut self,
+        session: &mut Session<'_>,
+        features: u32,
+        images: &mut dyn HostOp,
+        scripts: &dyn HostOp,
+    ) -> Result<(), AllocError>
+        requires sound { IsSoundSession session.old }
+        requires small { IsSmall self.old }
+        requires first { self.old.number ≡ 1 }
+        ensures { (files : List ℕ → Option (List ℕ)) (run : Run) → OnOk result
+            (CountsOn files run (lines_left (test scripts.now) (changes images.old) (test images.old) session.old self.old (generated_lines features)) self.old
+            → CountsOn files run (lines_left (test scripts.now) (changes images.old) (test images.new) session.new self.new []) self.new) }
+    {
+        let mut line = Vec::new(self.alloc);
+        for place in 0..line_count_of(features) {
+            put_line(features, place, &mut line)?;
+            self.answer(session, line.as_slice(), images, scripts)?;
+        }
+        Ok(())
+    }
+
+    // Counts what the next line is answered.
+    fn answer(
+        &mut self,
+        session: &mut Session<'_>,
+        line: &[u8],
+        images: &mut dyn HostOp,
+        scripts: &dyn HostOp,
+    ) -> Result<(), AllocError>
+        requires sound { IsSoundSession session.old }
+        requires small { IsSmall self.old }
+        ensures sound { IsSoundSession session.new }
+        ensures next { OnOk result (self.new.number ≡ self.old.number + 1) }
+        ensures small { OnOk result (self.new.number ≤ 2 ^ 33 → IsSmall self.new) }
+        ensures changes { changes images.new ≡ changes images.old }
+        ensures on { (files : List ℕ → Option (List ℕ)) (run : Run) (rest : List (List ℕ)) → OnOk result
+            (CountsOn files run (lines_left (test scripts.now) (changes images.old) (test images.old) session.old self.old (line.now ∷ rest)) self.old
+            → CountsOn files run (lines_left (test scripts.now) (changes images.old) (test images.new) session.new self.new rest) self.new) }
+    {
+        self.text.clear();
+        let line = ScriptLine {
+            number: self.number,
+            bytes: line,
+        };
+        let refused = answer_line(self.alloc, session, &line, images, scripts, &mut self.text)?;
+        self.lines += line_count(self.text.as_slice()) as u128;
+        self.bytes += self.text.len() as u128;
+        self.any = self.any || refused;
+        self.number += 1;
+        Ok(())
+    }
+
+    // The line of counts, in the place of what was answered.
+    fn finish(&self, features: u32) -> Result<RunOutput, AllocError>
+        ensures { IfOk result (λ answer. outcome_of answer ≡ said (counts_line features self.now.lines self.now.bytes) (ending_by self.now.any)) }
+    {
+        let mut out = Vec::new(self.alloc);
+        write_count(b"features ", features as u128, &mut out)?;
+        write_count(b" lines ", self.lines, &mut out)?;
+        write_count(b" bytes ", self.bytes, &mut out)?;
+        out.extend_from_slice(b"\n")?;
+        Ok(answer_out(self.alloc, out, ending_by(self.any)))
+    }
+}
+
+fn write_count(name: &[u8], count: u128, out: &mut Vec<u8>) -> Result<(), AllocError>
+    ensures { OnOk result (out.new.items ≡ out.old.items ++ (name.now ++ decimal count)) }
+{
+    let mut digits = Buffer::new();
+    out.extend_from_slice(name)?;
+    out.extend_from_slice(digits.format(count).as_bytes())?;
+    Ok(())
+}
+
+fn line_count(text: &[u8]) -> usize
+    ensures { result ≡ line_count text.now }
+{
+    let mut count = 0;
+    for byte in text {
+        if *byte == b'\n' {
+            count += 1;
+        }
+    }
+    count
+}
