@@ -189,6 +189,11 @@ module _ (ms : Members) (distinct : HasDistinctKeys ms) where
         ∙ (edited_found there.0 there.1 (change (elements_of there.0))
         ∙ ap (λ us. unless_too_many (length (change us)) (of_list (sources_of document) (change us))) (sym (listed_is there.0 there.1)))
 
+    members_there : member layers_key document ≡ Some (list (trees_of (layer_list document)))
+    members_there =
+        let there = layers_there in
+        there.1 ∙ ap (λ ts. Some (list ts)) (sym (elements_back there.0) ∙ ap trees_of (sym (listed_is there.0 there.1)))
+
 -- ---- for each document
 
 abbrev AfterLayers : Tree → Type 0
@@ -208,3 +213,17 @@ of_layers (boolean b) distinct none = absurd (cc)
 of_layers (number n) distinct none = absurd (cc)
 of_layers (text s) distinct none = absurd (cc)
 of_layers (list ts) distinct none = absurd (cc)
+
+abbrev LayersAreThere : Tree → Type 0
+LayersAreThere d = member (codes "layers") d ≡ Some (list (trees_of (layer_list d)))
+
+-- The layers of a document of which nothing is found are an array.
+pub layers_are_there : (d : Tree) → HasDistinctMembers d → findings d ≡ [] → member (codes "layers") d ≡ Some (list (trees_of (layer_list d)))
+layers_are_there (object fs) distinct none =
+    let back : object (fields_of (members_of fs)) ≡ object fs = ap object (fields_members fs) in
+    subst LayersAreThere back (members_there (members_of fs) distinct (ap findings back ∙ none))
+layers_are_there null distinct none = absurd (cc)
+layers_are_there (boolean b) distinct none = absurd (cc)
+layers_are_there (number n) distinct none = absurd (cc)
+layers_are_there (text s) distinct none = absurd (cc)
+layers_are_there (list ts) distinct none = absurd (cc)

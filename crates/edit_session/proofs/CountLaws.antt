@@ -11,3 +11,6 @@ limit_by count most limit room false is = lt-leb (min count most) limit (omega (
 pub limit_at : (counted count : ℕ) → counted ≡ min count (2 ^ 128 - 1) → nat_le counted cell_limit ≡ within_limit count
 limit_at counted count is =
     ap (λ n. nat_le n cell_limit) is ∙ limit_by count (2 ^ 128 - 1) cell_limit (omega arith) (within_limit count) refl
+
+pub exact_within : (cells count : ℕ) → cells ≡ min count (2 ^ 128 - 1) → nat_le cells cell_limit ≡ true → cells ≡ count
+exact_within cells count is within = omega (arith, is, leb-true cells cell_limit within)

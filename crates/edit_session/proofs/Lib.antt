@@ -2,3 +2,6 @@ pub mod GlobalCells
 pub mod SteadyLayers
 pub mod AppliedLaws
 pub mod CountLaws
+pub mod LayerLists
+pub mod FollowLaws
+pub mod FollowSteps

@@ -3,3 +3,5 @@ pub mod SessionState
 pub mod Opening
 pub mod Applied
 pub mod View
+-- What only contracts of private functions and proofs use.
+pub mod PreparedLayers

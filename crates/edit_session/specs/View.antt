@@ -8,14 +8,16 @@ use Rattle.global_laws.specs.GlobalLaw.{items_name_globals}
 use Rattle.prop_values.specs.Data.{Data}
 use Rattle.style_parts.specs.Parts.{layers_of}
 use Rattle.style_layout.specs.CodeView.{layers_seen, tile_seen}
-use Rattle.style_layout.specs.Layers.{StyleLayer, style_layers}
+use Rattle.style_layout.specs.Layers.{style_layers}
 use Rattle.style_layout.specs.Shown.{SourceTile}
+use Rattle.style_layout.specs.StyleLayout.{cell_count}
 use Rattle.edit_session.specs.Applied.{Reply, done, listed, stats_asked, refused, whole_refusal, with_image, applied}
 use Rattle.edit_session.specs.Opening.{Fault, has_findings, unknown_source, not_vector, too_many_cells, zoom_range}
 use Rattle.edit_session.specs.SessionState.{SessionState}
 use Rattle.edit_session.specs.declared.answer.Answer.{Answer}
 use Rattle.edit_session.specs.declared.answer.Answer.TheVariants.{Done, Listing, Stats, Refused}
 use Rattle.edit_session.specs.declared.answer.Refusal.TheVariants.{FixedImages}
+use Rattle.edit_session.specs.declared.layers.PreparedLayers.{PreparedLayers}
 use Rattle.edit_session.specs.declared.opening.OpenFault.{OpenFault}
 use Rattle.edit_session.specs.declared.opening.OpenFault.TheVariants.{Findings, UnknownSource, NotVector, CellLimit, ZoomRange}
 use Rattle.edit_session.specs.declared.session.Session.{Session}
@@ -59,16 +61,16 @@ lacks_memory session = session.lacks_memory
 abbrev pub reads_globals : Tree → Bool
 reads_globals document = items_name_globals (layers_of document)
 
--- a document over tiles that breaks no rule and is within the limit of cells, with its layers, and whether they read the global state
-pub record IsWholeDocument (tiles : List SourceTile) (globals : List (List ℕ × Data)) (document : Tree) (layers : List StyleLayer) (reads : Bool) : Type 0 where
+-- a document over tiles that breaks no rule and is within the limit of cells, with its layers, their cells, and whether they read the global state
+pub record IsWholeDocument (tiles : List SourceTile) (globals : List (List ℕ × Data)) (document : Tree) (layers : PreparedLayers) : Type 0 where
   pub is_accepted : whole_refusal tiles globals document ≡ None
-  pub is_prepared : layers ≡ style_layers globals document
-  pub is_noted : reads ≡ reads_globals document
+  pub is_prepared : layers_seen layers.style ≡ style_layers globals document
+  pub is_counted : layers.cells ≡ cell_count tiles (style_layers globals document)
+  pub is_noted : layers.reads_globals ≡ false → reads_globals document ≡ false
 
 -- so it is with a session's document
 abbrev pub IsReady : Session → Type 0
-IsReady session =
-    IsWholeDocument (tiles_of session) session.globals (tree_of session.document) (layers_seen session.prepared) session.reads_globals
+IsReady session = IsWholeDocument (tiles_of session) session.globals (tree_of session.document) session.layers
 
 -- What holds of a session from its opening on, until an allocation fails.
 abbrev pub IsSoundSession : Session → Type 0

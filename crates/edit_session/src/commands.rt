@@ -15,9 +15,9 @@ ghost use Rattle.style_edits.specs.Places.{places_of};
 ghost use Rattle.style_rules.specs.Findings.{findings};
 
 use crate::answer::{Answer, Refusal};
-use crate::globals::{reads_globals, set_global};
+use crate::globals::set_global;
 use crate::session::Session;
-use crate::whole::{finding_refusal, prepared_whole};
+use crate::whole::{finding_refusal, note_types};
 use decimal_json::Text;
 use edit_script::Command;
 use host_ops::{HostOp, TellFault};
@@ -25,6 +25,7 @@ use prop_values::{Entries, Value, copy_entries};
 use std::alloc::{AllocError, Global};
 use style_edits::{EditFault, EditPlaces, edit_at, edit_fault, edit_places, undo_edit};
 use style_layout::{Zoom, prepare};
+use style_parts::layers_of;
 
 impl Session<'_> {
     /// The answer to a command, of a session that has memory.
@@ -137,8 +138,8 @@ impl Session<'_> {
         ensures ready { OnOk result (IsReady self.new) }
     {
         set_global(self.alloc, &self.document, name, value, &mut self.globals)?;
-        if self.reads_globals {
-            self.prepared = prepare(self.alloc, &self.document, &self.globals)?;
+        if self.layers.reads_globals {
+            self.layers.style = prepare(self.alloc, &self.document, &self.globals)?;
         }
         Ok(Answer::Done)
     }
@@ -174,23 +175,21 @@ impl Session<'_> {
         ensures tiles { tiles_of self.new ≡ tiles_of self.old }
         ensures ready { OnOk result (IsReady self.new) }
     {
+        note_types(&self.document);
         let undo = edit_at(self.alloc, &mut self.document, places, command)?;
-        match prepared_whole(
+        note_types(&self.document);
+        let is_done = self.layers.follow(
             self.alloc,
-            &self.document,
             &self.globals,
+            layers_of(&self.document),
+            &undo,
             self.tiles.as_slice(),
-        )? {
-            Ok(prepared) => {
-                self.prepared = prepared;
-                self.reads_globals = reads_globals(&self.document);
-                Ok(Answer::Done)
-            }
-            Err(refusal) => {
-                undo_edit(&mut self.document, undo)?;
-                Ok(Answer::Refused(refusal))
-            }
+        )?;
+        if is_done {
+            return Ok(Answer::Done);
         }
+        undo_edit(&mut self.document, undo)?;
+        Ok(Answer::Refused(Refusal::CellLimit))
     }
 }
 

@@ -64,7 +64,7 @@ pub(crate) fn reads_globals(document: &Json) -> bool
 
 #[tactic(auto, using(decimal_json::specs::Falls::item_weight, decimal_json::specs::Falls::member_weight))]
 #[cycle(names)]
-fn names_globals(json: &Json) -> bool
+pub(crate) fn names_globals(json: &Json) -> bool
     ensures { result ≡ names_globals (tree_of json.now) }
 {
     match json {

@@ -14,9 +14,9 @@
 //! (`tell_count_after`). Once allocation fails in `apply` a session answers so ever after, and the test of images that was borrowed
 //! lets the texts pass that it let pass.
 //!
-//! Of an edit of layers only the part that it changes is checked against the rules; then the document is prepared anew. A value of the
-//! global state is set in time logarithmic in their number, and prepares the document anew only where a text in its layers is
-//! `global-state`.
+//! Of an edit of layers only the part that it changes is checked against the rules, and only the layer that it changes is prepared anew
+//! and its cells counted. A value of the global state is set in time logarithmic in their number, and prepares the layers anew only
+//! where a text in them is `global-state`, or was before an edit.
 //!
 //! The text to believe is in `specs/`: `SessionState`, `Opening`, `Applied`, `View`.
 #![tactic(auto)]
@@ -24,6 +24,7 @@
 mod answer;
 mod commands;
 mod globals;
+mod layers;
 mod opening;
 mod session;
 mod whole;

@@ -1,14 +1,13 @@
 //! Why a session cannot be opened.
 
-ghost use Rattle.std.specs.Prelude.{◌≡◌, map, option_map};
+ghost use Rattle.std.specs.Prelude.{◌≡◌, ℕ, ◌-◌, ◌^◌, map, min, option_map, true};
 ghost use Rattle.decimal_json.specs.View.{tree_of};
 ghost use Rattle.style_parts.specs.Parts.{source_at};
 ghost use Rattle.edit_session.specs.Opening.{first_failing, has_source, is_vector, within_limit};
-ghost use Rattle.style_layout.specs.CodeView.{layers_seen, tile_seen};
-ghost use Rattle.style_layout.specs.StyleLayout.{cell_count};
+ghost use Rattle.style_layout.specs.CodeView.{tile_seen};
 
 use decimal_json::Json;
-use style_layout::{PreparedStyle, SourceTile, cell_count};
+use style_layout::SourceTile;
 use style_parts::source_at;
 
 /// Why a session cannot be opened, in the order in which the causes are looked for.
@@ -63,10 +62,12 @@ fn is_vector(style: &Json, name: &str) -> bool
     }
 }
 
-/// Whether a style has no more cells over tiles than a session may have.
-#[tactic(auto, using(crate::proofs::CountLaws::limit_at))]
-pub(crate) fn is_within_limit(style: &PreparedStyle, tiles: &[SourceTile<'_>]) -> bool
-    ensures { result ≡ within_limit (cell_count (map tile_seen tiles.now) (layers_seen style.now)) }
+/// Whether so many cells, counted up to `u128::MAX`, are no more than a session may have.
+#[tactic(auto, using(crate::proofs::CountLaws::limit_at, crate::proofs::CountLaws::exact_within))]
+pub(crate) fn is_within_limit(cells: u128) -> bool
+    ensures within { result ≡ within_limit cells }
+    ensures limit { (count : ℕ) → cells ≡ min count (2 ^ 128 - 1) → result ≡ within_limit count }
+    ensures exact { (count : ℕ) → cells ≡ min count (2 ^ 128 - 1) → result ≡ true → cells ≡ count }
 {
-    cell_count(style, tiles) <= CELL_LIMIT
+    cells <= CELL_LIMIT
 }

@@ -13,7 +13,7 @@ ghost use Rattle.style_layout.specs.CodeView.{tile_seen};
 ghost use Rattle.style_rules.specs.Findings.{findings};
 
 use crate::answer::Answer;
-use crate::globals::reads_globals;
+use crate::layers::PreparedLayers;
 use crate::opening::{OpenFault, first_of_no_vector, first_unknown, is_within_limit};
 use decimal_json::Json;
 use edit_script::Command;
@@ -22,10 +22,7 @@ use fixed_num::Fixed;
 use host_ops::HostOp;
 use prop_values::Entries;
 use std::alloc::{AllocError, Global};
-use style_layout::{
-    PreparedStyle, Scene, SourceTile, TreeWalk, Zoom, cell_count, globals_of, prepare,
-    write_listing,
-};
+use style_layout::{Scene, SourceTile, TreeWalk, Zoom, globals_of, write_listing};
 use style_parts::is_zoom;
 use style_rules::findings;
 
@@ -41,9 +38,7 @@ pub struct Session<'a> {
     pub(crate) states: States,
     pub(crate) globals: Entries,
     /// The layers of the document, by the values of the global state.
-    pub(crate) prepared: PreparedStyle,
-    /// Whether the layers may read the global state.
-    pub(crate) reads_globals: bool,
+    pub(crate) layers: PreparedLayers,
     pub(crate) lacks_memory: bool,
 }
 
@@ -93,11 +88,10 @@ impl<'a> Session<'a> {
         if let Some(source) = first_of_no_vector(&style, tiles.as_slice()) {
             return Ok(Err(OpenFault::NotVector(source)));
         }
-        let reads_globals = reads_globals(&style);
         let globals = globals_of(alloc, &style)?;
-        let prepared = prepare(alloc, &style, &globals)?;
-        if !is_within_limit(&prepared, tiles.as_slice()) {
-            let cells = cell_count(&prepared, tiles.as_slice());
+        let layers = PreparedLayers::of(alloc, &style, &globals, tiles.as_slice())?;
+        let cells = layers.cells();
+        if !is_within_limit(cells) {
             return Ok(Err(OpenFault::CellLimit(cells)));
         }
         if !is_zoom(zoom) {
@@ -110,8 +104,7 @@ impl<'a> Session<'a> {
             zoom: Zoom::new(zoom),
             states: States::new(alloc),
             globals,
-            prepared,
-            reads_globals,
+            layers,
             lacks_memory: false,
         }))
     }
@@ -170,6 +163,6 @@ impl<'a> Session<'a> {
             evaluator: TreeWalk { images, scripts },
         };
         let tiles = self.tiles.as_slice();
-        write_listing(self.alloc, &self.prepared, &scene, tiles, out)
+        write_listing(self.alloc, &self.layers.style, &scene, tiles, out)
     }
 }

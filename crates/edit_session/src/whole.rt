@@ -1,26 +1,24 @@
-//! What is asked of the document that an edit makes: that it breaks no rule and has not too many cells.
+//! What is known of a document that breaks no rule, and of the one that an edit makes.
 
-ghost use Rattle.std.specs.Prelude.{◌≡◌, [], map, None, IfOk};
-ghost use Rattle.std.specs.Result.{result_err};
+ghost use Rattle.std.specs.Prelude.{◌≡◌, [], None, IfOk};
 ghost use Rattle.decimal_json.specs.View.{tree_of};
 ghost use Rattle.edit_script.specs.View.{command_seen};
-ghost use Rattle.edit_session.specs.Applied.{first_finding, whole_refusal};
+ghost use Rattle.edit_session.specs.Applied.{first_finding};
+ghost use Rattle.edit_session.specs.PreparedLayers.{AreTyped};
 ghost use Rattle.style_edits.specs.Edited.{edited};
 ghost use Rattle.style_edits.specs.Faults.{edit_fault};
+ghost use Rattle.style_edits.specs.Layers.{layer_list};
 ghost use Rattle.style_edits.specs.Places.{places_of};
-ghost use Rattle.style_layout.specs.CodeView.{layers_seen, tile_seen};
-ghost use Rattle.style_layout.specs.Layers.{style_layers};
+ghost use Rattle.style_edits.specs.Taking.{HasLayers};
 ghost use Rattle.style_rules.specs.Findings.{findings};
 
 use crate::answer::Refusal;
-use crate::opening::is_within_limit;
 use decimal_json::Json;
 use edit_findings::findings_at;
 use edit_script::Command;
-use prop_values::Entries;
 use std::alloc::{AllocError, Global};
 use style_edits::EditPlaces;
-use style_layout::{PreparedStyle, SourceTile, prepare};
+use style_rules::documents_have_distinct_members;
 
 /// The refusal of an edit of a document without findings, where the edited document breaks a rule.
 #[tactic(auto, using(crate::proofs::AppliedLaws::first_refused))]
@@ -41,23 +39,11 @@ pub(crate) fn finding_refusal(
     }
 }
 
-/// A document without findings that is within the limit of cells, prepared; or its refusal.
-#[tactic(auto, using(crate::proofs::AppliedLaws::whole_by_cells))]
-pub(crate) fn prepared_whole(
-    alloc: Global,
-    document: &Json,
-    globals: &Entries,
-    tiles: &[SourceTile<'_>],
-) -> Result<Result<PreparedStyle, Refusal>, AllocError>
+/// That each layer of a document without findings has a type, and is one of an array.
+pub(crate) fn note_types(document: &Json)
     requires { findings (tree_of document.now) ≡ [] }
-    ensures prepared { IfOk result (λ made. IfOk made (λ prepared.
-        layers_seen prepared ≡ style_layers globals.now (tree_of document.now))) }
-    ensures refusal { IfOk result (λ made.
-        result_err made ≡ whole_refusal (map tile_seen tiles.now) globals.now (tree_of document.now)) }
+    ensures typed { AreTyped (layer_list (tree_of document.now)) }
+    ensures there { HasLayers (tree_of document.now) (layer_list (tree_of document.now)) }
 {
-    let prepared = prepare(alloc, document, globals)?;
-    if !is_within_limit(&prepared, tiles) {
-        return Ok(Err(Refusal::CellLimit));
-    }
-    Ok(Ok(prepared))
+    documents_have_distinct_members(document);
 }

@@ -25,8 +25,9 @@ pub fn cell_count(style: &PreparedStyle, tiles: &[SourceTile<'_>]) -> u128
     count
 }
 
+/// The cells of one layer; or `u128::MAX`, where there are more.
 #[tactic(auto, using(crate::proofs::CellLaws::product_saturates))]
-fn layer_cells(layer: &StyleLayer, tiles: &[SourceTile<'_>]) -> u128
+pub fn layer_cells(layer: &StyleLayer, tiles: &[SourceTile<'_>]) -> u128
     ensures { result ≡ min (layer_cells (map tile_seen tiles.now) (layer_seen layer.now)) (2 ^ 128 - 1) }
 {
     let listed = u128::from(per_feature_count(layer.properties.as_slice()));

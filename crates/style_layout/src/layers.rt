@@ -20,9 +20,9 @@ use std::alloc::{AllocError, Global};
 use style_parts::number_in;
 use value_forms::{is_unread_type, layer_type};
 
-/// A layer.
+/// A layer of a style, of which each value is read once.
 #[derive(Drop)]
-pub(crate) struct StyleLayer {
+pub struct StyleLayer {
     pub(crate) id: Text,
     pub(crate) layer_type: LayerType,
     /// Empty where there is none.
@@ -36,8 +36,8 @@ pub(crate) struct StyleLayer {
     pub(crate) properties: Vec<Property>,
 }
 
-/// A layer as its layout reads it; none where it has no type.
-pub(crate) fn layer_of(
+/// A layer as its layout reads it, by the values of the global state; none where it has no type.
+pub fn prepare_layer(
     alloc: Global,
     globals: &Entries,
     layer: &Json,

@@ -34,8 +34,9 @@ mod sorted;
 mod values;
 mod zoom;
 
-pub use cells::cell_count;
+pub use cells::{cell_count, layer_cells};
 pub use globals::{global_default, globals_of};
+pub use layers::{StyleLayer, prepare_layer};
 pub use listing::write_listing;
 pub use prepared::{PreparedStyle, prepare};
 pub use scene::{Evaluator, Scene, SourceTile, TreeWalk};

@@ -1,15 +1,16 @@
 //! A style, of which each value is read once.
 
-ghost use Rattle.std.specs.Prelude.{◌≡◌, IfOk};
+ghost use Rattle.std.specs.Prelude.{◌≡◌, ◌<◌, ◌≤◌, insert, length, remove, slice_index_or, slice_set, IfOk, OnErr, OnOk};
 ghost use Rattle.decimal_json.specs.View.{tree_of};
 ghost use Rattle.style_parts.specs.Parts.{layers_of};
-ghost use Rattle.style_layout.specs.CodeView.{layers_seen};
-ghost use Rattle.style_layout.specs.Layers.{style_layers};
+ghost use Rattle.style_layout.specs.CodeView.{layer_seen, layers_seen};
+ghost use Rattle.style_layout.specs.Layers.{style_layers, StyleLayer as Layer};
 
-use crate::layers::{StyleLayer, layer_of};
+use crate::layers::{StyleLayer, prepare_layer};
 use decimal_json::Json;
 use prop_values::Entries;
 use std::alloc::{AllocError, Global};
+use std::mem;
 use style_parts::layers_of;
 
 /// A style as its layout reads it.
@@ -29,10 +30,63 @@ pub fn prepare(
     let found = layers_of(document);
     let mut layers = Vec::new(alloc);
     for layer in found {
-        match layer_of(alloc, globals, layer)? {
+        match prepare_layer(alloc, globals, layer)? {
             Some(layer) => layers.push(layer)?,
             None => {}
         }
     }
     Ok(PreparedStyle { layers })
+}
+
+impl PreparedStyle {
+    /// The layer at a place.
+    pub fn layer(&self, place: usize) -> &StyleLayer
+        requires { place < length (layers_seen self.now) }
+        ensures { layer_seen result.now ≡ slice_index_or (layers_seen self.now) place (layer_seen result.now) }
+    {
+        &self.layers[place]
+    }
+
+    /// Puts a layer in place of the one at a place. Takes constant time.
+    pub fn replace(&mut self, place: usize, layer: StyleLayer)
+        requires { place < length (layers_seen self.old) }
+        ensures { layers_seen self.new ≡ slice_set (layers_seen self.old) place (layer_seen layer) }
+    {
+        let _ = mem::replace(&mut self.layers[place], layer);
+    }
+
+    /// Puts a layer before the one at a place, or last where the place is the number of layers. Takes time linear in the
+    /// layers.
+    pub fn insert(&mut self, place: usize, layer: StyleLayer) -> Result<(), AllocError>
+        requires { place ≤ length (layers_seen self.old) }
+        ensures ok { OnOk result (layers_seen self.new ≡ insert (layers_seen self.old) place (layer_seen layer)) }
+        ensures err { OnErr result (layers_seen self.new ≡ layers_seen self.old) }
+    {
+        let Ok(()) = self.layers.insert(place, layer) else {
+            return Err(AllocError);
+        };
+        Ok(())
+    }
+
+    /// Takes the layer at a place out. Takes time linear in the layers.
+    pub fn remove(&mut self, place: usize)
+        requires { place < length (layers_seen self.old) }
+        ensures { layers_seen self.new ≡ remove (layers_seen self.old) place }
+    {
+        let _ = self.layers.remove(place);
+    }
+
+    /// Moves the layer at a place to another, and the layers in between by one place. Takes time linear in the layers, and
+    /// no memory.
+    pub fn move_layer(&mut self, from: usize, to: usize)
+        requires from { from < length (layers_seen self.old) }
+        requires to { to < length (layers_seen self.old) }
+        ensures { (other : Layer) → layers_seen self.new
+            ≡ insert (remove (layers_seen self.old) from) to (slice_index_or (layers_seen self.old) from other) }
+    {
+        let layer = self.layers.remove(from);
+        let Ok(()) = self.layers.insert(to, layer) else {
+            unreachable!()
+        };
+    }
 }

@@ -1,29 +1,89 @@
-use Rattle.std.proofs.Common.{ap, sym, ◌∙◌, map}
-use Rattle.std.specs.Result.{result_err}
-use Rattle.decimal_json.specs.View.{tree_of}
+use Rattle.std.proofs.Common.{◌≡◌, List, Bool, true, false, ap, map, sym, subst, ◌∙◌}
+use Rattle.decimal_json.specs.Tree.{Tree}
+use Rattle.decimal_json.specs.View.{items_view, tree_of}
 use Rattle.edit_script.specs.View.{command_seen}
+use Rattle.style_edits.proofs.DocumentLaws.{layers_listed}
+use Rattle.style_edits.specs.Layers.{layer_list}
+use Rattle.style_edits.specs.Undone.{IsWithin, undone_layers}
 use Rattle.style_layout.specs.CodeView.{tile_seen}
+use Rattle.style_layout.specs.Shown.{SourceTile}
 use Rattle.style_rules.specs.Findings.{findings}
-use Rattle.edit_session.specs.Applied.{whole_refusal}
-use Rattle.edit_session.specs.View.{session_state, tiles_of}
-use Rattle.edit_session.proofs.AppliedLaws.{layers_accepted, layers_refused}
+use Rattle.edit_session.specs.PreparedLayers.{AreTyped, ArePrepared, Follows}
+use Rattle.edit_session.specs.View.{session_state, tiles_of, IsWholeDocument}
+use Rattle.edit_session.specs.declared.answer.Refusal.TheVariants.{CellLimit}
+use Rattle.edit_session.proofs.AppliedLaws.{accepted_is_sound, layers_accepted, layers_refused}
+use Rattle.edit_session.proofs.FollowLaws.{before_edit, few_cells, is_prepared, is_refused, is_whole, not_refused}
 use Rattle.edit_session.proofs.session.Session.edit_sound.Goals as goal
 
-pub prepared_whole-requires : goal.prepared_whole-requires
-prepared_whole-requires c = ap findings c.in_ok-undo.ensures.edited ∙ c.requires.sound
+pub note_types-requires : goal.note_types-requires
+note_types-requires c =
+    let s = c.args.self.now in accepted_is_sound (tiles_of s) s.globals (tree_of s.document) c.requires.ready.is_accepted
 
-pub returns-in-Ok-clause-answer : goal.returns-in-Ok-clause-answer
-returns-in-Ok-clause-answer c = λ has_image scripts can_change.
-    layers_accepted (tiles_of c.args.self.now) scripts can_change (session_state c.args.self.now has_image) (command_seen c.args.command.now)
-    c.requires.layers c.requires.possible (tree_of c.edit_at.new.style) c.in_ok-undo.ensures.edited
-    (ap (λ ts. whole_refusal (map tile_seen ts) c.args.self.now.globals (tree_of c.edit_at.new.style)) (sym c.as_slice.ensures.value)
-    ∙ (sym c.in_ok-prepared.ensures.refusal ∙ ap result_err c.in-Ok.is))
+pub note_types-requires-2 : goal.note_types-requires-2
+note_types-requires-2 c = ap findings c.in_ok-undo.ensures.edited ∙ c.requires.sound
 
-pub returns-in_ok-undo_edit-in-Err-clause-answer : goal.returns-in_ok-undo_edit-in-Err-clause-answer
-returns-in_ok-undo_edit-in-Err-clause-answer c = λ has_image scripts can_change.
-    layers_refused (tiles_of c.args.self.now) scripts can_change (session_state c.args.self.now has_image) (command_seen c.args.command.now)
-    c.requires.layers c.requires.possible (tree_of c.edit_at.new.style) c.in_ok-undo.ensures.edited
-    c.in-Err.refusal (tree_of c.undo_edit.new.style)
-    (ap (λ ts. whole_refusal (map tile_seen ts) c.args.self.now.globals (tree_of c.edit_at.new.style)) (sym c.as_slice.ensures.value)
-    ∙ (sym c.in_ok-prepared.ensures.refusal ∙ ap result_err c.in-Err.is))
-    (c.in_ok-undo_edit-in-Err.ensures.ok ∙ c.in_ok-undo.ensures.undo.1)
+pub follow-requires-clause-before : goal.follow-requires-clause-before
+follow-requires-clause-before c =
+    let s = c.args.self.now in
+    let after = tree_of c.edit_at.new.style in
+    let us = items_view c.layers_of.result.now in
+    let is : us ≡ layer_list after = layers_listed after c.layers_of.result.now c.layers_of.ensures in
+    let before = before_edit c.in_ok-undo.undo (tree_of s.document) after us c.in_ok-undo.ensures.undo c.note_types-2.ensures.there is in
+    subst (λ (tiles : List SourceTile). ArePrepared tiles s.globals (undone_layers c.in_ok-undo.undo us) s.layers)
+    (sym (ap (map tile_seen) c.as_slice.ensures.value))
+    (is_prepared (tiles_of s) s.globals (tree_of s.document) s.layers _ c.requires.ready c.note_types.ensures.typed before)
+
+pub follow-requires-clause-few : goal.follow-requires-clause-few
+follow-requires-clause-few c =
+    let s = c.args.self.now in
+    few_cells (tiles_of s) s.globals (tree_of s.document) s.layers c.requires.ready
+    (accepted_is_sound (tiles_of s) s.globals (tree_of s.document) c.requires.ready.is_accepted)
+
+pub follow-requires-clause-within : goal.follow-requires-clause-within
+follow-requires-clause-within c =
+    let after = tree_of c.edit_at.new.style in
+    subst (IsWithin c.in_ok-undo.undo) (sym (layers_listed after c.layers_of.result.now c.layers_of.ensures)) c.in_ok-undo.ensures.undo.0
+
+pub follow-requires-clause-typed : goal.follow-requires-clause-typed
+follow-requires-clause-typed c =
+    let after = tree_of c.edit_at.new.style in
+    subst AreTyped (sym (layers_listed after c.layers_of.result.now c.layers_of.ensures)) c.note_types-2.ensures.typed
+
+pub returns-then-is_done-clause-answer : goal.returns-then-is_done-clause-answer
+returns-then-is_done-clause-answer c = λ has_image scripts can_change.
+    let s = c.args.self.now in
+    let after = tree_of c.edit_at.new.style in
+    let us = items_view c.layers_of.result.now in
+    let is : us ≡ layer_list after = layers_listed after c.layers_of.result.now c.layers_of.ensures in
+    let none = ap findings c.in_ok-undo.ensures.edited ∙ c.requires.sound in
+    let follows = subst (λ (tiles : List SourceTile). Follows tiles s.globals us c.in_ok-is_done.is_done s.layers c.follow.new.self)
+    (ap (map tile_seen) c.as_slice.ensures.value) c.in_ok-is_done.ensures in
+    layers_accepted (tiles_of s) scripts can_change (session_state s has_image) (command_seen c.args.command.now)
+    c.requires.layers c.requires.possible after c.in_ok-undo.ensures.edited
+    (not_refused (tiles_of s) s.globals after none c.note_types-2.ensures.typed us is (sym c.if-is_done.true ∙ follows.limit))
+
+pub returns-then-is_done-clause-ready : goal.returns-then-is_done-clause-ready
+returns-then-is_done-clause-ready c =
+    let s = c.args.self.now in
+    let after = tree_of c.edit_at.new.style in
+    let us = items_view c.layers_of.result.now in
+    let is : us ≡ layer_list after = layers_listed after c.layers_of.result.now c.layers_of.ensures in
+    let none = ap findings c.in_ok-undo.ensures.edited ∙ c.requires.sound in
+    let follows = subst (λ (tiles : List SourceTile). Follows tiles s.globals us c.in_ok-is_done.is_done s.layers c.follow.new.self)
+    (ap (map tile_seen) c.as_slice.ensures.value) c.in_ok-is_done.ensures in
+    is_whole (tiles_of s) s.globals after none c.note_types-2.ensures.typed us is c.follow.new.self
+    (sym c.if-is_done.true ∙ follows.limit) (follows.prepared c.if-is_done.true)
+
+pub returns-clause-answer : goal.returns-clause-answer
+returns-clause-answer c = λ has_image scripts can_change.
+    let s = c.args.self.now in
+    let after = tree_of c.edit_at.new.style in
+    let us = items_view c.layers_of.result.now in
+    let is : us ≡ layer_list after = layers_listed after c.layers_of.result.now c.layers_of.ensures in
+    let none = ap findings c.in_ok-undo.ensures.edited ∙ c.requires.sound in
+    let follows = subst (λ (tiles : List SourceTile). Follows tiles s.globals us c.in_ok-is_done.is_done s.layers c.follow.new.self)
+    (ap (map tile_seen) c.as_slice.ensures.value) c.in_ok-is_done.ensures in
+    layers_refused (tiles_of s) scripts can_change (session_state s has_image) (command_seen c.args.command.now)
+    c.requires.layers c.requires.possible after c.in_ok-undo.ensures.edited CellLimit (tree_of c.undo_edit.new.style)
+    (is_refused (tiles_of s) s.globals after none c.note_types-2.ensures.typed us is (sym c.if-is_done.false ∙ follows.limit))
+    (c.in_ok-undo_edit.ensures.ok ∙ c.in_ok-undo.ensures.undo.1)

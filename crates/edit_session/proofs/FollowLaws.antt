@@ -1,0 +1,99 @@
+-- Documents whose layers are prepared one by one.
+use Rattle.std.proofs.Common.{◌≡◌, ◌∙◌, ℕ, List, [], map, refl, ap, sym, subst, Bool, true, false, Option, Some, None}
+use Rattle.std.specs.Prelude.{codes, if◌then◌else◌}
+use Rattle.decimal_json.specs.Accessors.{member}
+use Rattle.decimal_json.specs.Tree.{Tree, list, trees_of}
+use Rattle.edit_script.proofs.Elements.{elements_made}
+use Rattle.edit_findings.proofs.DocumentLaws.{elements_back, of_layers}
+use Rattle.edit_findings.proofs.TypedLaws.{layers_typed}
+use Rattle.prop_values.specs.Data.{Data}
+use Rattle.global_laws.specs.GlobalLaw.{items_name_globals}
+use Rattle.style_edits.proofs.DocumentLaws.{listed}
+use Rattle.style_edits.proofs.ObjectLaws.{member_replaced}
+use Rattle.style_edits.specs.Layers.{layer_list, with_list, with_changed, with_layers}
+use Rattle.style_edits.specs.Taking.{HasLayers}
+use Rattle.style_edits.specs.Undone.{IsUndo, IsWithin, undone_layers}
+use Rattle.style_edits.specs.declared.undo.Undo.{Undo}
+use Rattle.style_parts.specs.Parts.{layers_of, sources_of}
+use Rattle.style_layout.specs.Layers.{layers_in, style_layers}
+use Rattle.style_layout.specs.Shown.{SourceTile}
+use Rattle.style_layout.specs.StyleLayout.{cell_count}
+use Rattle.style_rules.specs.Findings.{findings}
+use Rattle.style_rules.specs.Levels.{HasDistinctMembers}
+use Rattle.edit_session.proofs.AppliedLaws.{whole_by_cells}
+use Rattle.edit_session.proofs.LayerLists.{all_prepared}
+use Rattle.edit_session.specs.Applied.{limit_refusal, whole_refusal}
+use Rattle.edit_session.specs.Opening.{within_limit}
+use Rattle.edit_session.specs.PreparedLayers.{AreTyped, ArePrepared, Follows, prepared_layers}
+use Rattle.edit_session.specs.View.{IsWholeDocument, reads_globals}
+use Rattle.edit_session.specs.declared.answer.Refusal.{Refusal}
+use Rattle.edit_session.specs.declared.answer.Refusal.TheVariants.{CellLimit}
+use Rattle.edit_session.specs.declared.layers.PreparedLayers.{PreparedLayers}
+
+pub typed_layers : (d : Tree) → HasDistinctMembers d → findings d ≡ [] → AreTyped (layer_list d)
+typed_layers d distinct none = layers_typed (sources_of d) (layer_list d) (of_layers d distinct none).0.found
+
+-- the layers of a document once they are changed
+changed_list : (d : Tree) (ts : List Tree) → HasLayers d ts → (change : List Tree → List Tree) → layer_list (with_layers change d) ≡ change ts
+changed_list d ts there change =
+    let made = ap (λ o. with_changed change o d) there ∙ ap (λ us. with_list (change us) d) (elements_made ts) in
+    ap layer_list made ∙ listed (with_list (change ts) d) (change ts) (member_replaced (codes "layers") (list (trees_of ts)) (list (trees_of (change ts))) d there)
+
+pub before_edit : (undo : Undo) (before after : Tree) (us : List Tree) → IsUndo undo before after → HasLayers after (layer_list after) → us ≡ layer_list after
+    → layer_list before ≡ undone_layers undo us
+before_edit undo before after us back there is =
+    ap layer_list (sym back.1) ∙ (changed_list after (layer_list after) there (undone_layers undo) ∙ ap (undone_layers undo) (sym is))
+
+module _ (tiles : List SourceTile) (globals : List (List ℕ × Data)) where
+  style_is : (d : Tree) → AreTyped (layer_list d) → style_layers globals d ≡ prepared_layers globals (layer_list d)
+  style_is d typed =
+      ap (layers_in globals) (sym (elements_back (layers_of d))) ∙ all_prepared globals (layer_list d) typed
+
+  pub is_prepared : (d : Tree) (p : PreparedLayers) (us : List Tree) → IsWholeDocument tiles globals d p → AreTyped (layer_list d) → layer_list d ≡ us
+      → ArePrepared tiles globals us p
+  is_prepared d p us whole typed is =
+      let same = style_is d typed ∙ ap (prepared_layers globals) is in
+      record {
+        layers = whole.is_prepared ∙ same;
+        counted = whole.is_counted ∙ ap (cell_count tiles) same;
+        noted = λ off. ap items_name_globals (ap trees_of (sym is) ∙ elements_back (layers_of d)) ∙ whole.is_noted off;
+      }
+
+  -- a count within the limit is not refused
+  unlimited : (count : ℕ) → within_limit count ≡ true → limit_refusal count ≡ None
+  unlimited count h = ap (λ b. if b then None else Some CellLimit) h
+
+  limited : (count : ℕ) → within_limit count ≡ false → limit_refusal count ≡ Some CellLimit
+  limited count h = ap (λ b. if b then None else Some CellLimit) h
+
+  within : (count : ℕ) (b : Bool) → within_limit count ≡ b → limit_refusal count ≡ None → within_limit count ≡ true
+  within count true is h = is
+  within count false is h = absurd (let e = sym (limited count is) ∙ h in cc)
+
+  pub few_cells : (d : Tree) (p : PreparedLayers) → IsWholeDocument tiles globals d p → findings d ≡ [] → within_limit p.cells ≡ true
+  few_cells d p whole none =
+      let count = cell_count tiles (style_layers globals d) in
+      ap within_limit whole.is_counted
+      ∙ within count (within_limit count) refl (sym (whole_by_cells tiles globals d none) ∙ whole.is_accepted)
+
+  module _ (d : Tree) (none : findings d ≡ []) (typed : AreTyped (layer_list d)) (us : List Tree) (is : us ≡ layer_list d) where
+    same_layers : style_layers globals d ≡ prepared_layers globals us
+    same_layers = style_is d typed ∙ ap (prepared_layers globals) (sym is)
+
+    same_limit : (b : Bool) → b ≡ within_limit (cell_count tiles (prepared_layers globals us)) → within_limit (cell_count tiles (style_layers globals d)) ≡ b
+    same_limit b h = ap (λ ls. within_limit (cell_count tiles ls)) same_layers ∙ sym h
+
+    pub not_refused : true ≡ within_limit (cell_count tiles (prepared_layers globals us)) → whole_refusal tiles globals d ≡ None
+    not_refused h = whole_by_cells tiles globals d none ∙ unlimited _ (same_limit true h)
+
+    pub is_refused : false ≡ within_limit (cell_count tiles (prepared_layers globals us)) → whole_refusal tiles globals d ≡ Some CellLimit
+    is_refused h = whole_by_cells tiles globals d none ∙ limited _ (same_limit false h)
+
+    pub is_whole : (p : PreparedLayers) → true ≡ within_limit (cell_count tiles (prepared_layers globals us)) → ArePrepared tiles globals us p
+        → IsWholeDocument tiles globals d p
+    is_whole p h prepared = record {
+      is_accepted = not_refused h;
+      is_prepared = prepared.layers ∙ sym same_layers;
+      is_counted = prepared.counted ∙ ap (cell_count tiles) (sym same_layers);
+      is_noted = λ off. ap items_name_globals (sym (ap trees_of is ∙ elements_back (layers_of d))) ∙ prepared.noted off;
+    }

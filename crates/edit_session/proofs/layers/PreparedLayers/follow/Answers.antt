@@ -1,0 +1,74 @@
+use Rattle.std.proofs.Common.{◌≡◌, ◌∙◌, ◌<◌, ℕ, List, length, get_or, map, refl, ap, sym, subst, arith}
+use Rattle.std.proofs.lemmas.List.{get_or-map, length-map}
+use Rattle.std.proofs.lemmas.Result.{IfOk-weaker}
+use Rattle.decimal_json.specs.Tree.{Tree, null}
+use Rattle.decimal_json.specs.View.{items_view, tree_of}
+use Rattle.decimal_json.specs.declared.tree.Json.{Json}
+use Rattle.style_edits.specs.Undone.{IsWithin, undone_layers}
+use Rattle.style_edits.specs.declared.undo.Undo.{Undo}
+use Rattle.style_layout.specs.CodeView.{tile_seen}
+use Rattle.edit_session.specs.PreparedLayers.{ArePrepared, IsTyped, prepared_layer}
+use Rattle.edit_session.proofs.FollowSteps.{added_follows, changed_follows, moved_follows, removed_follows}
+use Rattle.edit_session.proofs.LayerLists.{typed_at}
+use Rattle.edit_session.proofs.layers.PreparedLayers.follow.Goals as goal
+
+item_at : (js : List Json) (i : ℕ) (x : Json) → i < length (items_view js) → x ≡ get_or js i x → tree_of x ≡ get_or (items_view js) i null
+item_at js i x h is =
+    let within : i < length js = omega (arith, h, length-map js tree_of) in
+    ap tree_of is ∙ sym (get_or-map tree_of js i x null within)
+
+pub change-requires-clause-typed : goal.change-requires-clause-typed
+change-requires-clause-typed c =
+    let us = items_view c.args.layers.now in
+    let within = subst (λ (u : Undo). IsWithin u us) c.in-Changed.is c.requires.within in
+    subst IsTyped (sym (item_at c.args.layers.now _ _ within c.index-layers-place.is)) (typed_at us _ within c.requires.typed)
+
+pub add-requires-clause-typed : goal.add-requires-clause-typed
+add-requires-clause-typed c =
+    let us = items_view c.args.layers.now in
+    let within = subst (λ (u : Undo). IsWithin u us) c.in-Added.is c.requires.within in
+    subst IsTyped (sym (item_at c.args.layers.now _ _ within c.index-layers-place-in-Added.is)) (typed_at us _ within c.requires.typed)
+
+pub returns-in-Changed : goal.returns-in-Changed
+returns-in-Changed c =
+    let tiles = map tile_seen c.args.tiles.now in
+    let us = items_view c.args.layers.now in
+    let old = c.args.self.now in
+    let within = subst (λ (u : Undo). IsWithin u us) c.in-Changed.is c.requires.within in
+    let before = subst (λ (u : Undo). ArePrepared tiles c.args.globals.now (undone_layers u us) old) c.in-Changed.is c.requires.before in
+    IfOk-weaker c.change.result _ _
+    (λ is_done b. changed_follows tiles c.args.globals.now us old c.change.new.self _ _ _ is_done before (item_at c.args.layers.now _ _ within c.index-layers-place.is) b)
+    c.change.ensures
+
+pub returns-in-Added : goal.returns-in-Added
+returns-in-Added c =
+    let tiles = map tile_seen c.args.tiles.now in
+    let us = items_view c.args.layers.now in
+    let old = c.args.self.now in
+    let within = subst (λ (u : Undo). IsWithin u us) c.in-Added.is c.requires.within in
+    let before = subst (λ (u : Undo). ArePrepared tiles c.args.globals.now (undone_layers u us) old) c.in-Added.is c.requires.before in
+    IfOk-weaker c.add.result _ _
+    (λ is_done b. added_follows tiles c.args.globals.now us old c.add.new.self _ _ is_done within before (item_at c.args.layers.now _ _ within c.index-layers-place-in-Added.is) b)
+    c.add.ensures
+
+pub returns-in-Removed : goal.returns-in-Removed
+returns-in-Removed c =
+    let tiles = map tile_seen c.args.tiles.now in
+    let us = items_view c.args.layers.now in
+    let old = c.args.self.now in
+    let globals = c.args.globals.now in
+    let within = subst (λ (u : Undo). IsWithin u us) c.in-Removed.is c.requires.within in
+    let before = subst (λ (u : Undo). ArePrepared tiles globals (undone_layers u us) old) c.in-Removed.is c.requires.before in
+    removed_follows tiles globals us old c.remove.new.self _ _ within before c.requires.few (prepared_layer globals null)
+    c.remove.ensures.layers c.remove.ensures.cells c.remove.ensures.reads
+
+pub returns-in-Moved : goal.returns-in-Moved
+returns-in-Moved c =
+    let tiles = map tile_seen c.args.tiles.now in
+    let us = items_view c.args.layers.now in
+    let old = c.args.self.now in
+    let globals = c.args.globals.now in
+    let within = subst (λ (u : Undo). IsWithin u us) c.in-Moved.is c.requires.within in
+    let before = subst (λ (u : Undo). ArePrepared tiles globals (undone_layers u us) old) c.in-Moved.is c.requires.before in
+    moved_follows tiles globals us old _ _ _ within.0 within.1 before c.requires.few (prepared_layer globals null)
+    (c.move_layer.ensures (prepared_layer globals null)) refl refl

@@ -1,0 +1,30 @@
+use Rattle.std.proofs.Common.{◌∙◌, sym, subst}
+use Rattle.decimal_json.specs.View.{tree_of}
+use Rattle.edit_session.specs.View.{tiles_of, IsWholeDocument}
+use Rattle.edit_session.specs.declared.session.Session.{Session}
+use Rattle.edit_session.proofs.AppliedLaws.{whole_with}
+use Rattle.edit_session.proofs.GlobalCells.{values_change_no_cell}
+use Rattle.edit_session.proofs.SteadyLayers.{style_steady}
+use Rattle.edit_session.proofs.session.Session.set_global.Goals as goal
+use Rattle.edit_session.proofs.session.Session.set_global.Goals.{then-self+in_ok-self, else-self}
+
+pub returns-clause-ready : goal.returns-clause-ready
+returns-clause-ready c =
+    let s = c.args.self.now in
+    let document = tree_of s.document in
+    let new = c.set_global.new.globals in
+    let ready = c.requires.ready in
+    let whole = whole_with (tiles_of s) document new s.globals ready.is_accepted in
+    let counted = ready.is_counted ∙ sym (values_change_no_cell (tiles_of s) document new s.globals) in
+    let is_ready = λ (x : Session). IsWholeDocument (tiles_of x) x.globals (tree_of x.document) x.layers in
+    elim c.if-self.branch [
+      | then-self+in_ok-self w ↦
+          subst is_ready (sym w.self-is) (record { is_accepted = whole; is_prepared = w.in_ok-self.ensures; is_counted = counted; is_noted = ready.is_noted })
+      | else-self w ↦
+          subst is_ready (sym w.self-is) (record {
+            is_accepted = whole;
+            is_prepared = ready.is_prepared ∙ sym (style_steady document new s.globals (ready.is_noted w.if-self.false));
+            is_counted = counted;
+            is_noted = ready.is_noted;
+          })
+    ]
