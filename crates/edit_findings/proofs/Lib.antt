@@ -5,6 +5,7 @@ pub mod RangeLaws
 pub mod MarkLaws
 pub mod IdLaws
 pub mod OrderLaws
+pub mod NewIdLaws
 pub mod ChangeLaws
 pub mod TypedLaws
 pub mod DocumentLaws

@@ -28,7 +28,7 @@ abbrev pub AreApart : List Tree → Type 0
 AreApart [] = Unit {0}
 AreApart (t ∷ ts) = Each (IsApart t) ts × AreApart ts
 
-other_way : (a b : List ℕ) → not (bytes_eq a b) ≡ true → not (bytes_eq b a) ≡ true
+pub other_way : (a b : List ℕ) → not (bytes_eq a b) ≡ true → not (bytes_eq b a) ≡ true
 other_way a b h = elim (cases_Bool (bytes_eq b a)) [
   | inl same ↦ absurd (both_ways (bytes_eq a b) (not_true (bytes_eq a b) h) ((bytes_eq-Decides a b).1 (sym (is_key b a same))))
   | inr other ↦ ap not other

@@ -1,12 +1,13 @@
 //! The findings of an edited document.
 
 ghost use Rattle.std.specs.Prelude.{◌≡◌, ◌<◌, [], length, map, None, IfOk, IfSome};
+ghost use Rattle.std.specs.Option.{option_and_then};
 ghost use Rattle.decimal_json.specs.View.{items_view, tree_of};
 ghost use Rattle.edit_script.specs.View.{command_seen};
 ghost use Rattle.style_edits.specs.Edited.{edited};
 ghost use Rattle.style_edits.specs.Faults.{edit_fault};
 ghost use Rattle.style_edits.specs.Layers.{layer_list};
-ghost use Rattle.style_edits.specs.Places.{places_of};
+ghost use Rattle.style_edits.specs.Places.{added_id, layer_place, places_of};
 ghost use Rattle.style_rules.specs.CodeView.{finding_seen};
 ghost use Rattle.style_rules.specs.Findings.{findings};
 ghost use Rattle.edit_findings.specs.FoundAfter.{found_by_edit, AreKeyed, HasKeysFor};
@@ -59,6 +60,7 @@ fn found_by_edit(
 ) -> Result<Findings, AllocError>
     requires layer { IfSome places.layer (λ i. i < length (layer_list (tree_of document.now))) }
     requires before { IfSome places.before (λ i. i < length (layer_list (tree_of document.now))) }
+    requires same { places.same ≡ option_and_then (layer_place (layer_list (tree_of document.now))) (added_id (command_seen command.now)) }
     ensures { IfOk result (λ found. map finding_seen found ≡ found_by_edit (tree_of document.now) places (command_seen command.now)) }
 {
     match command {
@@ -69,7 +71,7 @@ fn found_by_edit(
             after_property(alloc, document, places.layer, Place::Layout, name, value)
         }
         Command::SetFilter(_, filter) => after_filter(alloc, places.layer, filter),
-        Command::AddLayer(layer, _) => after_addition(alloc, document, places.before, layer),
+        Command::AddLayer(layer, _) => after_addition(alloc, document, places, layer),
         _ => Ok(Findings::new(alloc)),
     }
 }

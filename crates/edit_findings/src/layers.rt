@@ -1,9 +1,11 @@
 //! The findings of a document to which a layer is added.
 
 ghost use Rattle.std.specs.Prelude.{◌≡◌, ℕ, ◌+◌, ◌<◌, ◌≤◌, ◌^◌, List, [], ◌∷◌, ◌++◌, length, map, nat_le, not, Some, option_map, IfOk, IfSome, OnOk};
-ghost use Rattle.decimal_json.specs.Tree.{trees_of};
+ghost use Rattle.std.specs.Option.{option_and_then};
+ghost use Rattle.decimal_json.specs.Tree.{Tree, trees_of};
 ghost use Rattle.decimal_json.specs.View.{items_view, path_of, tree_of};
 ghost use Rattle.style_edits.specs.Layers.{layer_list};
+ghost use Rattle.style_edits.specs.Places.{layer_place};
 ghost use Rattle.style_rules.specs.CodeView.{finding_seen, has_name};
 ghost use Rattle.style_rules.specs.Places.{used_in};
 ghost use Rattle.edit_findings.specs.FoundAfter.{added_found, differs, id_of, later_found, layer_found, layers_path, most_layers, own_found, same_found};
@@ -11,7 +13,7 @@ ghost use Rattle.edit_findings.specs.FoundAfter.{added_found, differs, id_of, la
 use decimal_json::{Here, Json, Text, path_to};
 use prop_values::{Entries, Value};
 use std::alloc::{AllocError, Global};
-use style_edits::layer_place;
+use style_edits::{EditPlaces, text_id};
 use style_parts::{is_id_of, layers_of};
 use style_rules::{Finding, Findings, documents_have_distinct_members, layer_findings};
 
@@ -28,21 +30,22 @@ pub(crate) fn layer_list(document: &Json) -> &[Json]
 pub(crate) fn after_addition(
     alloc: Global,
     document: &Json,
-    before: Option<usize>,
+    places: EditPlaces,
     layer: &Json,
 ) -> Result<Findings, AllocError>
-    requires { IfSome before (λ i. i < length (layer_list (tree_of document.now))) }
-    ensures { IfOk result (λ found. map finding_seen found ≡ added_found (tree_of document.now) before (tree_of layer.now)) }
+    requires before { IfSome places.before (λ i. i < length (layer_list (tree_of document.now))) }
+    requires same { places.same ≡ option_and_then (layer_place (layer_list (tree_of document.now))) (id_of (tree_of layer.now)) }
+    ensures { IfOk result (λ found. map finding_seen found ≡ added_found (tree_of document.now) places.before (tree_of layer.now)) }
 {
     let layers = layer_list(document);
     if !has_room(layers) {
         return too_many(alloc);
     }
-    let place = match before {
+    let place = match places.before {
         Some(place) => place,
         None => layers.len(),
     };
-    after_layer(alloc, document, place, layer)
+    after_layer(alloc, document, place, places.same, layer)
 }
 
 #[tactic(auto, using(crate::proofs::KeyedLaws::room_is))]
@@ -67,77 +70,71 @@ fn finding_at(alloc: Global, here: &Here<'_>, rule: u8) -> Result<Finding, Alloc
     Ok(Finding { path, rule })
 }
 
-/// What a new layer at a place breaks, and its id in those after it.
+/// What a new layer at a place breaks, and its id in those after it. `same` is the place of the first that has its id.
 fn after_layer(
     alloc: Global,
     document: &Json,
     place: usize,
+    same: Option<usize>,
     layer: &Json,
 ) -> Result<Findings, AllocError>
-    requires { place ≤ length (layer_list (tree_of document.now)) }
+    requires within { place ≤ length (layer_list (tree_of document.now)) }
+    requires same { same ≡ option_and_then (layer_place (layer_list (tree_of document.now))) (id_of (tree_of layer.now)) }
     ensures { IfOk result (λ found. map finding_seen found ≡ layer_found (tree_of document.now) place (tree_of layer.now)) }
 {
-    let mut found = own_findings(alloc, document, place, layer)?;
-    push_later(
-        alloc,
-        layer,
-        place,
-        &layer_list(document)[place..],
-        &mut found,
-    )?;
-    Ok(found)
+    let mut found = own_findings(alloc, document, place, same, layer)?;
+    match same {
+        Some(_) => {
+            push_later(
+                alloc,
+                layer,
+                place,
+                &layer_list(document)[place..],
+                &mut found,
+            )?;
+            Ok(found)
+        }
+        None => Ok(found),
+    }
 }
 
 fn own_findings(
     alloc: Global,
     document: &Json,
     place: usize,
+    same: Option<usize>,
     layer: &Json,
 ) -> Result<Findings, AllocError>
+    requires { same ≡ option_and_then (layer_place (layer_list (tree_of document.now))) (id_of (tree_of layer.now)) }
     ensures { IfOk result (λ found. map finding_seen found ≡ own_found (tree_of document.now) place (tree_of layer.now)) }
 {
     documents_have_distinct_members(layer);
-    let used = used_before(alloc, document, place, text_id(layer))?;
+    let used = used_ids(alloc, is_before(same, place), text_id(layer))?;
     let layers = Here::Key("layers", &Here::Root);
     layer_findings(alloc, document, &used, layer, &Here::Index(place, &layers))
 }
 
-fn text_id(layer: &Json) -> Option<&Text>
-    ensures { option_map (λ id. id.now) result ≡ id_of (tree_of layer.now) }
+// Whether the first layer that has an id stands before a place.
+fn is_before(first: Option<usize>, place: usize) -> bool
+    ensures { (ts : List Tree) (id : List ℕ) → first ≡ layer_place ts id → result ≡ used_in (trees_of ts) place id }
 {
-    match layer.get("id") {
-        Some(Json::Text(id)) => Some(id),
-        _ => None,
+    match first {
+        Some(first) => first < place,
+        None => false,
     }
 }
 
-/// An id, if one of the layers before a place has it.
-fn used_before(
-    alloc: Global,
-    document: &Json,
-    place: usize,
-    id: Option<&Text>,
-) -> Result<Entries, AllocError>
-    ensures { IfOk result (λ used. (s : List ℕ) → option_map (λ own. own.now) id.entry ≡ Some s
-        → has_name used s ≡ used_in (trees_of (layer_list (tree_of document.now))) place s) }
+/// An id, if it is used.
+fn used_ids(alloc: Global, is_used: bool, id: Option<&Text>) -> Result<Entries, AllocError>
+    ensures { IfOk result (λ used. (s : List ℕ) → option_map (λ own. own.now) id.entry ≡ Some s → has_name used s ≡ is_used) }
 {
     let mut used = Entries::new(alloc);
     if let Some(id) = id {
-        if is_used(document, place, id.as_str()) {
+        if is_used {
             used.set(id.share()?, Value::Null)?;
         }
     }
     Ok(used)
-}
-
-#[tactic(auto, using(crate::proofs::AgreeLaws::used_first, crate::proofs::AgreeLaws::used_never))]
-fn is_used(document: &Json, place: usize, id: &str) -> bool
-    ensures { result ≡ used_in (trees_of (layer_list (tree_of document.now))) place id.now }
-{
-    match layer_place(document, id) {
-        Some(first) => first < place,
-        None => false,
-    }
 }
 
 /// Adds the findings of the layers after a new one that have its id.

@@ -78,7 +78,7 @@ module _ (tiles : List SourceTile) (globals : List (List ℕ × Data)) (us : Lis
   moved_follows from to h k before few d moved cells reads =
       let f = prepared_layer globals in
       whole_follows (ap within_limit cells ∙ few) (record {
-        layers = moved ∙ ((λ i. insert (remove (before.layers i) from) to (get_or (before.layers i) from d)) ∙ moved_forth f us from to h k d);
-        counted = cells ∙ (before.counted ∙ cells_moved f us from to h k tiles);
+        layers = moved ∙ ((λ i. insert (remove (before.layers i) from) to (get_or (before.layers i) from d)) ∙ moved_forth us from to h k f d);
+        counted = cells ∙ (before.counted ∙ cells_moved us from to h k f tiles);
         noted = λ q. off_moved us from to h k (before.noted (sym reads ∙ q));
       })

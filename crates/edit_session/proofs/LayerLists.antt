@@ -4,7 +4,8 @@ use Rattle.std.specs.Prelude.{insert, remove, is_some, option_map, unwrap_or, �
 use Rattle.std.proofs.lemmas.List.{get_or-map, length-map, map-set, set-set, set-get_or}
 use Rattle.decimal_json.proofs.Edits.{map_insert, map_remove}
 use Rattle.decimal_json.specs.Tree.{Tree, null, trees_of}
-use Rattle.decimal_json.specs.View.{moved_items}
+use Rattle.decimal_json.specs.View.{items_view, moved_items, tree_of}
+use Rattle.decimal_json.specs.declared.tree.Json.{Json}
 use Rattle.prop_values.specs.Data.{Data}
 use Rattle.property_tables.specs.declared.layer_type.LayerType.{LayerType}
 use Rattle.property_tables.specs.declared.layer_type.LayerType.TheVariants.{Background}
@@ -34,6 +35,12 @@ module _ (globals : List (List ℕ × Data)) where
   all_prepared (t ∷ ts) typed = one_more t (layer_type t) _ _ typed.0 (all_prepared ts typed.1)
 
 -- ---- lists that follow what takes an edit back
+
+-- a layer at a place, as a tree
+pub item_at : (js : List Json) (i : ℕ) (x : Json) → i < length (items_view js) → x ≡ get_or js i x → tree_of x ≡ get_or (items_view js) i null
+item_at js i x h is =
+    let within : i < length js = omega (arith, h, length-map js tree_of) in
+    ap tree_of is ∙ sym (get_or-map tree_of js i x null within)
 
 module _ {X : Type 0} (f : Tree → X) (ts : List Tree) where
   pub changed_back : (i : ℕ) (was : Tree) → set (map f (set ts i was)) i (f (get_or ts i null)) ≡ map f ts
@@ -137,23 +144,24 @@ cells_without tiles f [] i h = absurd (omega (arith, h))
 cells_without tiles f (t ∷ ts) zero h = omega arith
 cells_without tiles f (t ∷ ts) (suc i) h = omega (arith, cells_without tiles f ts i (omega (arith, h)))
 
-module _ (f : Tree → StyleLayer) (ts : List Tree) (from to : ℕ) (h : from < length ts) (k : to < length ts) where
+module _ (ts : List Tree) (from to : ℕ) (h : from < length ts) (k : to < length ts) where
   there : from ≤ length (remove ts to)
   there = omega (arith, length_removed ts to k, h)
 
   pub length_moved : length (moved_items to from ts) ≡ length ts
   length_moved = length_inserted (remove ts to) from (get_or ts to null) there ∙ length_removed ts to k
 
-  pub moved_forth : (other : StyleLayer) →
+  pub moved_forth : {X : Type 0} (f : Tree → X) (other : X) →
       insert (remove (map f (moved_items to from ts)) from) to (get_or (map f (moved_items to from ts)) from other) ≡ map f ts
-  moved_forth other =
+  moved_forth f other =
       let us = moved_items to from ts in
       let within : from < length us = omega (arith, h, length_moved) in
       (λ i. insert (sym (map_remove f us from) i) to (get_or-map f us from null other within i))
       ∙ (sym (map_insert f (remove us from) to (get_or us from null)) ∙ ap (map f) (moved_back ts to from k h))
 
-  pub cells_moved : (tiles : List SourceTile) → cell_count tiles (map f (moved_items to from ts)) ≡ cell_count tiles (map f ts)
-  cells_moved tiles =
+  pub cells_moved : (f : Tree → StyleLayer) (tiles : List SourceTile) →
+      cell_count tiles (map f (moved_items to from ts)) ≡ cell_count tiles (map f ts)
+  cells_moved f tiles =
       let left = remove ts to in
       let layer = get_or ts to null in
       let put = ap (cell_count tiles) (map_insert f left from layer)

@@ -5,3 +5,4 @@ pub mod CountLaws
 pub mod LayerLists
 pub mod FollowLaws
 pub mod FollowSteps
+pub mod MarkLaws

@@ -5,3 +5,4 @@ pub mod Applied
 pub mod View
 -- What only contracts of private functions and proofs use.
 pub mod PreparedLayers
+pub mod LayerMarks

@@ -6,12 +6,14 @@ use Rattle.edit_script.specs.Edit.{Edit}
 use Rattle.feature_states.specs.Members.{members_at}
 use Rattle.global_laws.specs.GlobalLaw.{items_name_globals}
 use Rattle.prop_values.specs.Data.{Data}
+use Rattle.style_edits.specs.Layers.{layer_list}
 use Rattle.style_parts.specs.Parts.{layers_of}
 use Rattle.style_layout.specs.CodeView.{layers_seen, tile_seen}
 use Rattle.style_layout.specs.Layers.{style_layers}
 use Rattle.style_layout.specs.Shown.{SourceTile}
 use Rattle.style_layout.specs.StyleLayout.{cell_count}
 use Rattle.edit_session.specs.Applied.{Reply, done, listed, stats_asked, refused, whole_refusal, with_image, applied}
+use Rattle.edit_session.specs.LayerMarks.{AreMarks}
 use Rattle.edit_session.specs.Opening.{Fault, has_findings, unknown_source, not_vector, too_many_cells, zoom_range}
 use Rattle.edit_session.specs.SessionState.{SessionState}
 use Rattle.edit_session.specs.declared.answer.Answer.{Answer}
@@ -68,9 +70,11 @@ pub record IsWholeDocument (tiles : List SourceTile) (globals : List (List ℕ �
   pub is_counted : layers.cells ≡ cell_count tiles (style_layers globals document)
   pub is_noted : layers.reads_globals ≡ false → reads_globals document ≡ false
 
--- so it is with a session's document
+-- so it is with a session's document, whose layers have marks
 abbrev pub IsReady : Session → Type 0
-IsReady session = IsWholeDocument (tiles_of session) session.globals (tree_of session.document) session.layers
+IsReady session =
+    IsWholeDocument (tiles_of session) session.globals (tree_of session.document) session.layers
+    × AreMarks session.marks (layer_list (tree_of session.document))
 
 -- What holds of a session from its opening on, until an allocation fails.
 abbrev pub IsSoundSession : Session → Type 0

@@ -23,7 +23,7 @@ use edit_script::Command;
 use host_ops::{HostOp, TellFault};
 use prop_values::{Entries, Value, copy_entries};
 use std::alloc::{AllocError, Global};
-use style_edits::{EditFault, EditPlaces, edit_at, edit_fault, edit_places, undo_edit};
+use style_edits::{EditFault, EditPlaces, edit_at, edit_fault, undo_edit};
 use style_layout::{Zoom, prepare};
 use style_parts::layers_of;
 
@@ -46,7 +46,7 @@ impl Session<'_> {
         ensures lent { OnErr result (IsSameTest (test images.old) (test images.new)) }
         ensures ready { OnOk result (IsReady self.new) }
     {
-        let places = edit_places(&self.document, command);
+        let places = self.marks.places(&self.document, command);
         match edit_fault(&self.document, places, command) {
             Some(fault) => Ok(Answer::Refused(refusal_of(fault))),
             None => self.answer_possible(command, places, images, scripts),
@@ -186,6 +186,7 @@ impl Session<'_> {
             self.tiles.as_slice(),
         )?;
         if is_done {
+            self.marks.follow(layers_of(&self.document), &undo)?;
             return Ok(Answer::Done);
         }
         undo_edit(&mut self.document, undo)?;

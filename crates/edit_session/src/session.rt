@@ -13,6 +13,7 @@ ghost use Rattle.style_layout.specs.CodeView.{tile_seen};
 ghost use Rattle.style_rules.specs.Findings.{findings};
 
 use crate::answer::Answer;
+use crate::layer_marks::LayerMarks;
 use crate::layers::PreparedLayers;
 use crate::opening::{OpenFault, first_of_no_vector, first_unknown, is_within_limit};
 use decimal_json::Json;
@@ -39,6 +40,7 @@ pub struct Session<'a> {
     pub(crate) globals: Entries,
     /// The layers of the document, by the values of the global state.
     pub(crate) layers: PreparedLayers,
+    pub(crate) marks: LayerMarks,
     pub(crate) lacks_memory: bool,
 }
 
@@ -97,6 +99,7 @@ impl<'a> Session<'a> {
         if !is_zoom(zoom) {
             return Ok(Err(OpenFault::ZoomRange));
         }
+        let marks = LayerMarks::of(alloc, &style)?;
         Ok(Ok(Session {
             alloc,
             document: style,
@@ -105,6 +108,7 @@ impl<'a> Session<'a> {
             states: States::new(alloc),
             globals,
             layers,
+            marks,
             lacks_memory: false,
         }))
     }

@@ -18,26 +18,34 @@ use Rattle.style_edits.specs.Layers.{layer_named, changed_layer, without_layer, 
 use Rattle.style_edits.proofs.ListLaws.{insert_last}
 use Rattle.style_parts.specs.Parts.{equals_id, is_id_of}
 
--- the place of the first that has an id, from the front on
-abbrev pub place : List ℕ → List Tree → Option ℕ
-place id [] = None
-place id (t ∷ ts) = if is_id_of id t then Some 0 else option_map suc (place id ts)
-
 from_step : (i : ℕ) (same : Bool) (o r : Option ℕ) → r ≡ option_map (λ k. (i + 1) + k) o → (if same then Some i else r) ≡ option_map (λ k. i + k) (if same then Some 0 else option_map suc o)
 from_step i true o r h = ap Some (omega arith)
 from_step i false None r h = h
 from_step i false (Some k) r h = h ∙ ap Some (omega arith)
 
-from_place : (id : List ℕ) (i : ℕ) (ts : List Tree) → position_from (is_id_of id) i ts ≡ option_map (λ k. i + k) (place id ts)
-from_place id i [] = refl
-from_place id i (t ∷ ts) = from_step i (is_id_of id t) (place id ts) (position_from (is_id_of id) (i + 1) ts) (from_place id (i + 1) ts)
-
 plus_none : (o : Option ℕ) → option_map (λ k. 0 + k) o ≡ o
 plus_none None = refl
 plus_none (Some k) = ap Some (omega arith)
 
+-- the place of the first that passes a test, from the front on
+module _ {X : Type 0} (test : X → Bool) where
+  abbrev pub first_place : List X → Option ℕ
+  first_place [] = None
+  first_place (x ∷ xs) = if test x then Some 0 else option_map suc (first_place xs)
+
+  from_first : (i : ℕ) (xs : List X) → position_from test i xs ≡ option_map (λ k. i + k) (first_place xs)
+  from_first i [] = refl
+  from_first i (x ∷ xs) = from_step i (test x) (first_place xs) (position_from test (i + 1) xs) (from_first (i + 1) xs)
+
+  pub first_is : (xs : List X) → position test xs ≡ first_place xs
+  first_is xs = position_from-zero test xs ∙ (from_first 0 xs ∙ plus_none (first_place xs))
+
+-- the place of the first that has an id
+abbrev pub place : List ℕ → List Tree → Option ℕ
+place id ts = first_place (is_id_of id) ts
+
 pub place_is : (ts : List Tree) (id : List ℕ) → layer_place ts id ≡ place id ts
-place_is ts id = position_from-zero (is_id_of id) ts ∙ (from_place id 0 ts ∙ plus_none (place id ts))
+place_is ts id = first_is (is_id_of id) ts
 
 -- ---- each change of the layers, at the first that has an id
 

@@ -14,9 +14,9 @@
 //! allocation fails, the document stays. Edits that put nothing into the document take no memory, nor does it take
 //! memory to take an edit back, but for a layer that was removed.
 //!
-//! `edit_style` goes through the layers for each id that the edit names. Whoever knows the places of layers calls
-//! `edit_fault` and `edit_at`, which are its parts after `edit_places`. One layer is copied, the one that is edited;
-//! texts and numbers are shared with the document and the command.
+//! `edit_style` goes through the layers for each id that the edit names (`layer_named`, `before_named`, `id_added`).
+//! Whoever knows the places of layers calls `edit_fault` and `edit_at`, which are its parts after `edit_places`. One
+//! layer is copied, the one that is edited; texts and numbers are shared with the document and the command.
 //!
 //! The text to believe is in `specs/`: `Objects`, `Layer`, `Layers`, `Edited`, `Causes`, `Faults`, `Places`, `Undone`.
 #![tactic(auto)]
@@ -32,5 +32,7 @@ mod undo;
 
 pub use editing::{edit_at, edit_style};
 pub use faults::{EditFault, edit_fault};
-pub use places::{EditPlaces, edit_places, layer_place};
+pub use places::{
+    EditPlaces, before_named, edit_places, id_added, layer_named, layer_place, text_id,
+};
 pub use undo::{Undo, undo_edit};

@@ -1,11 +1,12 @@
 //! The places of the layers that an edit names.
 
-ghost use Rattle.std.specs.Prelude.{◌≡◌, option_map};
+ghost use Rattle.std.specs.Prelude.{◌≡◌, codes, option_map};
 ghost use Rattle.std.specs.List.{position};
 ghost use Rattle.std.specs.Option.{option_and_then};
+ghost use Rattle.decimal_json.specs.Accessors.{text_at};
 ghost use Rattle.decimal_json.specs.View.{tree_of};
 ghost use Rattle.edit_script.specs.View.{command_seen};
-ghost use Rattle.style_edits.specs.Places.{layer_place, places_of};
+ghost use Rattle.style_edits.specs.Places.{added_id, layer_place, places_of};
 ghost use Rattle.style_edits.specs.Faults.{named_layer, named_before};
 ghost use Rattle.style_edits.specs.Layers.{layer_list};
 ghost use Rattle.style_parts.specs.Parts.{is_id_of};
@@ -21,6 +22,8 @@ pub struct EditPlaces {
     pub layer: Option<usize>,
     /// Of the layer before which it puts another.
     pub before: Option<usize>,
+    /// Of the layer that has the id of the one that it adds.
+    pub same: Option<usize>,
 }
 
 /// The places of the layers that an edit of a document names. Goes through the layers once for each name.
@@ -30,10 +33,12 @@ pub fn edit_places(style: &Json, command: &Command) -> EditPlaces
     EditPlaces {
         layer: place_named(style, layer_named(command)),
         before: place_named(style, before_named(command)),
+        same: place_named(style, id_added(command)),
     }
 }
 
-fn layer_named(command: &Command) -> Option<&Text>
+/// The id of the layer that an edit changes, removes or moves.
+pub fn layer_named(command: &Command) -> Option<&Text>
     ensures { option_map (λ id. id.now) result ≡ named_layer (command_seen command.now) }
 {
     match command {
@@ -47,12 +52,33 @@ fn layer_named(command: &Command) -> Option<&Text>
     }
 }
 
-fn before_named(command: &Command) -> Option<&Text>
+/// The id of the layer before which an edit puts another.
+pub fn before_named(command: &Command) -> Option<&Text>
     ensures { option_map (λ id. id.now) result ≡ named_before (command_seen command.now) }
 {
     match command {
         Command::AddLayer(_, before) => before.as_ref(),
         Command::MoveLayer(_, before) => before.as_ref(),
+        _ => None,
+    }
+}
+
+/// The id of the layer that an edit adds; none where it is no text.
+pub fn id_added(command: &Command) -> Option<&Text>
+    ensures { option_map (λ id. id.now) result ≡ added_id (command_seen command.now) }
+{
+    match command {
+        Command::AddLayer(layer, _) => text_id(layer),
+        _ => None,
+    }
+}
+
+/// The id of a layer; none where it is no text.
+pub fn text_id(layer: &Json) -> Option<&Text>
+    ensures { option_map (λ id. id.now) result ≡ text_at (codes "id") (tree_of layer.now) }
+{
+    match layer.get("id") {
+        Some(Json::Text(id)) => Some(id),
         _ => None,
     }
 }

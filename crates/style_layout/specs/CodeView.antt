@@ -1,6 +1,7 @@
 -- What clauses see of the program's values.
 use Rattle.std.specs.Prelude.{ℕ, ℤ, List, map, Bool, Option, option_map}
 use Rattle.prop_values.specs.View.{data_of}
+use Rattle.prop_values.specs.declared.outcome.Outcome.{Outcome}
 use Rattle.stable_order.specs.Keys.{key_before}
 use Rattle.expr_syntax.specs.TermView.{term_of}
 use Rattle.feature_states.specs.Members.{members_at}
@@ -11,6 +12,7 @@ use Rattle.property_tables.specs.RowView.{row_seen}
 use Rattle.style_layout.specs.Forms as forms
 use Rattle.style_layout.specs.Layers as layers
 use Rattle.style_layout.specs.Shown as shown
+use Rattle.style_layout.specs.SortKeys.{key_of}
 use Rattle.style_layout.specs.declared.features.LayerFeature.{LayerFeature}
 use Rattle.style_layout.specs.declared.forms.LayerFilter.{LayerFilter}
 use Rattle.style_layout.specs.declared.forms.LayerFilter.TheVariants as filters
@@ -76,8 +78,11 @@ scene_seen tests s = record {
 abbrev pub feature_seen : LayerFeature → shown.LayerFeature
 feature_seen f = record { number = f.number; feature = f.feature.now; state = world.state_of f.state }
 
-abbrev pub keyed_seen : SortedFeature → Option ℤ × shown.LayerFeature
-keyed_seen k = (k.key, feature_seen k.feature)
+abbrev pub keyed_seen : SortedFeature → Outcome × shown.LayerFeature
+keyed_seen k = (k.outcome, feature_seen k.feature)
+
+abbrev pub feature_of : SortedFeature → shown.LayerFeature
+feature_of k = feature_seen k.feature
 
 abbrev pub keyed_before : SortedFeature → SortedFeature → Bool
-keyed_before a b = key_before a.key b.key
+keyed_before a b = key_before (key_of a.outcome) (key_of b.outcome)

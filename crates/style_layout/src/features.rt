@@ -1,15 +1,15 @@
 //! The features of a layer over tiles.
 
 ghost use Rattle.std.specs.Prelude.{◌≡◌, ◌+◌, ◌-◌, ◌<◌, ◌^◌, [], ◌∷◌, length, map, MatchOption, IfOk, IfSome, if◌then◌else◌};
-ghost use Rattle.style_layout.specs.CodeView.{feature_seen, layer_seen, scene_seen, tile_seen};
+ghost use Rattle.style_layout.specs.CodeView.{feature_seen, filter_seen, layer_seen, scene_seen, tile_seen};
 ghost use Rattle.style_layout.specs.Layers.{has_features};
 ghost use Rattle.style_layout.specs.Shown.{features_named, layer_features, numbered, state_of, tile_features, those_shown};
 ghost use Rattle.eval_face.specs.World as world;
-ghost use Rattle.style_layout.specs.Walk.{features_left, HasFewLeft};
+ghost use Rattle.style_layout.specs.Walk.{features_left, HasFewLeft, Decides};
 
 use crate::layers::StyleLayer;
 use crate::scene::{Evaluator, Scene, SourceTile};
-use crate::values::lets_pass;
+use crate::values::lets_pass_by;
 use prop_values::Entries;
 use property_tables::LayerType;
 use std::alloc::{AllocError, Global};
@@ -52,14 +52,17 @@ impl<'a> LayerFeatures<'a> {
         }
     }
 
-    /// Takes the next feature that the filter of the layer lets pass.
+    /// Takes the next feature that the filter of the layer lets pass, by what the filter answers of every feature where
+    /// that is known.
     pub(crate) fn next_shown<E: Evaluator>(
         &mut self,
         alloc: Global,
         layer: &StyleLayer,
         scene: &'a Scene<'_, E>,
+        of_every: Option<bool>,
     ) -> Result<Option<LayerFeature<'a>>, AllocError>
-        requires { HasFewLeft self.old }
+        requires few { HasFewLeft self.old }
+        requires decides { Decides (scene_seen E.tests scene.now) (filter_seen layer.now.filter) of_every }
         ensures left { IfOk result (λ found. MatchOption found
             (those_shown (scene_seen E.tests scene.now) (layer_seen layer.now) (features_left self.old) ≡ [])
             (λ feature. those_shown (scene_seen E.tests scene.now) (layer_seen layer.now) (features_left self.old)
@@ -68,7 +71,7 @@ impl<'a> LayerFeatures<'a> {
     {
         while let Some((number, feature)) = self.next() {
             let state = state_of(layer, scene, feature.id);
-            if lets_pass(alloc, &layer.filter, scene, feature, state)? {
+            if lets_pass_by(alloc, &layer.filter, of_every, scene, feature, state)? {
                 return Ok(Some(LayerFeature {
                     number,
                     feature,

@@ -1,6 +1,6 @@
 //! The layers of a document, each prepared once.
 
-ghost use Rattle.std.specs.Prelude.{◌≡◌, map, IfOk, option_map};
+ghost use Rattle.std.specs.Prelude.{◌≡◌, map, slice_get, Some, IfOk, IfSome, option_map};
 ghost use Rattle.decimal_json.specs.Tree.{object, fields_of};
 ghost use Rattle.decimal_json.specs.View.{tree_of};
 ghost use Rattle.value_forms.specs.LayerTypes.{is_unread_type};
@@ -34,6 +34,13 @@ pub struct StyleLayer {
     pub(crate) filter: LayerFilter,
     /// In the order of the table.
     pub(crate) properties: Vec<Property>,
+}
+
+/// The property by which the features of a layer are ordered, and its place among the properties.
+#[derive(Clone, Copy)]
+pub(crate) struct SortProperty<'a> {
+    pub(crate) place: usize,
+    pub(crate) property: &'a Property,
 }
 
 /// A layer as its layout reads it, by the values of the global state; none where it has no type.
@@ -128,9 +135,11 @@ impl StyleLayer {
     }
 
     /// The property by which the features of the type are ordered, where it is set.
-    pub(crate) fn sort_property(&self) -> Option<&Property>
-        ensures { option_map (λ property. property_seen property.now) result
+    pub(crate) fn sort_property(&self) -> Option<SortProperty<'_>>
+        ensures property { option_map (λ sort. property_seen sort.property.now) result
             ≡ sort_property self.now.layer_type (map property_seen self.now.properties.items) }
+        ensures place { IfSome result (λ sort. slice_get (map property_seen self.now.properties.items) sort.place
+            ≡ Some (property_seen sort.property.now)) }
     {
         match sort_row(self.layer_type) {
             Some(name) => property_named(name, self.properties.as_slice()),
@@ -178,13 +187,15 @@ fn sort_row(layer_type: LayerType) -> Option<&'static str>
     }
 }
 
-fn property_named<'a>(name: &str, properties: &'a [Property]) -> Option<&'a Property>
-    ensures { option_map (λ property. property_seen property.now) result
+fn property_named<'a>(name: &str, properties: &'a [Property]) -> Option<SortProperty<'a>>
+    ensures property { option_map (λ sort. property_seen sort.property.now) result
         ≡ property_named name.now (map property_seen properties.now) }
+    ensures place { IfSome result (λ sort. slice_get (map property_seen properties.now) sort.place ≡ Some (property_seen sort.property.now)) }
 {
-    for property in properties {
+    for place in 0..properties.len() {
+        let property = &properties[place];
         if property.row.name == name {
-            return Some(property);
+            return Some(SortProperty { place, property });
         }
     }
     None

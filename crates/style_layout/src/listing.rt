@@ -13,6 +13,7 @@ use crate::layers::StyleLayer;
 use crate::prepared::PreparedStyle;
 use crate::scene::{Evaluator, Scene, SourceTile};
 use crate::sorted::write_in_order;
+use crate::values::passes_of_every;
 use listing_text::{Show, write_end, write_layer_line, write_zoom};
 use std::alloc::{AllocError, Global};
 
@@ -135,7 +136,7 @@ fn write_features<E: Evaluator>(
         (feature_outs (scene_seen E.tests scene.now) (layer_seen layer.now) (map tile_seen tiles.now))) }
 {
     match layer.sort_property() {
-        Some(property) => write_in_order(alloc, layer, property, scene, tiles, out),
+        Some(sort) => write_in_order(alloc, layer, sort, scene, tiles, out),
         None => write_as_listed(alloc, layer, scene, tiles, out),
     }
 }
@@ -152,9 +153,10 @@ fn write_as_listed<'a, E: Evaluator>(
     ensures { OnOk result (out.new.items ≡ out.old.items ++ lines_of (scene_seen E.tests scene.now) (layer_seen layer.now)
         (shown_features (scene_seen E.tests scene.now) (layer_seen layer.now) (map tile_seen tiles.now))) }
 {
+    let of_every = passes_of_every(alloc, &layer.filter, scene)?;
     let mut features = LayerFeatures::new(layer, tiles);
-    while let Some(feature) = features.next_shown(alloc, layer, scene)? {
-        write_feature(alloc, layer, scene, &feature, out)?;
+    while let Some(feature) = features.next_shown(alloc, layer, scene, of_every)? {
+        write_feature(alloc, layer, scene, &feature, None, out)?;
     }
     Ok(())
 }

@@ -8,8 +8,9 @@ ghost use Rattle.eval_face.specs.World.{state_of};
 ghost use Rattle.style_layout.specs.CodeView.{filter_seen, property_seen, scene_seen};
 ghost use Rattle.style_layout.specs.Forms.{lets_pass};
 ghost use Rattle.style_layout.specs.Shown.{outcome_at, world_at, zoom_at};
+ghost use Rattle.style_layout.specs.Walk.{Decides};
 
-use crate::forms::{LayerFilter, PropertyValue};
+use crate::forms::{LayerFilter, PropertyValue, reads_feature};
 use crate::properties::Property;
 use crate::scene::{Evaluator, Scene};
 use crate::zoom::Zoom;
@@ -81,7 +82,7 @@ fn zoom_at(zoom: Zoom, place: Place) -> Fixed
 
 /// Whether a filter lets a feature with its state pass. A fault is false.
 #[tactic(auto, unfolding(crate::specs::CodeView::scene_seen))]
-pub(crate) fn lets_pass<E: Evaluator>(
+fn lets_pass<E: Evaluator>(
     alloc: Global,
     filter: &LayerFilter,
     scene: &Scene<'_, E>,
@@ -105,6 +106,55 @@ pub(crate) fn lets_pass<E: Evaluator>(
                 .evaluator
                 .evaluated(alloc, expression, &Want::Boolean, &context)?;
             Ok(passes(&evaluated))
+        }
+    }
+}
+
+/// As `lets_pass`, by what the filter answers of every feature where that is known.
+pub(crate) fn lets_pass_by<E: Evaluator>(
+    alloc: Global,
+    filter: &LayerFilter,
+    of_every: Option<bool>,
+    scene: &Scene<'_, E>,
+    feature: &Feature,
+    state: Option<&Entries>,
+) -> Result<bool, AllocError>
+    requires { Decides (scene_seen E.tests scene.now) (filter_seen filter.now) of_every }
+    ensures { IfOk result (λ passes. passes ≡ lets_pass (filter_seen filter.now)
+        (world_at (scene_seen E.tests scene.now) (floor_of (scene_seen E.tests scene.now).zoom) feature.now (state_of state.entry))) }
+{
+    match of_every {
+        Some(passes) => Ok(passes),
+        None => lets_pass(alloc, filter, scene, feature, state),
+    }
+}
+
+/// What a filter answers of every feature, whatever its state is; none where it may read them.
+#[tactic(auto, unfolding(crate::specs::CodeView::scene_seen))]
+pub(crate) fn passes_of_every<E: Evaluator>(
+    alloc: Global,
+    filter: &LayerFilter,
+    scene: &Scene<'_, E>,
+) -> Result<Option<bool>, AllocError>
+    ensures { IfOk result (λ answer. Decides (scene_seen E.tests scene.now) (filter_seen filter.now) answer) }
+{
+    match filter {
+        LayerFilter::Every => Ok(Some(true)),
+        LayerFilter::Legacy(_) => Ok(None),
+        LayerFilter::Outside => Ok(Some(false)),
+        LayerFilter::Condition(expression) => {
+            if reads_feature(expression) {
+                return Ok(None);
+            }
+            let context = Context {
+                zoom: scene.zoom.floor(),
+                feature: None,
+                state: None,
+            };
+            let evaluated = scene
+                .evaluator
+                .evaluated(alloc, expression, &Want::Boolean, &context)?;
+            Ok(Some(passes(&evaluated)))
         }
     }
 }

@@ -1,9 +1,10 @@
 use Rattle.std.proofs.Common.{rules}
 use Rattle.std.proofs.lemmas.List.Sorted.{answers_always}
 use Rattle.stable_order.proofs.KeyOrder.{by_key_in_order}
+use Rattle.style_layout.specs.SortKeys.{key_of}
 use Rattle.style_layout.proofs.sorted.put_in_order.Goals as goal
 
 pub returns : goal.returns
-returns c = by_key_in_order (λ k. k.key) _ _
-    (c.in_ok-sort_by_key.ensures.sorted (λ k. k.key) (answers_always _ _ _ (λ f a r g h. search rules)))
-    (c.sort_by_key.ensures.stable (λ k. k.key) (answers_always _ _ _ (λ f a r g h. search rules)))
+returns c = by_key_in_order (λ k. key_of k.outcome) _ _
+    (c.in_ok-sort_by_key.ensures.sorted (λ k. key_of k.outcome) (answers_always _ _ _ (λ f a r g h. search rules)))
+    (c.sort_by_key.ensures.stable (λ k. key_of k.outcome) (answers_always _ _ _ (λ f a r g h. search rules)))

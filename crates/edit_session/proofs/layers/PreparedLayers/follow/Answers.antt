@@ -1,21 +1,14 @@
-use Rattle.std.proofs.Common.{◌≡◌, ◌∙◌, ◌<◌, ℕ, List, length, get_or, map, refl, ap, sym, subst, arith}
-use Rattle.std.proofs.lemmas.List.{get_or-map, length-map}
+use Rattle.std.proofs.Common.{map, refl, sym, subst}
 use Rattle.std.proofs.lemmas.Result.{IfOk-weaker}
-use Rattle.decimal_json.specs.Tree.{Tree, null}
-use Rattle.decimal_json.specs.View.{items_view, tree_of}
-use Rattle.decimal_json.specs.declared.tree.Json.{Json}
+use Rattle.decimal_json.specs.Tree.{null}
+use Rattle.decimal_json.specs.View.{items_view}
 use Rattle.style_edits.specs.Undone.{IsWithin, undone_layers}
 use Rattle.style_edits.specs.declared.undo.Undo.{Undo}
 use Rattle.style_layout.specs.CodeView.{tile_seen}
 use Rattle.edit_session.specs.PreparedLayers.{ArePrepared, IsTyped, prepared_layer}
 use Rattle.edit_session.proofs.FollowSteps.{added_follows, changed_follows, moved_follows, removed_follows}
-use Rattle.edit_session.proofs.LayerLists.{typed_at}
+use Rattle.edit_session.proofs.LayerLists.{item_at, typed_at}
 use Rattle.edit_session.proofs.layers.PreparedLayers.follow.Goals as goal
-
-item_at : (js : List Json) (i : ℕ) (x : Json) → i < length (items_view js) → x ≡ get_or js i x → tree_of x ≡ get_or (items_view js) i null
-item_at js i x h is =
-    let within : i < length js = omega (arith, h, length-map js tree_of) in
-    ap tree_of is ∙ sym (get_or-map tree_of js i x null within)
 
 pub change-requires-clause-typed : goal.change-requires-clause-typed
 change-requires-clause-typed c =

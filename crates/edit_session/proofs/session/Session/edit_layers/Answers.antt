@@ -9,7 +9,7 @@ use Rattle.edit_session.proofs.session.Session.edit_layers.Goals as goal
 
 pub finding_refusal-requires-clause-sound : goal.finding_refusal-requires-clause-sound
 finding_refusal-requires-clause-sound c =
-    let s = c.args.self.now in accepted_is_sound (tiles_of s) s.globals (tree_of s.document) c.requires.ready.is_accepted
+    let s = c.args.self.now in accepted_is_sound (tiles_of s) s.globals (tree_of s.document) c.requires.ready.0.is_accepted
 
 pub edit_sound-requires-clause-sound : goal.edit_sound-requires-clause-sound
 edit_sound-requires-clause-sound c =

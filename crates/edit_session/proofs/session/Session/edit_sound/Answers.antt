@@ -8,6 +8,7 @@ use Rattle.style_edits.specs.Undone.{IsWithin, undone_layers}
 use Rattle.style_layout.specs.CodeView.{tile_seen}
 use Rattle.style_layout.specs.Shown.{SourceTile}
 use Rattle.style_rules.specs.Findings.{findings}
+use Rattle.edit_session.specs.LayerMarks.{layer_mark}
 use Rattle.edit_session.specs.PreparedLayers.{AreTyped, ArePrepared, Follows}
 use Rattle.edit_session.specs.View.{session_state, tiles_of, IsWholeDocument}
 use Rattle.edit_session.specs.declared.answer.Refusal.TheVariants.{CellLimit}
@@ -17,7 +18,7 @@ use Rattle.edit_session.proofs.session.Session.edit_sound.Goals as goal
 
 pub note_types-requires : goal.note_types-requires
 note_types-requires c =
-    let s = c.args.self.now in accepted_is_sound (tiles_of s) s.globals (tree_of s.document) c.requires.ready.is_accepted
+    let s = c.args.self.now in accepted_is_sound (tiles_of s) s.globals (tree_of s.document) c.requires.ready.0.is_accepted
 
 pub note_types-requires-2 : goal.note_types-requires-2
 note_types-requires-2 c = ap findings c.in_ok-undo.ensures.edited ∙ c.requires.sound
@@ -31,13 +32,13 @@ follow-requires-clause-before c =
     let before = before_edit c.in_ok-undo.undo (tree_of s.document) after us c.in_ok-undo.ensures.undo c.note_types-2.ensures.there is in
     subst (λ (tiles : List SourceTile). ArePrepared tiles s.globals (undone_layers c.in_ok-undo.undo us) s.layers)
     (sym (ap (map tile_seen) c.as_slice.ensures.value))
-    (is_prepared (tiles_of s) s.globals (tree_of s.document) s.layers _ c.requires.ready c.note_types.ensures.typed before)
+    (is_prepared (tiles_of s) s.globals (tree_of s.document) s.layers _ c.requires.ready.0 c.note_types.ensures.typed before)
 
 pub follow-requires-clause-few : goal.follow-requires-clause-few
 follow-requires-clause-few c =
     let s = c.args.self.now in
-    few_cells (tiles_of s) s.globals (tree_of s.document) s.layers c.requires.ready
-    (accepted_is_sound (tiles_of s) s.globals (tree_of s.document) c.requires.ready.is_accepted)
+    few_cells (tiles_of s) s.globals (tree_of s.document) s.layers c.requires.ready.0
+    (accepted_is_sound (tiles_of s) s.globals (tree_of s.document) c.requires.ready.0.is_accepted)
 
 pub follow-requires-clause-within : goal.follow-requires-clause-within
 follow-requires-clause-within c =
@@ -71,8 +72,8 @@ returns-then-is_done-clause-ready c =
     let none = ap findings c.in_ok-undo.ensures.edited ∙ c.requires.sound in
     let follows = subst (λ (tiles : List SourceTile). Follows tiles s.globals us c.in_ok-is_done.is_done s.layers c.follow.new.self)
     (ap (map tile_seen) c.as_slice.ensures.value) c.in_ok-is_done.ensures in
-    is_whole (tiles_of s) s.globals after none c.note_types-2.ensures.typed us is c.follow.new.self
-    (sym c.if-is_done.true ∙ follows.limit) (follows.prepared c.if-is_done.true)
+    (is_whole (tiles_of s) s.globals after none c.note_types-2.ensures.typed us is c.follow.new.self
+    (sym c.if-is_done.true ∙ follows.limit) (follows.prepared c.if-is_done.true), c.in_ok-follow.ensures ∙ ap (map layer_mark) (layers_listed after c.layers_of-then-is_done.result.now c.layers_of-then-is_done.ensures))
 
 pub returns-clause-answer : goal.returns-clause-answer
 returns-clause-answer c = λ has_image scripts can_change.
@@ -87,3 +88,17 @@ returns-clause-answer c = λ has_image scripts can_change.
     c.requires.layers c.requires.possible after c.in_ok-undo.ensures.edited CellLimit (tree_of c.undo_edit.new.style)
     (is_refused (tiles_of s) s.globals after none c.note_types-2.ensures.typed us is (sym c.if-is_done.false ∙ follows.limit))
     (c.in_ok-undo_edit.ensures.ok ∙ c.in_ok-undo.ensures.undo.1)
+
+pub follow-requires-then-is_done-clause-before : goal.follow-requires-then-is_done-clause-before
+follow-requires-then-is_done-clause-before c =
+    let s = c.args.self.now in
+    let after = tree_of c.edit_at.new.style in
+    let us = items_view c.layers_of-then-is_done.result.now in
+    let is : us ≡ layer_list after = layers_listed after c.layers_of-then-is_done.result.now c.layers_of-then-is_done.ensures in
+    c.requires.ready.1
+    ∙ ap (map layer_mark) (before_edit c.in_ok-undo.undo (tree_of s.document) after us c.in_ok-undo.ensures.undo c.note_types-2.ensures.there is)
+
+pub follow-requires-then-is_done-clause-within : goal.follow-requires-then-is_done-clause-within
+follow-requires-then-is_done-clause-within c =
+    let after = tree_of c.edit_at.new.style in
+    subst (IsWithin c.in_ok-undo.undo) (sym (layers_listed after c.layers_of-then-is_done.result.now c.layers_of-then-is_done.ensures)) c.in_ok-undo.ensures.undo.0

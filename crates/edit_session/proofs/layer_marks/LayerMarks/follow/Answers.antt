@@ -1,0 +1,46 @@
+use Rattle.std.proofs.Common.{◌∙◌, ap, get_or, map, set, subst}
+use Rattle.std.specs.Prelude.{insert, remove}
+use Rattle.decimal_json.specs.View.{items_view, tree_of}
+use Rattle.style_edits.specs.Undone.{IsWithin, undone_layers}
+use Rattle.style_edits.specs.declared.undo.Undo.{Undo}
+use Rattle.edit_session.specs.LayerMarks.{layer_mark}
+use Rattle.edit_session.proofs.LayerLists.{added_back, changed_back, item_at, moved_forth, removed_back}
+use Rattle.edit_session.proofs.layer_marks.LayerMarks.follow.Goals as goal
+
+pub returns-in-Changed : goal.returns-in-Changed
+returns-in-Changed c =
+    let us = items_view c.args.layers.now in
+    let place = c.in-Changed.place in
+    let within = subst (λ (u : Undo). IsWithin u us) c.in-Changed.is c.requires.within in
+    let before = c.requires.before ∙ ap (λ (u : Undo). map layer_mark (undone_layers u us)) c.in-Changed.is in
+    let mark = c.layer_mark.ensures ∙ ap layer_mark (item_at c.args.layers.now place _ within c.index-layers-place.is) in
+    (λ i. set (before i) place (mark i)) ∙ changed_back layer_mark us place (tree_of c.in-Changed.field-1)
+
+pub returns-in-Ok : goal.returns-in-Ok
+returns-in-Ok c =
+    let us = items_view c.args.layers.now in
+    let place = c.in-Added.place in
+    let within = subst (λ (u : Undo). IsWithin u us) c.in-Added.is c.requires.within in
+    let before = c.requires.before ∙ ap (λ (u : Undo). map layer_mark (undone_layers u us)) c.in-Added.is in
+    let mark = c.layer_mark-in-Added.ensures ∙ ap layer_mark (item_at c.args.layers.now place _ within c.index-layers-place-in-Added.is) in
+    c.in-Ok.ensures.items ∙ ((λ i. insert (before i) place (mark i)) ∙ added_back layer_mark us place within)
+
+pub returns-in-Removed : goal.returns-in-Removed
+returns-in-Removed c =
+    let us = items_view c.args.layers.now in
+    let place = c.in-Removed.place in
+    let within = subst (λ (u : Undo). IsWithin u us) c.in-Removed.is c.requires.within in
+    let before = c.requires.before ∙ ap (λ (u : Undo). map layer_mark (undone_layers u us)) c.in-Removed.is in
+    c.remove.ensures.items ∙ ((λ i. remove (before i) place) ∙ removed_back layer_mark us place (tree_of c.in-Removed.field-1) within)
+
+pub returns-in-Ok-insert : goal.returns-in-Ok-insert
+returns-in-Ok-insert c =
+    let us = items_view c.args.layers.now in
+    let from = c.in-Moved.from in
+    let to = c.in-Moved.to in
+    let mark = c.remove-mark.result in
+    let within = subst (λ (u : Undo). IsWithin u us) c.in-Moved.is c.requires.within in
+    let before = c.requires.before ∙ ap (λ (u : Undo). map layer_mark (undone_layers u us)) c.in-Moved.is in
+    c.in-Ok-insert.ensures.items
+    ∙ ((λ i. insert (c.remove-mark.ensures.items i) to (c.remove-mark.ensures.value i))
+    ∙ ((λ i. insert (remove (before i) from) to (get_or (before i) from mark)) ∙ moved_forth us from to within.0 within.1 layer_mark mark))
