@@ -114,7 +114,7 @@ fn own_findings(
     layer_findings(alloc, document, &used, layer, &Here::Index(place, &layers))
 }
 
-// Whether the first layer that has an id stands before a place.
+// Whether the first layer that has an id is before a place.
 fn is_before(first: Option<usize>, place: usize) -> bool
     ensures { (ts : List Tree) (id : List ℕ) → first ≡ layer_place ts id → result ≡ used_in (trees_of ts) place id }
 {
