@@ -14,6 +14,8 @@ mod list_calls;
 #[cfg(test)]
 mod number_calls;
 #[cfg(test)]
+mod place_calls;
+#[cfg(test)]
 mod power_calls;
 #[cfg(test)]
 mod text_calls;

@@ -16,9 +16,7 @@ use decimal_json::{Json, Text};
 use edit_script::Command;
 use std::alloc::{AllocError, Global};
 use std::hash::{DefaultHasher, Hasher};
-use style_edits::{
-    EditPlaces, Undo, before_named, id_added, layer_named, layer_place, text_id,
-};
+use style_edits::{EditPlaces, Undo, before_named, id_added, layer_named, layer_place, text_id};
 use style_parts::{is_id_of, layers_of};
 
 /// A mark of each layer of a document, in their order. Layers of one id have one mark, and most others have others: so

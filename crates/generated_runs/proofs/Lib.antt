@@ -1,4 +1,3 @@
-mod CountLaws
 mod LineLaws
 mod ScriptLaws
 mod TileLaws

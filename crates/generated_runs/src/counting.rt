@@ -1,13 +1,13 @@
 //! A script whose answers are counted and not kept.
 
-ghost use Rattle.std.specs.Prelude.{◌≡◌, ◌+◌, ◌≤◌, ◌∷◌, ◌++◌, ℕ, List, [], Bool, false, length, decimal, ◌^◌, OnOk, IfOk, Option};
+ghost use Rattle.std.specs.Prelude.{◌≡◌, ◌+◌, ◌≤◌, ◌∷◌, ◌++◌, ℕ, List, [], false, decimal, ◌^◌, OnOk, IfOk, Option};
 ghost use Rattle.edit_session.specs.View.{session_state, tiles_of, IsSoundSession};
 ghost use Rattle.program_runs.specs.Outcome.{said};
 ghost use Rattle.program_runs.specs.Progress.{outcome_of};
-ghost use Rattle.program_runs.specs.Runs.{Run, HasOutcome};
+ghost use Rattle.program_runs.specs.Runs.{HasOutcome};
 ghost use Rattle.script_runs.specs.ScriptRun.{lines_run, ending_by};
 ghost use Rattle.generated_runs.specs.Counted.{counted, counts_line, line_count};
-ghost use Rattle.generated_runs.specs.Counting.{CountsOn, IsSmall, lines_left};
+ghost use Rattle.generated_runs.specs.Counting.{EndsAs, IsSmall, lines_left};
 ghost use Rattle.generated_runs.specs.GeneratedScript.{generated_lines};
 
 use crate::lines::{line_count_of, put_line};
@@ -26,7 +26,6 @@ struct Counting {
     lines: u128,
     bytes: u128,
     any: bool,
-    text: Vec<u8>,
 }
 
 /// The counts of what the script of so many features is answered, over a session that was just opened or is sound.
@@ -40,7 +39,7 @@ pub fn answer_counted(
     requires { IsSoundSession session }
     ensures { (files : List ℕ → Option (List ℕ)) (asked : List (List ℕ)) → IfOk result (λ answer. HasOutcome files
         (counted features (lines_run (tiles_of session.entry) (test scripts.now) (changes images.old) 1
-        (session_state session.entry (test images.old)) [] false (generated_lines features)))
+        (session_state session.entry (test images.old)) false (generated_lines features)))
         asked asked (outcome_of answer)) }
 {
     let mut session = session;
@@ -57,7 +56,7 @@ fn count_answers(
     requires { IsSoundSession session.old }
     ensures { (files : List ℕ → Option (List ℕ)) (asked : List (List ℕ)) → IfOk result (λ answer. HasOutcome files
         (counted features (lines_run (tiles_of session.old) (test scripts.now) (changes images.old) 1
-        (session_state session.old (test images.old)) [] false (generated_lines features)))
+        (session_state session.old (test images.old)) false (generated_lines features)))
         asked asked (outcome_of answer)) }
 {
     let mut counting = Counting {
@@ -66,7 +65,6 @@ fn count_answers(
         lines: 0,
         bytes: 0,
         any: false,
-        text: Vec::new(alloc),
     };
     counting.answer_all(session, features, images, scripts)?;
     counting.finish(features)
@@ -84,9 +82,9 @@ impl Counting {
         requires sound { IsSoundSession session.old }
         requires small { IsSmall self.old }
         requires first { self.old.number ≡ 1 }
-        ensures { (files : List ℕ → Option (List ℕ)) (run : Run) → OnOk result
-            (CountsOn files run (lines_left (test scripts.now) (changes images.old) (test images.old) session.old self.old (generated_lines features)) self.old
-            → CountsOn files run (lines_left (test scripts.now) (changes images.old) (test images.new) session.new self.new []) self.new) }
+        ensures { OnOk result (EndsAs
+            (lines_left features (test scripts.now) (changes images.old) (test images.old) session.old self.old (generated_lines features))
+            (lines_left features (test scripts.now) (changes images.old) (test images.new) session.new self.new [])) }
     {
         let mut line = Vec::new(self.alloc);
         for place in 0..line_count_of(features) {
@@ -110,19 +108,18 @@ impl Counting {
         ensures next { OnOk result (self.new.number ≡ self.old.number + 1) }
         ensures small { OnOk result (self.new.number ≤ 2 ^ 33 → IsSmall self.new) }
         ensures changes { changes images.new ≡ changes images.old }
-        ensures on { (files : List ℕ → Option (List ℕ)) (run : Run) (rest : List (List ℕ)) → OnOk result
-            (CountsOn files run (lines_left (test scripts.now) (changes images.old) (test images.old) session.old self.old (line.now ∷ rest)) self.old
-            → CountsOn files run (lines_left (test scripts.now) (changes images.old) (test images.new) session.new self.new rest) self.new) }
+        ensures on { (features : ℕ) (rest : List (List ℕ)) → OnOk result (EndsAs
+            (lines_left features (test scripts.now) (changes images.old) (test images.old) session.old self.old (line.now ∷ rest))
+            (lines_left features (test scripts.now) (changes images.old) (test images.new) session.new self.new rest)) }
     {
-        self.text.clear();
         let line = ScriptLine {
             number: self.number,
             bytes: line,
         };
-        let refused = answer_line(self.alloc, session, &line, images, scripts, &mut self.text)?;
-        self.lines += line_count(self.text.as_slice()) as u128;
-        self.bytes += self.text.len() as u128;
-        self.any = self.any || refused;
+        let answer = answer_line(self.alloc, session, &line, images, scripts)?;
+        self.lines += line_count(answer.text.as_slice()) as u128;
+        self.bytes += answer.text.len() as u128;
+        self.any = self.any || answer.is_refused;
         self.number += 1;
         Ok(())
     }

@@ -16,7 +16,11 @@ none_on old mid new failed_old failed_mid failed_new a b = (b.0 ∙ a.0, b.1 ∙
 
 module _ (files : List ℕ → Option (List ℕ)) where
   pub leads_on : (a b c : Run) (x y z : List (List ℕ)) → ComesTo files a b x y → ComesTo files b c y z → ComesTo files a c x z
-  leads_on a b c x y z f g = record { outcomes = λ all o d. f.outcomes all o (g.outcomes all o d); reads = λ now r. f.reads now (g.reads now r) }
+  leads_on a b c x y z f g = record {
+    outcomes = λ all o d. f.outcomes all o (g.outcomes all o d);
+    reads = λ now r. f.reads now (g.reads now r);
+    says = λ now text s. f.says now text (g.says now text s);
+  }
 
   pub halts_on : (run rest : Run) (old mid new : ℕ) (failed_old failed_mid failed_new : Option (List ℕ)) (asked_old asked_mid asked_new : List (List ℕ)) (h : RunHalt)
       → ComesTo files run rest asked_old asked_mid → NoneFailed old mid failed_old failed_mid

@@ -2,3 +2,5 @@ pub mod RunLaws
 pub mod Going
 pub mod Fronts
 pub mod Asked
+pub mod Saying
+pub mod Pieces

@@ -9,7 +9,7 @@ use Rattle.decimal_json.proofs.OneTree.{one_tree}
 use Rattle.decimal_json.specs.Parses.{IsPlace, IsKind}
 use Rattle.program_runs.specs.Laws.{EachRunHasOneOutcome}
 use Rattle.program_runs.specs.Refusals.{no_json}
-use Rattle.program_runs.specs.Runs.{ends, reads, parses, may_parse, HasOutcome}
+use Rattle.program_runs.specs.Runs.{ends, says, reads, parses, may_parse, HasOutcome, after_text}
 
 one_refusal : (what text : List ℕ) (kind other : JsonKind) (at place : ℕ) → IsPlace text at → IsKind kind text at → IsPlace text place → IsKind other text place → no_json what kind at ≡ no_json what other place
 one_refusal what text kind other at place at_first first at_second second =
@@ -17,16 +17,18 @@ one_refusal what text kind other at place at_first first at_second second =
     ap (λ n. no_json what kind n) same.0 ∙ ap (λ k. no_json what k place) same.1
 
 -- a file with known contents is not both within the limit and longer
-not_both : (file : Option (List ℕ)) (limit : ℕ) (bytes : List ℕ) → is_some file ≡ true → IsLongerIfTold file limit → IsContent file bytes → length bytes ≤ limit → ⊥
+pub not_both : (file : Option (List ℕ)) (limit : ℕ) (bytes : List ℕ) → is_some file ≡ true → IsLongerIfTold file limit → IsContent file bytes → length bytes ≤ limit → ⊥
 not_both None limit bytes told longer is within = cc
 not_both (Some b) limit bytes told longer is within = let e = ap length is in omega arith
 
-one_content : (file : Option (List ℕ)) (a b : List ℕ) → is_some file ≡ true → IsContent file a → IsContent file b → a ≡ b
+pub one_content : (file : Option (List ℕ)) (a b : List ℕ) → is_some file ≡ true → IsContent file a → IsContent file b → a ≡ b
 one_content None a b told p q = absurd (cc)
 one_content (Some c) a b told p q = p ∙ sym q
 
 pub one_outcome : EachRunHasOneOutcome
 one_outcome files (ends made) told x y z o p d e = (d.0 ∙ sym e.0, d.1 ∙ sym e.1)
+one_outcome files (says text next) told x y z o p (q, d, made) (r, e, makes) =
+    let same = one_outcome files next told x y z q r d e in (made ∙ (ap (after_text text) same.0 ∙ sym makes), same.1)
 one_outcome files (reads longer name limit after) told x y z o p (inl a) (inl b) = (a.1 ∙ sym b.1, a.2 ∙ sym b.2)
 one_outcome files (reads longer name limit after) told x y z o p (inl a) (inr (bytes, is, e)) = absurd (not_both (files name) limit bytes told.0 a.0 is.0 is.1)
 one_outcome files (reads longer name limit after) told x y z o p (inr (bytes, is, d)) (inl b) = absurd (not_both (files name) limit bytes told.0 b.0 is.0 is.1)

@@ -1,4 +1,4 @@
--- A run as data: what is read, in its order, and what comes of the bytes that were read.
+-- A run as data: what is read and written, in its order, and what comes of the bytes that were read.
 use Rattle.std.specs.Prelude.{◌≡◌, ℕ, ◌≤◌, List, [], ◌∷◌, ◌++◌, length, true, is_some, Option, Some, None, ◌⊎◌}
 use Rattle.outside_io.specs.Reading.{IsContent, IsLongerIfTold}
 use Rattle.json_tokens.specs.Rules.{all_rules}
@@ -12,12 +12,22 @@ use Rattle.program_runs.specs.Refusals.{no_json}
 pub data Run : Type 0 where
   -- all is read, and this is the outcome
   ends : RunOutcome → Run
+  -- the text is written on standard output, before what comes next
+  says : (text : List ℕ) → (next : Run) → Run
   -- the file of this name is read, of `count` bytes at most: a longer one is refused
   reads : (longer : RunOutcome) → (name : List ℕ) → (limit : ℕ) → (after : List ℕ → Run) → Run
   -- the bytes are a JSON text; a refusal says what it is
   parses : (what bytes : List ℕ) → (after : Tree → Run) → Run
   -- the bytes may be a JSON text: the run goes on with their tree, or with none
   may_parse : (bytes : List ℕ) → (after : Option Tree → Run) → Run
+
+-- an outcome, where this text is written before
+abbrev pub after_text : List ℕ → RunOutcome → RunOutcome
+after_text text o = record o { out = text ++ o.out }
+
+-- a text begins with another, or is that
+abbrev pub IsFront : (front text : List ℕ) → Type 0
+IsFront front text = (rest : List ℕ) × (text ≡ front ++ rest)
 
 module _ (files : List ℕ → Option (List ℕ)) where
   -- what the file of this name may be read as: its bytes, and any bytes where its contents are unknown
@@ -29,6 +39,7 @@ module _ (files : List ℕ → Option (List ℕ)) where
   -- reported.
   abbrev pub HasOutcome : Run → (before after : List (List ℕ)) → RunOutcome → Type 0
   HasOutcome (ends made) asked all o = (o ≡ made) × (all ≡ asked)
+  HasOutcome (says text next) asked all o = (p : RunOutcome) × HasOutcome next asked all p × (o ≡ after_text text p)
   HasOutcome (reads longer name limit after) asked all o =
       (IsLongerIfTold (files name) limit × (o ≡ longer) × (all ≡ asked ++ name ∷ []))
       ⊎ ((bytes : List ℕ) × IsFile name limit bytes × HasOutcome (after bytes) (asked ++ name ∷ []) all o)
@@ -43,6 +54,7 @@ module _ (files : List ℕ → Option (List ℕ)) where
   -- the run, which may have come to its end or not, has read the files of these names, in their order, after those before
   abbrev pub HasAsked : Run → (before now : List (List ℕ)) → Type 0
   HasAsked (ends made) asked now = now ≡ asked
+  HasAsked (says text next) asked now = HasAsked next asked now
   HasAsked (reads longer name limit after) asked now =
       (now ≡ asked) ⊎ ((now ≡ asked ++ name ∷ []) ⊎ ((bytes : List ℕ) × IsFile name limit bytes × HasAsked (after bytes) (asked ++ name ∷ []) now))
   HasAsked (parses what bytes after) asked now = (now ≡ asked) ⊎ ((t : Tree) × Spells all_rules bytes t × HasAsked (after t) asked now)
@@ -51,9 +63,26 @@ module _ (files : List ℕ → Option (List ℕ)) where
       ⊎ (((t : Tree) × Spells all_rules bytes t × HasAsked (after (Some t)) asked now)
       ⊎ ((IsAccepted all_rules bytes → ⊥) × HasAsked (after None) asked now))
 
+  -- The run has come to write this text on standard output, or one that begins with it, once it has read the files of these names, in
+  -- their order, after those before. Of bytes that are no JSON text nothing is written there.
+  abbrev pub HasSaid : Run → (before now : List (List ℕ)) → (text : List ℕ) → Type 0
+  HasSaid (ends made) asked now text = (now ≡ asked) × IsFront text made.out
+  HasSaid (says first next) asked now text =
+      ((now ≡ asked) × IsFront text first) ⊎ ((more : List ℕ) × HasSaid next asked now more × (text ≡ first ++ more))
+  HasSaid (reads longer name limit after) asked now text =
+      (IsLongerIfTold (files name) limit × (now ≡ asked ++ name ∷ []) × IsFront text longer.out)
+      ⊎ ((bytes : List ℕ) × IsFile name limit bytes × HasSaid (after bytes) (asked ++ name ∷ []) now text)
+  HasSaid (parses what bytes after) asked now text =
+      ((t : Tree) × Spells all_rules bytes t × HasSaid (after t) asked now text)
+      ⊎ ((IsAccepted all_rules bytes → ⊥) × (now ≡ asked) × (text ≡ []))
+  HasSaid (may_parse bytes after) asked now text =
+      ((t : Tree) × Spells all_rules bytes t × HasSaid (after (Some t)) asked now text)
+      ⊎ ((IsAccepted all_rules bytes → ⊥) × HasSaid (after None) asked now text)
+
   -- the contents of every file that the run comes to read are known
   abbrev pub AreTold : Run → Type 0
   AreTold (ends made) = Unit {0}
+  AreTold (says text next) = AreTold next
   AreTold (reads longer name limit after) = (is_some (files name) ≡ true) × ((bytes : List ℕ) → IsFile name limit bytes → AreTold (after bytes))
   AreTold (parses what bytes after) = (t : Tree) → Spells all_rules bytes t → AreTold (after t)
   AreTold (may_parse bytes after) =
@@ -62,6 +91,7 @@ module _ (files : List ℕ → Option (List ℕ)) where
 -- the run reads no file
 abbrev pub IsFileless : Run → Type 0
 IsFileless (ends made) = Unit {0}
+IsFileless (says text next) = IsFileless next
 IsFileless (reads longer name limit after) = ⊥
 IsFileless (parses what bytes after) = (t : Tree) → IsFileless (after t)
 IsFileless (may_parse bytes after) = (o : Option Tree) → IsFileless (after o)

@@ -8,7 +8,7 @@ use Rattle.program_runs.specs.declared.status.Status.TheVariants as status
 use Rattle.program_runs.specs.Ending.{status_of}
 use Rattle.program_runs.specs.Outcome.{RunOutcome, line}
 use Rattle.program_runs.specs.FailedReads.{NoneFailed, ReadFails}
-use Rattle.program_runs.specs.Runs.{Run, HasOutcome, AreTold}
+use Rattle.program_runs.specs.Runs.{Run, HasOutcome, HasSaid, AreTold}
 
 -- the line of a file that could not be read
 abbrev pub unread_line : List ℕ → List ℕ
@@ -55,9 +55,9 @@ module _ (files : List ℕ → Option (List ℕ)) (run : Run) (asked_old asked_n
         ((all : List (List ℕ)) (o : RunOutcome) → AreTold files run → HasOutcome files run asked_old all o → GainsPrefix old new o.err)
         ⊎ ((name : List ℕ) × ReadFails files run reads_old reads_new failed asked_old asked_new name × GainsPrefix old new (unread_line name))
 
-  -- an out text is due: the run has an outcome with one
+  -- an out text is due: the run has come to write one
   abbrev pub OutTextIsDue : Type 0
-  OutTextIsDue = (o : RunOutcome) × HasOutcome files run asked_old asked_new o × (0 < length o.out)
+  OutTextIsDue = (text : List ℕ) × HasSaid files run asked_old asked_new text × (0 < length text)
 
   -- an err line is due: the run has an outcome with one, or a read failed
   abbrev pub ErrLineIsDue : ℕ → ℕ → Option (List ℕ) → Type 0

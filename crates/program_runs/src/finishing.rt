@@ -41,6 +41,19 @@ pub fn write_answer<O: Sink, E: Sink>(
     Ok(())
 }
 
+/// Writes a piece of what standard output is to hold; nothing is asked of it where the piece is empty.
+pub fn write_piece<O: Sink>(piece: &[u8], out: &mut O) -> Result<(), SinkFailed>
+    ensures ok { OnOk result (Gains (O.held out.old) (O.held out.new) piece.now) }
+    ensures none_failed { OnOk result (O.faults out.new ≡ O.faults out.old) }
+    ensures err { OnErr result (GainsPrefix (O.held out.old) (O.held out.new) piece.now) }
+    ensures one_failed { OnErr result ((0 < length piece.now) × (O.faults out.new ≡ raised (O.faults out.old))) }
+{
+    if piece.is_empty() {
+        return Ok(());
+    }
+    out.write(piece)
+}
+
 /// Writes the line of a file that could not be read.
 pub fn write_unread<E: Sink>(alloc: Global, name: &str, err: &mut E) -> Status
     ensures status { EndsUnread result (E.held err.old) (E.held err.new) (E.faults err.old) (E.faults err.new) name.now }

@@ -9,6 +9,14 @@ pub enum RunStop<'a> {
     Unread(&'a str),
 }
 
+/// Why not all answers of a run were written.
+#[derive(Clone, Copy, Debug)]
+pub enum WriteStop {
+    NoMemory,
+    /// Standard output did not take the whole of an answer.
+    Unwritten,
+}
+
 /// Why a run goes no further.
 #[derive(Drop)]
 pub enum RunHalt<'a> {

@@ -6,10 +6,12 @@
 //! // a file that is too long or no JSON text halts the run with its refusal: `refused style json Syntax 7`
 //! ```
 //!
-//! What is promised: a run is one value of `Run` in `specs/Runs.antt`: it ends with an outcome, or reads a
-//! file and goes on, or parses bytes and goes on. What an outcome of it is, which files it has read by then, and
-//! what has to be known of them for it to be certain are said once, by recursion on that value, and no run
-//! has two outcomes (`each_run_has_one_outcome`). Each call here that reads something says to which rest of
+//! What is promised: a run is one value of `Run` in `specs/Runs.antt`: it ends with an outcome, or writes a text
+//! and goes on, or reads a file and goes on, or parses bytes and goes on. What an outcome of it is, which files it
+//! has read by then, what it has come to write, and what has to be known of files for it to be certain are said
+//! once, by recursion on that value, and no run has two outcomes (`each_run_has_one_outcome`). What a run has come
+//! to write begins the text of its outcome, so a caller may write each text once the run comes to it (`HasWritten`
+//! in `specs/Progress.antt`). Each call here that reads something says to which rest of
 //! the run it leads, and each halt is an outcome of the run, a failed read of a file that the run came to, or
 //! a failed allocation.
 //!
@@ -27,8 +29,8 @@ mod status;
 mod subject;
 
 pub use answer::{RunOutput, answer_out, answer_refused, answer_said, answer_usage, begin_refusal};
-pub use finishing::{write_answer, write_unread};
-pub use halt::{RunHalt, RunStop};
+pub use finishing::{write_answer, write_piece, write_unread};
+pub use halt::{RunHalt, RunStop, WriteStop};
 pub use laws::each_run_has_one_outcome;
 pub use reading::{parse_json, read_file, read_json};
 pub use refusals::{no_json, too_long};

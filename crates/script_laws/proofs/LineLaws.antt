@@ -1,7 +1,6 @@
 -- A script goes by its lines, and those that are refused count for nothing.
-use Rattle.std.proofs.Common.{◌≡◌, ◌∙◌, ℕ, ◌+◌, List, [], ◌∷◌, ◌++◌, refl, sym, subst, Bool, true, false, Option, Some, None, Ok, Err, inl, inr}
+use Rattle.std.proofs.Common.{◌≡◌, ◌∙◌, ℕ, ◌+◌, List, [], ◌∷◌, ◌++◌, refl, sym, ap, subst, Bool, true, false, Option, Some, None, Ok, Err, inl, inr}
 use Rattle.std.proofs.Math.Bool.{or_assoc}
-use Rattle.std.proofs.lemmas.List.{append_assoc, append-nil}
 use Rattle.std.specs.Prelude.{not, ◌||◌, if◌then◌else◌}
 use Rattle.edit_script.specs.Command.{command_of}
 use Rattle.edit_script.specs.Edit as edits
@@ -12,7 +11,7 @@ use Rattle.edit_session.specs.Applied.{presented_after, unless_refused, refusal,
 use Rattle.edit_session.specs.SessionState.{SessionState}
 use Rattle.edit_session.specs.declared.answer.Refusal.{Refusal}
 use Rattle.program_runs.specs.Outcome.{RunOutcome, said}
-use Rattle.program_runs.specs.Runs.{HasOutcome}
+use Rattle.program_runs.specs.Runs.{HasOutcome, after_text}
 use Rattle.script_runs.specs.AnswerTexts.{is_refused}
 use Rattle.script_runs.specs.ScriptLines.{script_lines}
 use Rattle.script_runs.specs.ScriptRun.{LineOut, lines_run, ending_by}
@@ -88,48 +87,46 @@ module _ (tiles : List SourceTile) (scripts : List ℕ → Bool) (can_change : B
   -- ---- the run of lines
 
   module _ (files : List ℕ → Option (List ℕ)) (asked all : List (List ℕ)) where
-    abbrev GoesBy : (number : ℕ) (p : SessionState) (out : List ℕ) (any : Bool) (bs : List (List ℕ)) (o : RunOutcome) → Type 0
-    GoesBy number p out any bs o =
+    abbrev GoesBy : (number : ℕ) (p : SessionState) (any : Bool) (bs : List (List ℕ)) (o : RunOutcome) → Type 0
+    GoesBy number p any bs o =
         (ls : List Line) × Say bs ls × (all ≡ asked)
-        × (o ≡ said (out ++ texts (outs tiles scripts can_change number p ls)) (ending_by (any || some_refused (outs tiles scripts can_change number p ls))))
+        × (o ≡ said (texts (outs tiles scripts can_change number p ls)) (ending_by (any || some_refused (outs tiles scripts can_change number p ls))))
 
     or_none : (b : Bool) → b ≡ (b || false)
     or_none true = refl
     or_none false = refl
 
-    goes_on : (number : ℕ) (p : SessionState) (out : List ℕ) (any : Bool) (b : List ℕ) (bs : List (List ℕ)) (l : Line) (o : RunOutcome) →
+    goes_on : (number : ℕ) (p : SessionState) (any : Bool) (b : List ℕ) (bs : List (List ℕ)) (l : Line) (rest o : RunOutcome) →
         Says b l →
-        GoesBy (number + 1) (line tiles scripts can_change number p l).after (out ++ (line tiles scripts can_change number p l).text)
-        (any || (line tiles scripts can_change number p l).is_refused) bs o →
-        GoesBy number p out any (b ∷ bs) o
-    goes_on number p out any b bs l o says (ls, say, names, is) =
+        GoesBy (number + 1) (line tiles scripts can_change number p l).after (any || (line tiles scripts can_change number p l).is_refused) bs rest →
+        o ≡ after_text (line tiles scripts can_change number p l).text rest →
+        GoesBy number p any (b ∷ bs) o
+    goes_on number p any b bs l rest o says (ls, say, names, is) made =
         let here = line tiles scripts can_change number p l in
         let later = outs tiles scripts can_change (number + 1) here.after ls in (
           l ∷ ls,
           (says, say),
           names,
-          is ∙ (λ i. said (append_assoc out here.text (texts later) i)
-              (ending_by (or_assoc any here.is_refused (some_refused later) i))),
+          made ∙ (ap (after_text here.text) is
+              ∙ (λ i. said (here.text ++ texts later) (ending_by (or_assoc any here.is_refused (some_refused later) i)))),
         )
 
-    lines_go : (number : ℕ) (p : SessionState) (out : List ℕ) (any : Bool) (bs : List (List ℕ)) (o : RunOutcome) →
-        HasOutcome files (lines_run tiles scripts can_change number p out any bs) asked all o → GoesBy number p out any bs o
-    lines_go number p out any [] o h = ([], tt, h.1, h.0 ∙ (λ i. said (sym (append-nil out) i) (ending_by (or_none any i))))
-    lines_go number p out any (b ∷ bs) o (inl (t, spelled, h)) =
-        goes_on number p out any b bs (command_of t) o (inl (t, spelled, refl))
+    lines_go : (number : ℕ) (p : SessionState) (any : Bool) (bs : List (List ℕ)) (o : RunOutcome) →
+        HasOutcome files (lines_run tiles scripts can_change number p any bs) asked all o → GoesBy number p any bs o
+    lines_go number p any [] o h = ([], tt, h.1, h.0 ∙ (λ i. said [] (ending_by (or_none any i))))
+    lines_go number p any (b ∷ bs) o (inl (t, spelled, (rest, h, made))) =
+        goes_on number p any b bs (command_of t) rest o (inl (t, spelled, refl))
         (lines_go (number + 1) (line tiles scripts can_change number p (command_of t)).after
-        (out ++ (line tiles scripts can_change number p (command_of t)).text)
-        (any || (line tiles scripts can_change number p (command_of t)).is_refused) bs o h)
-    lines_go number p out any (b ∷ bs) o (inr (none, h)) =
-        goes_on number p out any b bs (Err Json) o (inr (none, refl))
+        (any || (line tiles scripts can_change number p (command_of t)).is_refused) bs rest h) made
+    lines_go number p any (b ∷ bs) o (inr (none, (rest, h, made))) =
+        goes_on number p any b bs (Err Json) rest o (inr (none, refl))
         (lines_go (number + 1) (line tiles scripts can_change number p (Err Json)).after
-        (out ++ (line tiles scripts can_change number p (Err Json)).text)
-        (any || (line tiles scripts can_change number p (Err Json)).is_refused) bs o h)
+        (any || (line tiles scripts can_change number p (Err Json)).is_refused) bs rest h) made
 
 pub refused_lines_count_for_nothing : RefusedLinesCountForNothing
 refused_lines_count_for_nothing tiles scripts can_change number other p ls = counted tiles scripts can_change other number p ls
 
 pub scripts_go_by_their_lines : ScriptsGoByTheirLines
 scripts_go_by_their_lines files tiles scripts can_change p script asked all o h =
-    let (ls, say, names, is) = lines_go tiles scripts can_change files asked all 1 p [] false (script_lines script) o h in
+    let (ls, say, names, is) = lines_go tiles scripts can_change files asked all 1 p false (script_lines script) o h in
     (ls, say, is, names)

@@ -1,6 +1,7 @@
 -- `eval` is `replay` of the script `["list"]`.
 use Rattle.std.proofs.Common.{◌≡◌, ◌∙◌, ℕ, zero, suc, ◌-◌, ◌<◌, List, [], ◌∷◌, ◌++◌, length, refl, sym, ap, subst, arith, Bool, false, Option, Some, None, Result, Ok, Err, inl, inr}
 use Rattle.std.proofs.lemmas.Str.{IsUtf8-from_ascii}
+use Rattle.std.proofs.lemmas.List.{append-nil}
 use Rattle.std.specs.Prelude.{codes, slice_index, ◌||◌}
 use Rattle.std.specs.Str.{IsUtf8}
 use Rattle.outside_io.specs.Reading.{IsContent, IsLongerIfTold}
@@ -13,11 +14,13 @@ use Rattle.decimal_json.proofs.WrittenTrees.{tree_written}
 use Rattle.tile_reader.specs.Tile.{tile_of}
 use Rattle.tile_reader.specs.declared.fault.TileFault.{TileFault}
 use Rattle.tile_reader.specs.declared.tile.TileLayer.{TileLayer}
+use Rattle.edit_session.specs.Applied.{listing_of}
 use Rattle.edit_session.specs.Opening.{Fault, tiles_fault}
 use Rattle.style_layout.specs.Shown.{SourceTile}
 use Rattle.style_rules.specs.Findings.{findings}
 use Rattle.program_runs.specs.Outcome.{RunOutcome, said}
-use Rattle.program_runs.specs.Runs.{Run, HasOutcome, ends, reads, parses}
+use Rattle.program_runs.specs.declared.status.Ending.TheVariants.{Fine}
+use Rattle.program_runs.specs.Runs.{Run, HasOutcome, ends, reads, parses, after_text}
 use Rattle.script_runs.specs.ScriptRun.{script_run, line_out, line_command, ending_by}
 use Rattle.style_program.specs.EvalRun.{opened_or_refused, shown_at_first, listed_outcome, listed_run}
 use Rattle.style_program.specs.ReplayRun.{edited_run, script_part, script_limit}
@@ -120,15 +123,21 @@ module _ (files : List ℕ → Option (List ℕ)) (o : RunOutcome) (w : ReplayWo
   abbrev listing : Run
   listing = ends (listed_outcome w.shown images scripts shown)
 
-  abbrev answered : Tree → RunOutcome
-  answered t =
+  abbrev written : Tree → RunOutcome
+  written t =
       let out = line_out shown.1 scripts can_change 1 (shown_at_first w.shown images scripts shown) (line_command (Some t)) in
-      said ([] ++ out.text) (ending_by (false || out.is_refused))
+      after_text out.text (said [] (ending_by (false || out.is_refused)))
+
+  written_lists : written list_tree ≡ listed_outcome w.shown images scripts shown
+  written_lists = ap (λ (text : List ℕ). said text Fine) (append-nil (listing_of shown.1 scripts (shown_at_first w.shown images scripts shown)))
 
   -- the script reads no file
   script_lists : (asked all : Names) → HasOutcome files (script list_script) asked all o → (o ≡ listed_outcome w.shown images scripts shown) × (all ≡ asked)
-  script_lists asked all (inl (t, spelled, h)) =
-      (h.0 ∙ ap answered (one_tree all_rules list_script t list_tree spelled list_spelled), h.1)
+  script_lists asked all (inl (t, spelled, (rest, h, made))) = (
+    made ∙ (ap (after_text (line_out shown.1 scripts can_change 1 (shown_at_first w.shown images scripts shown) (line_command (Some t))).text) h.0
+        ∙ (ap written (one_tree all_rules list_script t list_tree spelled list_spelled) ∙ written_lists)),
+    h.1,
+  )
   script_lists asked all (inr (none, h)) = absurd (none (list_tree, list_spelled))
 
   opened_lists : (fault : Option Fault) (asked all : Names) → HasOutcome files (opened_or_refused fault (script list_script)) asked all o →
@@ -138,7 +147,7 @@ module _ (files : List ℕ → Option (List ℕ)) (o : RunOutcome) (w : ReplayWo
 
   listed_opens : (fault : Option Fault) (asked all : Names) → HasOutcome files (opened_or_refused fault listing) asked all o →
       HasOutcome files (opened_or_refused fault (script list_script)) asked all o
-  listed_opens None asked all h = inl (list_tree, list_spelled, h)
+  listed_opens None asked all h = inl (list_tree, list_spelled, (said [] Fine, (refl, h.1), h.0 ∙ sym written_lists))
   listed_opens (Some fault) asked all h = h
 
   -- what is listed ends where it began, so other files may have been read before

@@ -1,68 +1,117 @@
 -- From the answer to a line to the run of the lines from it on.
-use Rattle.std.proofs.Common.{◌≡◌, ℕ, ◌+◌, List, ◌∷◌, ◌++◌, Bool, true, ◌||◌, refl, subst, sym, inl, inr}
-use Rattle.std.specs.Prelude.{Option, Result, Ok, Err}
+use Rattle.std.proofs.Common.{◌≡◌, ℕ, ◌+◌, List, ◌∷◌, ◌++◌, Bool, ◌||◌, refl, subst, sym, inl, inr}
+use Rattle.std.specs.Prelude.{true, Option, Some, None, Result, Ok, Err, IfOk}
 use Rattle.edit_script.specs.Edit.{Edit}
 use Rattle.edit_script.specs.Line.{AnswersLine}
 use Rattle.edit_script.specs.declared.command.LineFault.{LineFault}
 use Rattle.edit_session.specs.Applied.{Reply, applied}
 use Rattle.edit_session.specs.SessionState.{SessionState}
 use Rattle.program_runs.specs.Outcome.{RunOutcome}
-use Rattle.program_runs.specs.Runs.{Run, HasOutcome}
+use Rattle.program_runs.specs.Progress.{Writes}
+use Rattle.program_runs.specs.Runs.{Run, says, HasOutcome, HasSaid, IsFront, after_text}
 use Rattle.script_runs.specs.AnswerTexts.{fault_name, refused_line, reply_text, is_refused}
+use Rattle.script_runs.specs.LineAnswers.{LineGives, line_seen}
 use Rattle.script_runs.specs.ScriptRun.{LineOut, line_out, lines_run, replied}
+use Rattle.script_runs.specs.declared.script.LineAnswer.{LineAnswer}
 use Rattle.style_layout.specs.Shown.{SourceTile}
 
-module _ (files : List ℕ → Option (List ℕ)) (tiles : List SourceTile) (scripts : List ℕ → Bool) (can_change : Bool) (number : ℕ) (p : SessionState) (out : List ℕ) (any : Bool) (lines : List (List ℕ)) (asked all : List (List ℕ)) (o : RunOutcome) where
-  -- the run after a line
-  abbrev next_run : LineOut → Run
-  next_run l = lines_run tiles scripts can_change (number + 1) l.after (out ++ l.text) (any || l.is_refused) lines
+module _ (tiles : List SourceTile) (scripts : List ℕ → Bool) (can_change : Bool) (number : ℕ) (p : SessionState) where
+  -- ---- what a line gives
 
-  behind_line : (line : List ℕ) (read : Result Edit LineFault) → AnswersLine line read → HasOutcome files (next_run (line_out tiles scripts can_change number p read)) asked all o
-      → HasOutcome files (lines_run tiles scripts can_change number p out any (line ∷ lines)) asked all o
-  behind_line line read (inl (t, spells, e)) made = inl (t, spells, subst (λ r. HasOutcome files (next_run (line_out tiles scripts can_change number p r)) asked all o) e made)
-  behind_line line read (inr (none, e)) made = inr (none, subst (λ r. HasOutcome files (next_run (line_out tiles scripts can_change number p r)) asked all o) e made)
+  pub gives_reply : (line : List ℕ) (read : Result Edit LineFault) (edit : Edit) (after : SessionState) (reply : Reply) (text : List ℕ) (refused : Bool)
+      → AnswersLine line read → read ≡ Ok edit → (after, reply) ≡ applied tiles scripts can_change p edit → text ≡ reply_text number reply → refused ≡ is_refused reply
+      → LineGives tiles scripts can_change number p line (record { after = after; text = text; is_refused = refused })
+  gives_reply line read edit after reply text refused answers is applies written says_so =
+      let here : line_out tiles scripts can_change number p (Ok edit) ≡ record { after = after; text = reply_text number reply; is_refused = is_refused reply } =
+      (λ j. replied number (sym applies j)) in
+      let out : LineOut = record { after = after; text = text; is_refused = refused } in
+      let there : out ≡ record { after = after; text = reply_text number reply; is_refused = is_refused reply } =
+      (λ j. record { after = after; text = written j; is_refused = says_so j }) in (
+        read,
+        answers,
+        subst (λ (r : Result Edit LineFault). out ≡ line_out tiles scripts can_change number p r) (sym is)
+            (subst (λ (l : LineOut). out ≡ l) (sym here) there),
+      )
 
-  -- what is written and refused, as the code has it
-  as_written : (after : SessionState) (text new : List ℕ) (said refused : Bool) → new ≡ out ++ text → refused ≡ said
-      → HasOutcome files (lines_run tiles scripts can_change (number + 1) after new (any || refused) lines) asked all o
-      → HasOutcome files (lines_run tiles scripts can_change (number + 1) after (out ++ text) (any || said) lines) asked all o
-  as_written after text new said refused written is made =
-      subst (λ x. HasOutcome files (lines_run tiles scripts can_change (number + 1) after x (any || said) lines) asked all o) written
-      (subst (λ b. HasOutcome files (lines_run tiles scripts can_change (number + 1) after new (any || b) lines) asked all o) is made)
+  pub reply_given : {E : Type 0} (line : List ℕ) (read : Result Edit LineFault) (edit : Edit) (after : SessionState) (reply : Reply) (r : Result LineAnswer E)
+      → AnswersLine line read → read ≡ Ok edit → (after, reply) ≡ applied tiles scripts can_change p edit
+      → IfOk r (λ a. a.text.items ≡ reply_text number reply) → IfOk r (λ a. a.is_refused ≡ is_refused reply)
+      → IfOk r (λ a. LineGives tiles scripts can_change number p line (line_seen after a))
+  reply_given line read edit after reply (Ok a) answers is applies written says_so =
+      gives_reply line read edit after reply a.text.items a.is_refused answers is applies written says_so
+  reply_given line read edit after reply (Err lacks) answers is applies written says_so = tt
 
-  pub leads_command : (line : List ℕ) (read : Result Edit LineFault) (edit : Edit) (after : SessionState) (reply : Reply) (new : List ℕ) (refused : Bool)
-      → AnswersLine line read → read ≡ Ok edit → (after, reply) ≡ applied tiles scripts can_change p edit → new ≡ out ++ reply_text number reply → refused ≡ is_refused reply
-      → HasOutcome files (lines_run tiles scripts can_change (number + 1) after new (any || refused) lines) asked all o
-      → HasOutcome files (lines_run tiles scripts can_change number p out any (line ∷ lines)) asked all o
-  leads_command line read edit after reply new refused answers is applies written says made =
-      behind_line line read answers
-      (subst (λ r. HasOutcome files (next_run (line_out tiles scripts can_change number p r)) asked all o) (sym is)
-      (subst (λ (a : SessionState × Reply). HasOutcome files (next_run (replied number a)) asked all o) applies
-      (as_written after (reply_text number reply) new (is_refused reply) refused written says made)))
+  pub fault_given : {E : Type 0} (line : List ℕ) (read : Result Edit LineFault) (fault : LineFault) (r : Result LineAnswer E)
+      → AnswersLine line read → read ≡ Err fault
+      → IfOk r (λ a. a.text.items ≡ refused_line number (fault_name fault)) → IfOk r (λ a. a.is_refused ≡ true)
+      → IfOk r (λ a. LineGives tiles scripts can_change number p line (line_seen p a))
+  fault_given line read fault (Ok a) answers is written says_so =
+      let there : line_seen p a ≡ line_out tiles scripts can_change number p (Err fault) =
+      (λ j. record { after = p; text = written j; is_refused = says_so j }) in
+      (read, answers, subst (λ (r : Result Edit LineFault). line_seen p a ≡ line_out tiles scripts can_change number p r) (sym is) there)
+  fault_given line read fault (Err lacks) answers is written says_so = tt
 
-  pub leads_fault : (line : List ℕ) (read : Result Edit LineFault) (fault : LineFault) (new : List ℕ)
-      → AnswersLine line read → read ≡ Err fault → new ≡ out ++ refused_line number (fault_name fault)
-      → HasOutcome files (lines_run tiles scripts can_change (number + 1) p new (any || true) lines) asked all o
-      → HasOutcome files (lines_run tiles scripts can_change number p out any (line ∷ lines)) asked all o
-  leads_fault line read fault new answers is written made =
-      behind_line line read answers
-      (subst (λ r. HasOutcome files (next_run (line_out tiles scripts can_change number p r)) asked all o) (sym is)
-      (as_written p (refused_line number (fault_name fault)) new true true written refl made))
+  -- ---- the run of the line and those after it
 
--- From the run of the lines after a line to that of all, where the code has the same tiles and test of images by other names.
-pub goes_back : (files : List ℕ → Option (List ℕ)) (scripts : List ℕ → Bool) (asked all : List (List ℕ)) (o : RunOutcome)
-    → (own tiles : List SourceTile) → own ≡ tiles → (changes can_change : Bool) → changes ≡ can_change
-    → (number : ℕ) (p : SessionState) (out : List ℕ) (any : Bool) (lines rest : List (List ℕ)) {line : List ℕ} → lines ≡ line ∷ rest
-    → (after : SessionState) (new : List ℕ) (refused later : Bool) → (any || refused) ≡ later
-    → (HasOutcome files (lines_run own scripts changes (number + 1) after new (any || refused) rest) asked all o
-    → HasOutcome files (lines_run own scripts changes number p out any (line ∷ rest)) asked all o)
-    → HasOutcome files (lines_run tiles scripts can_change (number + 1) after new later rest) asked all o
-    → HasOutcome files (lines_run tiles scripts can_change number p out any lines) asked all o
-goes_back files scripts asked all o own tiles same changes can_change alike number p out any lines rest {line} cut after new refused later says leads made =
-    subst (λ ls. HasOutcome files (lines_run tiles scripts can_change number p out any ls) asked all o) (sym cut)
-    (subst (λ ts. HasOutcome files (lines_run ts scripts can_change number p out any (line ∷ rest)) asked all o) same
-    (subst (λ b. HasOutcome files (lines_run own scripts b number p out any (line ∷ rest)) asked all o) alike
-    (leads
-    (subst (λ b. HasOutcome files (lines_run own scripts b (number + 1) after new (any || refused) rest) asked all o) (sym alike)
-    (subst (λ ts. HasOutcome files (lines_run ts scripts can_change (number + 1) after new (any || refused) rest) asked all o) (sym same)
-    (subst (λ b. HasOutcome files (lines_run tiles scripts can_change (number + 1) after new b rest) asked all o) (sym says) made))))))
+  module _ (any : Bool) (lines : List (List ℕ)) where
+    -- the run after a line
+    abbrev pub next_run : LineOut → Run
+    next_run l = lines_run tiles scripts can_change (number + 1) l.after (any || l.is_refused) lines
+
+    abbrev said_run : LineOut → Run
+    said_run l = says l.text (next_run l)
+
+    abbrev this_run : List ℕ → Run
+    this_run line = lines_run tiles scripts can_change number p any (line ∷ lines)
+
+    outcome_behind : (files : List ℕ → Option (List ℕ)) (asked all : List (List ℕ)) (o : RunOutcome) (line : List ℕ) (out : LineOut)
+        → LineGives tiles scripts can_change number p line out → HasOutcome files (said_run out) asked all o → HasOutcome files (this_run line) asked all o
+    outcome_behind files asked all o line out (read, inl (t, spells, e), is) made =
+        inl (
+          t,
+          spells,
+          subst (λ r. HasOutcome files (said_run (line_out tiles scripts can_change number p r)) asked all o) e
+              (subst (λ l. HasOutcome files (said_run l) asked all o) is made),
+        )
+    outcome_behind files asked all o line out (read, inr (none, e), is) made =
+        inr (
+          none,
+          subst (λ r. HasOutcome files (said_run (line_out tiles scripts can_change number p r)) asked all o) e
+              (subst (λ l. HasOutcome files (said_run l) asked all o) is made),
+        )
+
+    said_behind : (files : List ℕ → Option (List ℕ)) (asked now : List (List ℕ)) (text line : List ℕ) (out : LineOut)
+        → LineGives tiles scripts can_change number p line out → HasSaid files (said_run out) asked now text → HasSaid files (this_run line) asked now text
+    said_behind files asked now text line out (read, inl (t, spells, e), is) said =
+        inl (
+          t,
+          spells,
+          subst (λ r. HasSaid files (said_run (line_out tiles scripts can_change number p r)) asked now text) e
+              (subst (λ l. HasSaid files (said_run l) asked now text) is said),
+        )
+    said_behind files asked now text line out (read, inr (none, e), is) said =
+        inr (
+          none,
+          subst (λ r. HasSaid files (said_run (line_out tiles scripts can_change number p r)) asked now text) e
+              (subst (λ l. HasSaid files (said_run l) asked now text) is said),
+        )
+
+    pub line_writes : (line : List ℕ) (out : LineOut) → LineGives tiles scripts can_change number p line out → Writes (this_run line) out.text (next_run out)
+    line_writes line out gives = record {
+      outcomes = λ files asked all o made. outcome_behind files asked all (after_text out.text o) line out gives (o, made, refl);
+      says = λ files asked now more said. said_behind files asked now (out.text ++ more) line out gives (inr (more, said, refl));
+      begins = λ files asked front is. said_behind files asked asked front line out gives (inl (refl, is));
+    }
+
+-- The run of the lines that a script has, where the code has their tiles, its test of images and its lines by other names.
+pub writes_line : (scripts : List ℕ → Bool) (own tiles : List SourceTile) → own ≡ tiles → (changes can_change : Bool) → changes ≡ can_change
+    → (number : ℕ) (p : SessionState) (any : Bool) (line : List ℕ) (lines rest : List (List ℕ)) → lines ≡ line ∷ rest
+    → (after : SessionState) (text : List ℕ) (refused later : Bool) → (any || refused) ≡ later
+    → LineGives own scripts changes number p line (record { after = after; text = text; is_refused = refused })
+    → Writes (lines_run tiles scripts can_change number p any lines) text (lines_run tiles scripts can_change (number + 1) after later rest)
+writes_line scripts own tiles same changes can_change alike number p any line lines rest cut after text refused later any_is gives =
+    subst (λ (ls : List (List ℕ)). Writes (lines_run tiles scripts can_change number p any ls) text (lines_run tiles scripts can_change (number + 1) after later rest)) (sym cut)
+    (subst (λ (b : Bool). Writes (lines_run tiles scripts can_change number p any (line ∷ rest)) text (lines_run tiles scripts can_change (number + 1) after b rest)) any_is
+    (line_writes tiles scripts can_change number p any rest line (record { after = after; text = text; is_refused = refused })
+    (subst (λ (b : Bool). LineGives tiles scripts b number p line (record { after = after; text = text; is_refused = refused })) alike
+    (subst (λ (ts : List SourceTile). LineGives ts scripts changes number p line (record { after = after; text = text; is_refused = refused })) same gives))))

@@ -2,3 +2,5 @@
 pub mod ScriptLines
 pub mod AnswerTexts
 pub mod ScriptRun
+-- What only contracts of functions and proofs use.
+pub mod LineAnswers

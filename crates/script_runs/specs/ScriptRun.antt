@@ -1,5 +1,5 @@
 -- The run of a script: line by line, what is written and what the style then is. Source: own.
-use Rattle.std.specs.Prelude.{ℕ, ◌+◌, List, [], ◌∷◌, ◌++◌, Bool, true, false, ◌||◌, Option, Some, None, Result, Ok, Err, if◌then◌else◌}
+use Rattle.std.specs.Prelude.{ℕ, ◌+◌, List, [], ◌∷◌, Bool, true, false, ◌||◌, Option, Some, None, Result, Ok, Err, if◌then◌else◌}
 use Rattle.decimal_json.specs.Tree.{Tree}
 use Rattle.edit_script.specs.Command.{command_of}
 use Rattle.edit_script.specs.Edit.{Edit}
@@ -10,7 +10,7 @@ use Rattle.edit_session.specs.SessionState.{SessionState}
 use Rattle.program_runs.specs.declared.status.Ending.{Ending}
 use Rattle.program_runs.specs.declared.status.Ending.TheVariants.{Fine, Found}
 use Rattle.program_runs.specs.Outcome.{said}
-use Rattle.program_runs.specs.Runs.{Run, ends, may_parse}
+use Rattle.program_runs.specs.Runs.{Run, ends, says, may_parse}
 use Rattle.script_runs.specs.AnswerTexts.{fault_name, refused_line, reply_text, is_refused}
 use Rattle.script_runs.specs.ScriptLines.{script_lines}
 use Rattle.style_layout.specs.Shown.{SourceTile}
@@ -41,15 +41,15 @@ module _ (tiles : List SourceTile) (scripts : List ℕ → Bool) (can_change : B
   line_out number p (Ok edit) = replied number (applied tiles scripts can_change p edit)
   line_out number p (Err fault) = record { after = p; text = refused_line number (fault_name fault); is_refused = true }
 
-  -- The run of lines from this number on, after the text that is written already; `any` says whether a line
-  -- before them was refused.
-  abbrev pub lines_run : (number : ℕ) → SessionState → (out : List ℕ) → (any : Bool) → List (List ℕ) → Run
-  lines_run number p out any [] = ends (said out (ending_by any))
-  lines_run number p out any (l ∷ ls) =
+  -- The run of lines from this number on: each is answered before the next is looked at. `any` says whether a line before them
+  -- was refused.
+  abbrev pub lines_run : (number : ℕ) → SessionState → (any : Bool) → List (List ℕ) → Run
+  lines_run number p any [] = ends (said [] (ending_by any))
+  lines_run number p any (l ∷ ls) =
       may_parse l (λ t.
-      lines_run (number + 1) (line_out number p (line_command t)).after
-      (out ++ (line_out number p (line_command t)).text) (any || (line_out number p (line_command t)).is_refused) ls)
+      says (line_out number p (line_command t)).text
+      (lines_run (number + 1) (line_out number p (line_command t)).after (any || (line_out number p (line_command t)).is_refused) ls))
 
   -- The run of a script.
   abbrev pub script_run : SessionState → List ℕ → Run
-  script_run p script = lines_run 1 p [] false (script_lines script)
+  script_run p script = lines_run 1 p false (script_lines script)

@@ -1,73 +1,83 @@
 //! The texts of the answers to the lines of a script.
 
-ghost use Rattle.std.specs.Prelude.{◌≡◌, ◌++◌, codes, decimal, OnOk};
+ghost use Rattle.std.specs.Prelude.{◌≡◌, ◌++◌, codes, decimal, true, false, IfOk, OnOk};
 ghost use Rattle.edit_session.specs.View.{reply_seen};
 ghost use Rattle.script_runs.specs.AnswerTexts.{fault_name, is_refused, ok_line, refusal_text, refused_line, reply_text};
 
+use crate::script::LineAnswer;
 use decimal_json::write_path;
 use edit_script::LineFault;
 use edit_session::{Answer, Refusal};
 use itoa::Buffer;
-use std::alloc::AllocError;
+use std::alloc::{AllocError, Global};
 use style_rules::Finding;
 
-/// Appends what the line of this number is answered.
-pub(crate) fn write_reply(
+/// What the line of this number is answered.
+pub(crate) fn answer_of(
+    alloc: Global,
     number: usize,
-    answer: &Answer,
-    out: &mut Vec<u8>,
-) -> Result<(), AllocError>
-    ensures { OnOk result (out.new.items ≡ out.old.items ++ reply_text number (reply_seen answer.now)) }
+    answer: Answer,
+) -> Result<LineAnswer, AllocError>
+    ensures text { IfOk result (λ line. line.text.items ≡ reply_text number (reply_seen answer)) }
+    ensures refused { IfOk result (λ line. line.is_refused ≡ is_refused (reply_seen answer)) }
 {
     match answer {
-        Answer::Done => write_ok(number, out),
-        Answer::Listing(text) => {
-            out.extend_from_slice(text.as_slice())?;
-            Ok(())
-        }
-        Answer::Stats => write_fault(number, LineFault::Form, out),
-        Answer::Refused(refusal) => write_refused(number, refusal, out),
+        Answer::Done => ok_answer(alloc, number),
+        Answer::Listing(text) => Ok(LineAnswer {
+            text,
+            is_refused: false,
+        }),
+        Answer::Stats => fault_answer(alloc, number, LineFault::Form),
+        Answer::Refused(refusal) => refused_answer(alloc, number, &refusal),
     }
 }
 
-/// Whether an answer refuses the line.
-pub(crate) fn is_refused(answer: &Answer) -> bool
-    ensures { result ≡ is_refused (reply_seen answer.now) }
-{
-    matches!(answer, Answer::Stats | Answer::Refused(_))
-}
-
-/// Appends that the line of this number is no command.
-pub(crate) fn write_fault(
+/// That the line of this number is no command.
+pub(crate) fn fault_answer(
+    alloc: Global,
     number: usize,
     fault: LineFault,
-    out: &mut Vec<u8>,
-) -> Result<(), AllocError>
-    ensures { OnOk result (out.new.items ≡ out.old.items ++ refused_line number (fault_name fault)) }
+) -> Result<LineAnswer, AllocError>
+    ensures text { IfOk result (λ line. line.text.items ≡ refused_line number (fault_name fault)) }
+    ensures refused { IfOk result (λ line. line.is_refused ≡ true) }
 {
-    write_refusal_front(number, out)?;
-    out.extend_from_slice(fault_name(fault).as_bytes())?;
-    out.extend_from_slice(b"\n")?;
-    Ok(())
+    let mut text = Vec::new(alloc);
+    write_refusal_front(number, &mut text)?;
+    text.extend_from_slice(fault_name(fault).as_bytes())?;
+    text.extend_from_slice(b"\n")?;
+    Ok(LineAnswer {
+        text,
+        is_refused: true,
+    })
 }
 
-fn write_refused(number: usize, refusal: &Refusal, out: &mut Vec<u8>) -> Result<(), AllocError>
-    ensures { OnOk result (out.new.items ≡ out.old.items ++ refused_line number (refusal_text refusal.now)) }
+fn refused_answer(alloc: Global, number: usize, refusal: &Refusal) -> Result<LineAnswer, AllocError>
+    ensures text { IfOk result (λ line. line.text.items ≡ refused_line number (refusal_text refusal.now)) }
+    ensures refused { IfOk result (λ line. line.is_refused ≡ true) }
 {
-    write_refusal_front(number, out)?;
-    write_refusal(refusal, out)?;
-    out.extend_from_slice(b"\n")?;
-    Ok(())
+    let mut text = Vec::new(alloc);
+    write_refusal_front(number, &mut text)?;
+    write_refusal(refusal, &mut text)?;
+    text.extend_from_slice(b"\n")?;
+    Ok(LineAnswer {
+        text,
+        is_refused: true,
+    })
 }
 
-fn write_ok(number: usize, out: &mut Vec<u8>) -> Result<(), AllocError>
-    ensures { OnOk result (out.new.items ≡ out.old.items ++ ok_line number) }
+fn ok_answer(alloc: Global, number: usize) -> Result<LineAnswer, AllocError>
+    ensures text { IfOk result (λ line. line.text.items ≡ ok_line number) }
+    ensures refused { IfOk result (λ line. line.is_refused ≡ false) }
 {
     let mut digits = Buffer::new();
-    out.extend_from_slice(b"ok ")?;
-    out.extend_from_slice(digits.format(number).as_bytes())?;
-    out.extend_from_slice(b"\n")?;
-    Ok(())
+    let mut text = Vec::new(alloc);
+    text.extend_from_slice(b"ok ")?;
+    text.extend_from_slice(digits.format(number).as_bytes())?;
+    text.extend_from_slice(b"\n")?;
+    Ok(LineAnswer {
+        text,
+        is_refused: false,
+    })
 }
 
 // What is before the name of a refusal.

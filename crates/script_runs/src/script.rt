@@ -1,18 +1,18 @@
 //! The run of a script.
 
-ghost use Rattle.std.specs.Prelude.{◌≡◌, ◌+◌, ◌<◌, ◌∷◌, ℕ, List, Bool, Option, OnOk, IfOk, ◌||◌};
+ghost use Rattle.std.specs.Prelude.{◌≡◌, ℕ, List, Option, OnOk, IfOk, IfErr};
 ghost use Rattle.edit_session.specs.View.{session_state, tiles_of, IsSoundSession};
-ghost use Rattle.program_runs.specs.Outcome.{RunOutcome};
-ghost use Rattle.program_runs.specs.Progress.{outcome_of};
-ghost use Rattle.program_runs.specs.Runs.{HasOutcome};
-ghost use Rattle.script_runs.specs.ScriptRun.{lines_run, script_run, ending_by};
+ghost use Rattle.program_runs.specs.Progress.{IsCut, IsWritten};
+ghost use Rattle.script_runs.specs.LineAnswers.{LineGives, line_seen};
+ghost use Rattle.script_runs.specs.ScriptRun.{script_run, ending_by};
 
-use crate::answers::{is_refused, write_fault, write_reply};
+use crate::answers::{answer_of, fault_answer};
 use crate::lines::next_line;
 use edit_script::read_line;
 use edit_session::Session;
 use host_ops::HostOp;
-use program_runs::{Ending, RunOutput, answer_out};
+use outside_io::Sink;
+use program_runs::{Ending, WriteStop, write_piece};
 use std::alloc::{AllocError, Global};
 
 /// A line of a script, with its number counted from 1.
@@ -22,21 +22,34 @@ pub struct ScriptLine<'a> {
     pub bytes: &'a [u8],
 }
 
-/// What a script is answered, over a session that was just opened or is sound.
-pub fn answer_script(
+/// What a line is answered.
+#[derive(Drop)]
+pub struct LineAnswer {
+    /// What is written of it.
+    pub text: Vec<u8>,
+    pub is_refused: bool,
+}
+
+/// Writes what each line of a script is answered, before the next line is looked at, over a session that was just opened
+/// or is sound. The text of one answer is in memory at a time.
+pub fn answer_script<O: Sink>(
     alloc: Global,
     session: Session<'_>,
     script: &[u8],
     images: &mut dyn HostOp,
     scripts: &dyn HostOp,
-) -> Result<RunOutput, AllocError>
+    out: &mut O,
+) -> Result<Ending, WriteStop>
     requires { IsSoundSession session }
-    ensures { (files : List ℕ → Option (List ℕ)) (asked : List (List ℕ)) → IfOk result (λ answer. HasOutcome files
-        (script_run (tiles_of session.entry) (test scripts.now) (changes images.old) (session_state session.entry (test images.old)) script.now) asked asked
-        (outcome_of answer)) }
+    ensures written { (files : List ℕ → Option (List ℕ)) (asked : List (List ℕ)) → IfOk result (IsWritten files
+        (script_run (tiles_of session.entry) (test scripts.now) (changes images.old) (session_state session.entry (test images.old)) script.now) asked
+        (O.held out.old) (O.held out.new)) }
+    ensures none_failed { OnOk result (O.faults out.new ≡ O.faults out.old) }
+    ensures stop { (files : List ℕ → Option (List ℕ)) (asked : List (List ℕ)) → IfErr result (IsCut files
+        (script_run (tiles_of session.entry) (test scripts.now) (changes images.old) (session_state session.entry (test images.old)) script.now) asked
+        (O.held out.old) (O.held out.new) (O.faults out.old) (O.faults out.new)) }
 {
     let mut session = session;
-    let mut out = Vec::new(alloc);
     let mut any = false;
     let mut number: usize = 1;
     let mut rest = script;
@@ -45,12 +58,18 @@ pub fn answer_script(
             number,
             bytes: line,
         };
-        let refused = answer_line(alloc, &mut session, &line, images, scripts, &mut out)?;
-        any = any || refused;
+        let Ok(answer) = answer_line(alloc, &mut session, &line, images, scripts) else {
+            return Err(WriteStop::NoMemory);
+        };
+        match write_piece(answer.text.as_slice(), out) {
+            Ok(()) => {}
+            Err(_) => return Err(WriteStop::Unwritten),
+        }
+        any = any || answer.is_refused;
         number += 1;
         rest = behind;
     }
-    Ok(answer_out(alloc, out, ending_by(any)))
+    Ok(ending_by(any))
 }
 
 /// How a script ends, by whether a line of it was refused.
@@ -60,34 +79,27 @@ pub fn ending_by(any: bool) -> Ending
     if any { Ending::Found } else { Ending::Fine }
 }
 
-/// Appends what the line of this number is answered, and says whether it is refused.
+/// The answer to the line of this number.
 pub fn answer_line(
     alloc: Global,
     session: &mut Session<'_>,
     line: &ScriptLine<'_>,
     images: &mut dyn HostOp,
     scripts: &dyn HostOp,
-    out: &mut Vec<u8>,
-) -> Result<bool, AllocError>
+) -> Result<LineAnswer, AllocError>
     requires { IsSoundSession session.old }
     ensures sound { IsSoundSession session.new }
     ensures tiles { tiles_of session.new ≡ tiles_of session.old }
     ensures changes { changes images.new ≡ changes images.old }
-    ensures leads { (files : List ℕ → Option (List ℕ)) (any : Bool) (lines asked all : List (List ℕ)) (o : RunOutcome) → IfOk result (λ refused.
-        HasOutcome files (lines_run (tiles_of session.old) (test scripts.now) (changes images.old) (line.now.number + 1)
-        (session_state session.new (test images.new)) out.new.items (any || refused) lines) asked all o →
-        HasOutcome files (lines_run (tiles_of session.old) (test scripts.now) (changes images.old) line.now.number
-        (session_state session.old (test images.old)) out.old.items any (line.now.bytes.now ∷ lines)) asked all o) }
+    ensures gives { IfOk result (λ answer. LineGives (tiles_of session.old) (test scripts.now) (changes images.old) line.now.number
+        (session_state session.old (test images.old)) line.now.bytes.now
+        (line_seen (session_state session.new (test images.new)) answer)) }
 {
     match read_line(alloc, line.bytes)? {
         Ok(command) => {
             let answer = session.apply(&command, images, scripts)?;
-            write_reply(line.number, &answer, out)?;
-            Ok(is_refused(&answer))
+            answer_of(alloc, line.number, answer)
         }
-        Err(fault) => {
-            write_fault(line.number, fault, out)?;
-            Ok(true)
-        }
+        Err(fault) => fault_answer(alloc, line.number, fault),
     }
 }

@@ -33,10 +33,10 @@ module _ (files : List ℕ → Option (List ℕ)) (features : ℕ) (images scrip
 
   pub opened_counts : {E : Type 0} (document : Tree) (p : SessionState) (tiles : List SourceTile) (r : Result RunOutput E) → tiles ≡ generated_tiles features
       → None ≡ tiles_fault document (generated_tiles features) (pos 0) → p ≡ opened document (pos 0) images
-      → IfOk r (λ a. HasOutcome files (counted features (lines_run tiles scripts can_change 1 p [] false (generated_lines features))) asked asked (outcome_of a))
+      → IfOk r (λ a. HasOutcome files (counted features (lines_run tiles scripts can_change 1 p false (generated_lines features))) asked asked (outcome_of a))
       → IfOk r (λ a. HasOutcome files (opened_run features images scripts can_change document) asked asked (outcome_of a))
   opened_counts document p tiles (Err lacks) over none first made = tt
   opened_counts document p tiles (Ok a) over none first made =
       subst (λ f. HasOutcome files (opened_or_refused f (counted features (answered_run features images scripts can_change document))) asked asked (outcome_of a)) none
-      (subst (λ ts. HasOutcome files (counted features (lines_run ts scripts can_change 1 (opened document (pos 0) images) [] false (generated_lines features))) asked asked (outcome_of a)) over
-      (subst (λ q. HasOutcome files (counted features (lines_run tiles scripts can_change 1 q [] false (generated_lines features))) asked asked (outcome_of a)) first made))
+      (subst (λ ts. HasOutcome files (counted features (lines_run ts scripts can_change 1 (opened document (pos 0) images) false (generated_lines features))) asked asked (outcome_of a)) over
+      (subst (λ q. HasOutcome files (counted features (lines_run tiles scripts can_change 1 q false (generated_lines features))) asked asked (outcome_of a)) first made))

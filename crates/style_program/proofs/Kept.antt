@@ -4,18 +4,18 @@ use Rattle.std.specs.Prelude.{Option, Some, None, ◌⊎◌}
 use Rattle.std.proofs.lemmas.List.{append-nil}
 use Rattle.outside_io.specs.Counts.{raised, Still}
 use Rattle.outside_io.specs.Writing.{Gains, GainsPrefix}
-use Rattle.program_runs.specs.declared.answer.RunOutput.{RunOutput}
 use Rattle.program_runs.specs.declared.status.Ending.{Ending}
 use Rattle.program_runs.specs.declared.status.Ending.TheVariants as endings
 use Rattle.program_runs.specs.declared.status.Status.{Status}
 use Rattle.program_runs.specs.declared.status.Status.TheVariants.{Fine, Found, Usage, Refused, NoMemory, ReadFault, WriteFault}
 use Rattle.program_runs.specs.Ending.{status_of}
 use Rattle.program_runs.specs.FailedReads.{NoneFailed, ReadFails}
-use Rattle.program_runs.specs.Progress.{outcome_of}
-use Rattle.program_runs.specs.Runs.{Run, HasOutcome, HasAsked, IsFileless}
-use Rattle.program_runs.specs.Written.{EndsUnread, unread_line}
+use Rattle.program_runs.specs.Outcome.{RunOutcome}
+use Rattle.program_runs.specs.Runs.{Run, HasOutcome, HasAsked, AreTold, IsFileless}
+use Rattle.program_runs.specs.Written.{EndsUnread, OutTextIsDue, unread_line}
 use Rattle.program_runs.proofs.Asked.{all_asked}
 use Rattle.program_runs.proofs.Fronts.{front}
+use Rattle.program_runs.proofs.Saying.{outcome_said}
 use Rattle.style_program.specs.Promises.{outside, KeepsPromises}
 
 -- an ending is no fault of the outside
@@ -48,74 +48,94 @@ module _ (files : List ℕ → Option (List ℕ)) (run : Run) (FilesStay : Type 
   Keeps status =
       KeepsPromises files run status (outside reads₀ unread₀ asked₀ out₀ outs₀ err₀ errs₀) (outside reads₁ unread₁ asked₁ out₁ outs₁ err₁ errs₁) FilesStay
 
-  module _ (made : RunOutput) (defined : HasOutcome files run asked₀ asked₁ (outcome_of made)) (none : NoneFailed reads₀ reads₁ unread₀ unread₁)
-      (out : GainsPrefix out₀ out₁ made.out.items) (err : GainsPrefix err₀ err₁ made.err.items) where
+  module _ (made : RunOutcome) (defined : HasOutcome files run asked₀ asked₁ made) (none : NoneFailed reads₀ reads₁ unread₀ unread₁)
+      (out : GainsPrefix out₀ out₁ made.out) (err : GainsPrefix err₀ err₁ made.err) where
     -- both texts were written
-    pub written : Gains out₀ out₁ made.out.items × Gains err₀ err₁ made.err.items → (outs₁ ≡ outs₀) × (errs₁ ≡ errs₀)
+    pub written : Gains out₀ out₁ made.out × Gains err₀ err₁ made.err → (outs₁ ≡ outs₀) × (errs₁ ≡ errs₀)
         → (status : Status) → status ≡ status_of made.ending → Keeps status
     written whole same status is = record {
-      exact = λ _ _ _ _. record { outcome = outcome_of made; defined = defined; status = is; out = whole.0; err = whole.1 };
-      completes = λ _ _ _. record { outcome = outcome_of made; defined = defined; status = is; out = whole.0; err = whole.1 };
-      out_front = record { front = front files run asked₀ asked₁ (outcome_of made) out₀ out₁ (λ o. o.out) defined out };
-      err_front = record { front = inl (front files run asked₀ asked₁ (outcome_of made) err₀ err₁ (λ o. o.err) defined err) };
+      exact = λ _ _ _ _. record { outcome = made; defined = defined; status = is; out = whole.0; err = whole.1 };
+      completes = λ _ _ _. record { outcome = made; defined = defined; status = is; out = whole.0; err = whole.1 };
+      out_front = record { front = front files run asked₀ asked₁ made out₀ out₁ (λ o. o.out) defined out };
+      err_front = record { front = inl (front files run asked₀ asked₁ made err₀ err₁ (λ o. o.err) defined err) };
       read_fault = λ fault. absurd (never_a_read_fault made.ending (sym is ∙ fault));
       write_fault = λ fault. absurd (never_a_write_fault made.ending (sym is ∙ fault));
       reads = inl none;
       writes = λ _. same;
-      names = all_asked files run asked₀ asked₁ (outcome_of made) defined;
+      names = all_asked files run asked₀ asked₁ made defined;
       fileless = fileless;
     }
 
     -- a write failed
     pub not_written :
-        (((0 < length made.out.items) × (outs₁ ≡ raised outs₀) × (errs₁ ≡ errs₀))
-        ⊎ ((0 < length made.err.items) × (outs₁ ≡ outs₀) × (errs₁ ≡ raised errs₀)))
+        (((0 < length made.out) × (outs₁ ≡ raised outs₀) × (errs₁ ≡ errs₀))
+        ⊎ ((0 < length made.err) × (outs₁ ≡ outs₀) × (errs₁ ≡ raised errs₀)))
         → Keeps WriteFault
     not_written (inl failed) = record {
       exact = λ _ _ still _. absurd (rose outs₀ outs₁ failed.1 still);
       completes = λ _ _ other. absurd (other refl);
-      out_front = record { front = front files run asked₀ asked₁ (outcome_of made) out₀ out₁ (λ o. o.out) defined out };
-      err_front = record { front = inl (front files run asked₀ asked₁ (outcome_of made) err₀ err₁ (λ o. o.err) defined err) };
+      out_front = record { front = front files run asked₀ asked₁ made out₀ out₁ (λ o. o.out) defined out };
+      err_front = record { front = inl (front files run asked₀ asked₁ made err₀ err₁ (λ o. o.err) defined err) };
       read_fault = λ fault. absurd (cc);
-      write_fault = λ _. record { cause = inl ((outcome_of made, defined, failed.0), failed.1, failed.2) };
+      write_fault = λ _. record { cause = inl ((made.out, outcome_said files run asked₀ asked₁ made defined, failed.0), failed.1, failed.2) };
       reads = inl none;
       writes = λ other. absurd (other refl);
-      names = all_asked files run asked₀ asked₁ (outcome_of made) defined;
+      names = all_asked files run asked₀ asked₁ made defined;
       fileless = fileless;
     }
     not_written (inr failed) = record {
       exact = λ _ _ _ still. absurd (rose errs₀ errs₁ failed.2 still);
       completes = λ _ _ other. absurd (other refl);
-      out_front = record { front = front files run asked₀ asked₁ (outcome_of made) out₀ out₁ (λ o. o.out) defined out };
-      err_front = record { front = inl (front files run asked₀ asked₁ (outcome_of made) err₀ err₁ (λ o. o.err) defined err) };
+      out_front = record { front = front files run asked₀ asked₁ made out₀ out₁ (λ o. o.out) defined out };
+      err_front = record { front = inl (front files run asked₀ asked₁ made err₀ err₁ (λ o. o.err) defined err) };
       read_fault = λ fault. absurd (cc);
-      write_fault = λ _. record { cause = inr (inl (outcome_of made, defined, failed.0), failed.1, failed.2) };
+      write_fault = λ _. record { cause = inr (inl (made, defined, failed.0), failed.1, failed.2) };
       reads = inl none;
       writes = λ other. absurd (other refl);
-      names = all_asked files run asked₀ asked₁ (outcome_of made) defined;
+      names = all_asked files run asked₀ asked₁ made defined;
       fileless = fileless;
     }
 
 module _ (files : List ℕ → Option (List ℕ)) (run : Run) (FilesStay : Type 0) (fileless : IsFileless run → FilesStay)
-    (reads₀ reads₁ : ℕ) (asked₀ asked₁ : List (List ℕ)) (unread₀ unread₁ out : Option (List ℕ)) (outs : ℕ) where
-  -- an allocation failed
-  pub lacks_memory : (err : Option (List ℕ)) (errs : ℕ) → NoneFailed reads₀ reads₁ unread₀ unread₁ × HasAsked files run asked₀ asked₁
-      → KeepsPromises files run NoMemory (outside reads₀ unread₀ asked₀ out outs err errs) (outside reads₁ unread₁ asked₁ out outs err errs) FilesStay
-  lacks_memory err errs none = record {
-    exact = λ memory _ _ _. absurd (memory refl);
-    completes = λ memory _ _. absurd (memory refl);
-    out_front = record { front = λ _ o _ _. nothing_taken out o.out };
-    err_front = record { front = inl (λ _ o _ _. nothing_taken err o.err) };
-    read_fault = λ fault. absurd (cc);
-    write_fault = λ fault. absurd (cc);
-    reads = inl none.0;
-    writes = λ _. (refl, refl);
-    names = none.1;
-    fileless = fileless;
-  }
+    (reads₀ reads₁ : ℕ) (asked₀ asked₁ : List (List ℕ)) (unread₀ unread₁ : Option (List ℕ)) where
+  -- out holds some of what was to be written more, and err nothing
+  module _ (out₀ out₁ err : Option (List ℕ)) (outs₀ outs₁ errs : ℕ)
+      (none : NoneFailed reads₀ reads₁ unread₀ unread₁) (asked : HasAsked files run asked₀ asked₁)
+      (begun : (all : List (List ℕ)) (o : RunOutcome) → AreTold files run → HasOutcome files run asked₀ all o → GainsPrefix out₀ out₁ o.out) where
+    -- an allocation failed
+    pub lacks_memory : outs₁ ≡ outs₀
+        → KeepsPromises files run NoMemory (outside reads₀ unread₀ asked₀ out₀ outs₀ err errs) (outside reads₁ unread₁ asked₁ out₁ outs₁ err errs) FilesStay
+    lacks_memory same = record {
+      exact = λ memory _ _ _. absurd (memory refl);
+      completes = λ memory _ _. absurd (memory refl);
+      out_front = record { front = begun };
+      err_front = record { front = inl (λ _ o _ _. nothing_taken err o.err) };
+      read_fault = λ fault. absurd (cc);
+      write_fault = λ fault. absurd (cc);
+      reads = inl none;
+      writes = λ _. (same, refl);
+      names = asked;
+      fileless = fileless;
+    }
+
+    -- a write of out failed
+    pub cut_short : OutTextIsDue files run asked₀ asked₁ → outs₁ ≡ raised outs₀
+        → KeepsPromises files run WriteFault (outside reads₀ unread₀ asked₀ out₀ outs₀ err errs) (outside reads₁ unread₁ asked₁ out₁ outs₁ err errs) FilesStay
+    cut_short due failed = record {
+      exact = λ _ _ still _. absurd (rose outs₀ outs₁ failed still);
+      completes = λ _ _ other. absurd (other refl);
+      out_front = record { front = begun };
+      err_front = record { front = inl (λ _ o _ _. nothing_taken err o.err) };
+      read_fault = λ fault. absurd (cc);
+      write_fault = λ _. record { cause = inl (due, failed, refl) };
+      reads = inl none;
+      writes = λ other. absurd (other refl);
+      names = asked;
+      fileless = fileless;
+    }
 
   -- a file could not be read
-  module _ (err₀ err₁ : Option (List ℕ)) (errs₀ errs₁ : ℕ) (name : List ℕ) (fails : ReadFails files run reads₀ reads₁ unread₁ asked₀ asked₁ name)
+  module _ (out : Option (List ℕ)) (outs : ℕ) (err₀ err₁ : Option (List ℕ)) (errs₀ errs₁ : ℕ) (name : List ℕ) (fails : ReadFails files run reads₀ reads₁ unread₁ asked₀ asked₁ name)
       (line : GainsPrefix err₀ err₁ (unread_line name)) where
     pub stops_unread : (status : Status) → EndsUnread status err₀ err₁ errs₀ errs₁ name
         → KeepsPromises files run status (outside reads₀ unread₀ asked₀ out outs err₀ errs₀) (outside reads₁ unread₁ asked₁ out outs err₁ errs₁) FilesStay

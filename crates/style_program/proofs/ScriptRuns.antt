@@ -1,35 +1,57 @@
--- The run of `replay` after its style and its tiles.
-use Rattle.std.proofs.Common.{◌≡◌, ℕ, List, subst}
-use Rattle.std.specs.Prelude.{Option, Bool}
+-- The run of `replay`: how it comes to its script, and how the answers to that keep what is promised.
+use Rattle.std.proofs.Common.{◌≡◌, ◌∙◌, ℕ, List, [], length, refl, sym, subst, inl, inr}
+use Rattle.std.proofs.Math.Seq.{take-length}
+use Rattle.std.specs.Prelude.{Option, None, Bool, ◌⊎◌}
+use Rattle.edit_session.specs.Opening.{Fault, tiles_fault}
+use Rattle.edit_session.specs.SessionState.{SessionState, opened}
+use Rattle.outside_io.specs.Counts.{raised}
+use Rattle.outside_io.specs.Writing.{Gains, GainsPrefix}
+use Rattle.outside_io.specs.WritingLaws.{front_of_nothing, gains_nothing}
+use Rattle.program_runs.specs.Ending.{status_of}
 use Rattle.program_runs.specs.FailedReads.{NoneFailed}
-use Rattle.program_runs.specs.Outcome.{RunOutcome}
-use Rattle.program_runs.specs.Progress.{ComesTo, HaltsAt, GoesOn, Halts}
-use Rattle.program_runs.specs.Runs.{Run, HasOutcome}
+use Rattle.program_runs.specs.Outcome.{RunOutcome, said}
+use Rattle.program_runs.specs.Progress.{ComesTo, HaltsAt, GoesOn, Halts, IsBegun, IsCut, IsWritten}
+use Rattle.program_runs.specs.Runs.{Run, HasOutcome, HasSaid, AreTold, IsFileless}
+use Rattle.program_runs.specs.Written.{OutTextIsDue}
+use Rattle.program_runs.specs.declared.halt.WriteStop.TheVariants as write
+use Rattle.program_runs.specs.declared.status.Ending.{Ending}
+use Rattle.program_runs.specs.declared.status.Status.{Status}
+use Rattle.program_runs.specs.declared.status.Status.TheVariants as status
 use Rattle.program_runs.specs.declared.halt.RunHalt.{RunHalt}
+use Rattle.program_runs.proofs.Asked.{none_asked}
 use Rattle.program_runs.proofs.Going.{leads_on, halts_on}
+use Rattle.program_runs.proofs.Saying.{said_is_prefix}
+use Rattle.script_runs.specs.ScriptRun.{script_run}
+use Rattle.style_layout.specs.Shown.{SourceTile}
+use Rattle.style_program.specs.EvalRun.{opened_or_refused}
+use Rattle.style_program.specs.Promises.{KeepsPromises, outside}
 use Rattle.style_program.specs.ReplayRun.{replay_run, script_part, edited_run}
 use Rattle.style_program.specs.ShownRun.{LoadedStyle, load_part}
 use Rattle.style_program.specs.Words.{ReplayWords}
+use Rattle.style_program.proofs.Kept.{written, lacks_memory, cut_short}
 
 module _ (files : List ℕ → Option (List ℕ)) (w : ReplayWords) (images scripts : List ℕ → Bool) (can_change : Bool) (shown : LoadedStyle) (asked_old asked_mid : List (List ℕ)) (goes : GoesOn files (load_part w.shown) asked_old asked_mid shown) where
   abbrev behind_shown : LoadedStyle → Run
   behind_shown s = script_part w.script (edited_run w images scripts can_change s)
 
   module _ (then_files : List ℕ → Option (List ℕ)) (same : then_files ≡ files) where
-    -- the run of the script, once it was read
-    pub script_comes : (asked_new : List (List ℕ)) (script : List ℕ) → GoesOn then_files (script_part w.script) asked_mid asked_new script
+    -- once the script was read
+    pub script_read : (asked_new : List (List ℕ)) (script : List ℕ) → GoesOn then_files (script_part w.script) asked_mid asked_new script
         → ComesTo files (replay_run w images scripts can_change) (edited_run w images scripts can_change shown script) asked_old asked_new
-    script_comes asked_new script read =
+    script_read asked_new script read =
         let next : ComesTo files (behind_shown shown) (edited_run w images scripts can_change shown script) asked_mid asked_new =
         (subst (λ f. ComesTo f (behind_shown shown) (edited_run w images scripts can_change shown script) asked_mid asked_new) same (read (edited_run w images scripts can_change shown))) in
         leads_on files (replay_run w images scripts can_change) (behind_shown shown) (edited_run w images scripts can_change shown script) asked_old asked_mid asked_new (goes behind_shown) next
 
-    pub outcome_of_script : (asked_new : List (List ℕ)) (script lent : List ℕ) → lent ≡ script → GoesOn then_files (script_part w.script) asked_mid asked_new script
-        → (o : RunOutcome) → HasOutcome files (edited_run w images scripts can_change shown lent) asked_new asked_new o
-        → HasOutcome files (replay_run w images scripts can_change) asked_old asked_new o
-    outcome_of_script asked_new script lent is read o made =
-        (script_comes asked_new script read).outcomes asked_new o
-        (subst (λ s. HasOutcome files (edited_run w images scripts can_change shown s) asked_new asked_new o) is made)
+    -- and the style was opened, which the code has by other names
+    pub script_comes : (asked_new : List (List ℕ)) (script : List ℕ) → GoesOn then_files (script_part w.script) asked_mid asked_new script
+        → (p : SessionState) (tiles : List SourceTile) → None ≡ tiles_fault shown.0 shown.1 w.shown.zoom → p ≡ opened shown.0 w.shown.zoom images → tiles ≡ shown.1
+        → ComesTo files (replay_run w images scripts can_change) (script_run tiles scripts can_change p script) asked_old asked_new
+    script_comes asked_new script read p tiles none first over =
+        subst (λ (ts : List SourceTile). ComesTo files (replay_run w images scripts can_change) (script_run ts scripts can_change p script) asked_old asked_new) (sym over)
+        (subst (λ (q : SessionState). ComesTo files (replay_run w images scripts can_change) (script_run shown.1 scripts can_change q script) asked_old asked_new) (sym first)
+        (subst (λ (f : Option Fault). ComesTo files (replay_run w images scripts can_change) (opened_or_refused f (script_run shown.1 scripts can_change (opened shown.0 w.shown.zoom images) script)) asked_old asked_new)
+        (sym none) (script_read asked_new script read)))
 
     pub script_halts : (old mid new : ℕ) (failed_old failed_mid failed_new : Option (List ℕ)) (asked_new : List (List ℕ)) (h : RunHalt) → NoneFailed old mid failed_old failed_mid
         → Halts then_files (script_part w.script) mid new failed_mid failed_new asked_mid asked_new h
@@ -37,3 +59,49 @@ module _ (files : List ℕ → Option (List ℕ)) (w : ReplayWords) (images scri
     script_halts old mid new failed_old failed_mid failed_new asked_new h before halts =
         halts_on files (replay_run w images scripts can_change) (behind_shown shown) old mid new failed_old failed_mid failed_new asked_old asked_mid asked_new h (goes behind_shown) before
         (subst (λ f. HaltsAt f (behind_shown shown) mid new failed_mid failed_new asked_mid asked_new h) same (halts (edited_run w images scripts can_change shown)))
+
+    -- the style could not be opened
+    pub opening_halts : (old mid new : ℕ) (failed_old failed_mid failed_new : Option (List ℕ)) (asked_new : List (List ℕ)) (script : List ℕ) (h : RunHalt)
+        → NoneFailed old mid failed_old failed_mid → NoneFailed mid new failed_mid failed_new → GoesOn then_files (script_part w.script) asked_mid asked_new script
+        → HaltsAt files (edited_run w images scripts can_change shown script) new new failed_new failed_new asked_new asked_new h
+        → HaltsAt files (replay_run w images scripts can_change) old new failed_old failed_new asked_old asked_new h
+    opening_halts old mid new failed_old failed_mid failed_new asked_new script h before after read halts =
+        halts_on files (replay_run w images scripts can_change) (edited_run w images scripts can_change shown script) old new new failed_old failed_new failed_new asked_old asked_new asked_new h
+        (script_read asked_new script read) (after.0 ∙ before.0, after.1 ∙ before.1) halts
+
+-- A run that comes to a script, of whose answers some were written.
+module _ (files : List ℕ → Option (List ℕ)) (run rest : Run) (asked_old asked_new : List (List ℕ)) (comes : ComesTo files run rest asked_old asked_new) where
+  said_too : (text : List ℕ) → (text ≡ []) ⊎ HasSaid files rest asked_new asked_new text → (text ≡ []) ⊎ HasSaid files run asked_old asked_new text
+  said_too text (inl none) = inl none
+  said_too text (inr said) = inr (comes.says asked_new text said)
+
+  begun_is_prefix : (a b : Option (List ℕ)) → IsBegun files rest asked_new a b
+      → (all : List (List ℕ)) (o : RunOutcome) → AreTold files run → HasOutcome files run asked_old all o → GainsPrefix a b o.out
+  begun_is_prefix a b (text, gains, said) = said_is_prefix files run asked_old asked_new text a b gains (said_too text said)
+
+  text_is_due : OutTextIsDue files rest asked_new asked_new → OutTextIsDue files run asked_old asked_new
+  text_is_due (text, said, some) = (text, comes.says asked_new text said, some)
+
+  -- What is promised, by how the answers ended.
+  module _ (FilesStay : Type 0) (fileless : IsFileless run → FilesStay) (reads₀ reads₁ : ℕ) (unread₀ unread₁ out₀ out₁ err : Option (List ℕ)) (outs₀ outs₁ errs : ℕ)
+      (none : NoneFailed reads₀ reads₁ unread₀ unread₁) where
+    abbrev Keeps : Status → Type 0
+    Keeps answer =
+        KeepsPromises files run answer (outside reads₀ unread₀ asked_old out₀ outs₀ err errs) (outside reads₁ unread₁ asked_new out₁ outs₁ err errs) FilesStay
+
+    pub all_answered : (ending : Ending) (answer : Status) → IsWritten files rest asked_new out₀ out₁ ending → outs₁ ≡ outs₀ → answer ≡ status_of ending → Keeps answer
+    all_answered ending answer (text, made, gains) same is =
+        written files run FilesStay fileless reads₀ reads₁ asked_old asked_new unread₀ unread₁ out₀ out₁ err err outs₀ outs₁ errs errs
+        (said text ending) (comes.outcomes asked_new (said text ending) made) none
+        (length text, subst (λ (t : List ℕ). Gains out₀ out₁ t) (sym (take-length text)) gains) (front_of_nothing err [])
+        (gains, gains_nothing err) (same, refl) answer is
+
+    pub memory_lacked : IsCut files rest asked_new out₀ out₁ outs₀ outs₁ write.NoMemory → Keeps status.NoMemory
+    memory_lacked (begun, same) =
+        lacks_memory files run FilesStay fileless reads₀ reads₁ asked_old asked_new unread₀ unread₁ out₀ out₁ err outs₀ outs₁ errs
+        none (comes.reads asked_new (none_asked files rest asked_new)) (begun_is_prefix out₀ out₁ begun) same
+
+    pub write_failed : IsCut files rest asked_new out₀ out₁ outs₀ outs₁ write.Unwritten → Keeps status.WriteFault
+    write_failed (begun, due, counted) =
+        cut_short files run FilesStay fileless reads₀ reads₁ asked_old asked_new unread₀ unread₁ out₀ out₁ err outs₀ outs₁ errs
+        none (comes.reads asked_new (none_asked files rest asked_new)) (begun_is_prefix out₀ out₁ begun) (text_is_due due) counted

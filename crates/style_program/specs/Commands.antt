@@ -6,6 +6,7 @@ use Rattle.program_runs.specs.Runs.{Run, ends}
 use Rattle.style_program.specs.EvalRun.{eval_run}
 use Rattle.style_program.specs.GenerateRun.{generate_run}
 use Rattle.style_program.specs.ReplayRun.{replay_run}
+use Rattle.style_program.specs.TileRun.{tile_run}
 use Rattle.style_program.specs.MigrateRun.{migrate_run}
 use Rattle.style_program.specs.ValidateRun.{validate_run}
 use Rattle.style_program.specs.ValueRun.{value_run}
@@ -21,6 +22,7 @@ help_text =
     line (codes "       pirgesh migrate STYLE") ++
     line (codes "       pirgesh eval STYLE ZOOM [SOURCE=TILE ..]") ++
     line (codes "       pirgesh replay STYLE SCRIPT ZOOM [SOURCE=TILE ..]") ++
+    line (codes "       pirgesh tile TILE") ++
     line (codes "       pirgesh generate N") ++
     line (codes "       pirgesh --help") ++
     line (codes "       pirgesh --version") ++
@@ -30,10 +32,11 @@ help_text =
     line (codes "  migrate   a style with its legacy forms as expressions, or the rules that it breaks and invalid") ++
     line (codes "  eval      what a style shows at a zoom over tiles of its sources") ++
     line (codes "  replay    the answer to each line of a script, which edits the style and asks for listings") ++
+    line (codes "  tile      the layers of a vector tile, their features, and the properties of each feature") ++
     line (codes "  generate  how many lines and bytes replay writes of a style over N features that are made; no file is read") ++
     line [] ++
     line (codes "STYLE, SCRIPT and TILE are files, and /dev/stdin is standard input. ZOOM is a number from 0 to 24.") ++
-    line (codes "SOURCE names a source of the style, and TILE is an uncompressed vector tile of it. N is from 1 to 100000.") ++
+    line (codes "SOURCE names a source of the style. TILE is an uncompressed vector tile. N is from 1 to 100000.") ++
     line (codes "EXPR is one word, so quote it:") ++
     line [] ++
     line (codes "  pirgesh value '[\"+\",0.1,0.2]'") ++
@@ -65,6 +68,7 @@ module _ (images scripts : List ℕ → Bool) (can_change : Bool) where
   asked_run (words.Migrate style) = migrate_run style
   asked_run (words.Eval w) = eval_run w images scripts
   asked_run (words.Replay w) = replay_run w images scripts can_change
+  asked_run (words.Tile tile) = tile_run tile
   asked_run (words.Generate features) = generate_run features images scripts can_change
   asked_run words.Help = ends (said help_text Fine)
   asked_run words.Version = ends (said version_text Fine)

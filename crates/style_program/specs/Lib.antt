@@ -8,6 +8,7 @@ pub mod MigrateRun
 pub mod ShownRun
 pub mod EvalRun
 pub mod ReplayRun
+pub mod TileRun
 pub mod GenerateRun
 pub mod Commands
 pub mod Promises
@@ -17,3 +18,4 @@ pub mod OneOutcome
 -- What only contracts of private functions, models and proofs use.
 pub mod WordsView
 pub mod TileRunView
+pub mod PreparedRun

@@ -32,6 +32,8 @@ pub data Asked : Type 0 where
   Eval : EvalWords → Asked
   -- what it shows while it is edited by a script
   Replay : ReplayWords → Asked
+  -- what a tile holds: the name of its file
+  Tile : (tile : List ℕ) → Asked
   -- how much it shows of so many features that are made
   Generate : (features : ℕ) → Asked
   Help : Asked
@@ -137,12 +139,13 @@ abbrev pub asked_generate : Option ℕ → Asked
 asked_generate (Some features) = Generate features
 asked_generate None = Wrong
 
--- `value`, `validate`, `migrate` and `generate` have one word more
+-- `value`, `validate`, `migrate`, `tile` and `generate` have one word more
 abbrev pub asked_of_one : (command word : List ℕ) → Asked
 asked_of_one command word =
     if bytes_eq command (codes "value") then Value word else
     if bytes_eq command (codes "validate") then Validate word else
     if bytes_eq command (codes "migrate") then Migrate word else
+    if bytes_eq command (codes "tile") then Tile word else
     if bytes_eq command (codes "generate") then asked_generate (features_named word) else
     Wrong
 

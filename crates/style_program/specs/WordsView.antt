@@ -1,12 +1,14 @@
 -- A request of the program without the place of its texts in memory.
 use Rattle.std.specs.Prelude.{map}
+use Rattle.style_program.specs.declared.words.AnswerRequest.{AnswerRequest}
+use Rattle.style_program.specs.declared.words.AnswerRequest.TheVariants as code
 use Rattle.style_program.specs.declared.words.EvalRequest.{EvalRequest}
 use Rattle.style_program.specs.declared.words.ReplayRequest.{ReplayRequest}
 use Rattle.style_program.specs.declared.words.Request.{Request}
-use Rattle.style_program.specs.declared.words.Request.TheVariants as code
+use Rattle.style_program.specs.declared.words.Request.TheVariants as request
 use Rattle.style_program.specs.declared.words.TileWord.{TileWord}
 use Rattle.style_program.specs.Words as words
-use Rattle.style_program.specs.Words.{EvalWords, ReplayWords, Asked, Value, Validate, Migrate, Eval, Replay, Generate, Help, Version, Wrong}
+use Rattle.style_program.specs.Words.{EvalWords, ReplayWords, Asked, Value, Validate, Migrate, Eval, Replay, Tile, Generate, Help, Version, Wrong}
 
 abbrev pub tile_word : TileWord → words.TileWord
 tile_word t = (t.source.now, t.tile.now)
@@ -17,13 +19,17 @@ eval_words r = record { style = r.style.now; zoom = r.zoom; tiles = map tile_wor
 abbrev pub replay_words : ReplayRequest → ReplayWords
 replay_words r = record { script = r.script.now; shown = eval_words r.shown }
 
+abbrev pub answer_asked : AnswerRequest → Asked
+answer_asked (code.Value expression) = Value expression.now
+answer_asked (code.Validate style) = Validate style.now
+answer_asked (code.Migrate style) = Migrate style.now
+answer_asked (code.Eval r) = Eval (eval_words r)
+answer_asked (code.Tile tile) = Tile tile.now
+answer_asked (code.Generate features) = Generate features
+answer_asked code.Help = Help
+answer_asked code.Version = Version
+answer_asked code.Wrong = Wrong
+
 abbrev pub asked_by : Request → Asked
-asked_by (code.Value expression) = Value expression.now
-asked_by (code.Validate style) = Validate style.now
-asked_by (code.Migrate style) = Migrate style.now
-asked_by (code.Eval r) = Eval (eval_words r)
-asked_by (code.Replay r) = Replay (replay_words r)
-asked_by (code.Generate features) = Generate features
-asked_by code.Help = Help
-asked_by code.Version = Version
-asked_by code.Wrong = Wrong
+asked_by (request.Answer r) = answer_asked r
+asked_by (request.Replay r) = Replay (replay_words r)

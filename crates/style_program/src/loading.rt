@@ -26,7 +26,7 @@ use style_rules::{Finding, findings};
 use tile_reader::{Tile, read_tile};
 
 /// The longest tile, in bytes.
-const TILE_LIMIT: usize = 16_777_216;
+pub(crate) const TILE_LIMIT: usize = 16_777_216;
 
 /// All tiles of a run, in bytes.
 const TILES_LIMIT: usize = 33_554_432;

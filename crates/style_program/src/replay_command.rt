@@ -1,11 +1,16 @@
 //! `replay`: what a style shows over tiles while a script edits it.
 
-ghost use Rattle.std.specs.Prelude.{◌≡◌, ℕ, List, [], Option, OnOk, IfOk, IfErr};
+ghost use Rattle.std.specs.Prelude.{◌≡◌, ℕ, List, [], Bool, None, Option, OnOk, IfOk, IfErr};
 ghost use Rattle.decimal_json.specs.View.{tree_of};
+ghost use Rattle.edit_session.specs.Opening.{tiles_fault};
+ghost use Rattle.edit_session.specs.SessionState.{opened};
+ghost use Rattle.edit_session.specs.View.{session_state, tiles_of, IsSoundSession};
 ghost use Rattle.program_runs.specs.FailedReads.{NoneFailed};
-ghost use Rattle.program_runs.specs.Progress.{outcome_of, HaltsAt};
-ghost use Rattle.program_runs.specs.Runs.{HasOutcome};
-ghost use Rattle.style_program.specs.ReplayRun.{replay_run, edited_run};
+ghost use Rattle.program_runs.specs.Progress.{ComesTo, HaltsAt};
+ghost use Rattle.program_runs.specs.Runs.{Run};
+ghost use Rattle.style_program.specs.EvalRun.{opened_or_refused};
+ghost use Rattle.style_program.specs.PreparedRun.{opened_script_run};
+ghost use Rattle.style_program.specs.ReplayRun.{replay_run};
 ghost use Rattle.style_program.specs.TileRunView.{shown_seen};
 ghost use Rattle.style_program.specs.WordsView.{replay_words};
 ghost use Rattle.style_rules.specs.Findings.{findings};
@@ -14,52 +19,60 @@ use crate::loading::{LoadedStyle, read_shown};
 use crate::refusals::not_opened;
 use crate::words::ReplayRequest;
 use edit_session::Session;
-use host_ops::HostOp;
+use fixed_num::Fixed;
 use outside_io::Files;
-use program_runs::{RunHalt, RunOutput, Subject, read_file};
-use script_runs::answer_script;
-use std::alloc::{AllocError, Global};
+use program_runs::{RunHalt, Subject, read_file};
+use std::alloc::Global;
 
 /// The longest script, in bytes.
 const SCRIPT_LIMIT: usize = 16_777_216;
 
-/// The answer to `replay`. The script is read after the tiles.
-pub fn answer_replay<'a, F: Files>(
+/// A style that was opened over tiles, and the lines of a script that are to be answered.
+#[derive(Drop)]
+pub struct OpenedScript<'a> {
+    pub session: Session<'a>,
+    pub script: Vec<u8>,
+}
+
+/// The style and the script of `replay`. The script is read after the tiles, and the style is opened after that.
+pub fn open_script<'a, F: Files>(
     alloc: Global,
     request: &ReplayRequest<'a>,
     files: &mut F,
-    images: &mut dyn HostOp,
-    scripts: &dyn HostOp,
-) -> Result<RunOutput, RunHalt<'a>>
+) -> Result<OpenedScript<'a>, RunHalt<'a>>
     ensures told { F.told files.new ≡ F.told files.old }
     ensures failed { OnOk result (NoneFailed (F.faults files.old) (F.faults files.new) (F.failed files.old) (F.failed files.new)) }
-    ensures answer { IfOk result (λ answer. HasOutcome (F.told files.old)
-        (replay_run (replay_words request.now) (test images.old) (test scripts.now) (changes images.old))
-        (F.asked files.old) (F.asked files.new) (outcome_of answer)) }
-    ensures halt { IfErr result (λ halt. HaltsAt (F.told files.old)
-        (replay_run (replay_words request.now) (test images.old) (test scripts.now) (changes images.old))
+    ensures sound { IfOk result (λ opened. IsSoundSession opened.session) }
+    ensures on { (images scripts : List ℕ → Bool) (can_change : Bool) → IfOk result (λ opened. ComesTo (F.told files.old)
+        (replay_run (replay_words request.now) images scripts can_change) (opened_script_run images scripts can_change opened)
+        (F.asked files.old) (F.asked files.new)) }
+    ensures halt { (images scripts : List ℕ → Bool) (can_change : Bool) → IfErr result (λ halt. HaltsAt (F.told files.old)
+        (replay_run (replay_words request.now) images scripts can_change)
         (F.faults files.old) (F.faults files.new) (F.failed files.old) (F.failed files.new) (F.asked files.old) (F.asked files.new) halt) }
 {
     let shown = read_shown(alloc, &request.shown, files)?;
     let script = read_file(alloc, &Subject::Script, request.script, SCRIPT_LIMIT, files)?;
-    Ok(answer_edited(alloc, request, shown, script.as_slice(), images, scripts)?)
+    let session = open_shown(alloc, shown, request.shown.zoom)?;
+    Ok(OpenedScript { session, script })
 }
 
-fn answer_edited<'a>(
+// A style without findings, opened over its tiles.
+fn open_shown<'a>(
     alloc: Global,
-    request: &ReplayRequest<'a>,
     shown: LoadedStyle<'a>,
-    script: &[u8],
-    images: &mut dyn HostOp,
-    scripts: &dyn HostOp,
-) -> Result<RunOutput, AllocError>
+    zoom: Fixed,
+) -> Result<Session<'a>, RunHalt<'a>>
     requires { findings (tree_of shown.style) ≡ [] }
-    ensures { (files : List ℕ → Option (List ℕ)) (asked : List (List ℕ)) → IfOk result (λ answer. HasOutcome files
-        (edited_run (replay_words request.now) (test images.old) (test scripts.now) (changes images.old) (shown_seen shown.entry) script.now) asked asked
-        (outcome_of answer)) }
+    ensures sound { IfOk result IsSoundSession }
+    ensures tiles { IfOk result (λ session. tiles_of session ≡ (shown_seen shown.entry).1) }
+    ensures opened { IfOk result (λ session. (has_image : List ℕ → Bool)
+        → session_state session has_image ≡ opened (shown_seen shown.entry).0 zoom has_image) }
+    ensures none { OnOk result (None ≡ tiles_fault (shown_seen shown.entry).0 (shown_seen shown.entry).1 zoom) }
+    ensures halt { (files : List ℕ → Option (List ℕ)) (count : ℕ) (failed : Option (List ℕ)) (asked : List (List ℕ)) (next : Run) → IfErr result (λ halt. HaltsAt files
+        (opened_or_refused (tiles_fault (shown_seen shown.entry).0 (shown_seen shown.entry).1 zoom) next) count count failed failed asked asked halt) }
 {
-    match Session::open_sound(alloc, shown.style, shown.tiles, request.shown.zoom)? {
-        Ok(session) => answer_script(alloc, session, script, images, scripts),
-        Err(fault) => not_opened(alloc, &fault),
+    match Session::open_sound(alloc, shown.style, shown.tiles, zoom)? {
+        Ok(session) => Ok(session),
+        Err(fault) => Err(RunHalt::Refused(not_opened(alloc, &fault)?)),
     }
 }

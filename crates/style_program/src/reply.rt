@@ -1,20 +1,23 @@
-ghost use Rattle.std.specs.Prelude.{◌≡◌, OnOk, IfOk, IfErr};
+ghost use Rattle.std.specs.Prelude.{◌≡◌, ℕ, List, Bool, OnOk, IfOk, IfErr};
 ghost use Rattle.program_runs.specs.FailedReads.{NoneFailed};
-ghost use Rattle.program_runs.specs.Progress.{outcome_of, HaltsAt};
+ghost use Rattle.program_runs.specs.Progress.{outcome_of, HaltsAt, IsStop};
 ghost use Rattle.program_runs.specs.Runs.{HasOutcome, IsFileless};
 ghost use Rattle.style_program.specs.Commands.{asked_run};
-ghost use Rattle.style_program.specs.WordsView.{asked_by};
+ghost use Rattle.style_program.specs.PreparedRun.{IsPrepared};
+ghost use Rattle.style_program.specs.ReplayRun.{replay_run};
+ghost use Rattle.style_program.specs.WordsView.{answer_asked, asked_by, replay_words};
 
 use crate::eval_command::answer_eval;
 use crate::generate_command::answer_generate;
 use crate::migrate_command::answer_migrate;
-use crate::replay_command::answer_replay;
+use crate::replay_command::{OpenedScript, open_script};
+use crate::tile_command::answer_tile;
 use crate::validate_command::answer_validate;
 use crate::value_command::answer_value;
-use crate::words::Request;
+use crate::words::{AnswerRequest, ReplayRequest, Request};
 use host_ops::HostOp;
 use outside_io::Files;
-use program_runs::{RunHalt, RunOutput, answer_said, answer_usage};
+use program_runs::{RunHalt, RunOutput, RunStop, answer_said, answer_usage};
 use std::alloc::Global;
 
 const HELP: &[u8] =
@@ -25,6 +28,7 @@ usage: pirgesh value EXPR
        pirgesh migrate STYLE
        pirgesh eval STYLE ZOOM [SOURCE=TILE ..]
        pirgesh replay STYLE SCRIPT ZOOM [SOURCE=TILE ..]
+       pirgesh tile TILE
        pirgesh generate N
        pirgesh --help
        pirgesh --version
@@ -34,10 +38,11 @@ usage: pirgesh value EXPR
   migrate   a style with its legacy forms as expressions, or the rules that it breaks and invalid
   eval      what a style shows at a zoom over tiles of its sources
   replay    the answer to each line of a script, which edits the style and asks for listings
+  tile      the layers of a vector tile, their features, and the properties of each feature
   generate  how many lines and bytes replay writes of a style over N features that are made; no file is read
 
 STYLE, SCRIPT and TILE are files, and /dev/stdin is standard input. ZOOM is a number from 0 to 24.
-SOURCE names a source of the style, and TILE is an uncompressed vector tile of it. N is from 1 to 100000.
+SOURCE names a source of the style. TILE is an uncompressed vector tile. N is from 1 to 100000.
 EXPR is one word, so quote it:
 
   pirgesh value '[\"+\",0.1,0.2]'
@@ -60,33 +65,108 @@ docs/MESSAGES.md explains each message, and docs/REFERENCE.md is the manual.
 
 const VERSION: &[u8] = b"pirgesh 0.1.0\n";
 
-#[tactic(auto, using(program_runs::proofs::Asked::none_asked))]
-pub fn answer_to<'a, F: Files>(
+/// A run once all its reading is done. Nothing was written so far.
+#[derive(Drop)]
+pub enum PreparedRun<'a> {
+    /// It has come to its end, and this is to be written.
+    Ended(RunOutput),
+    /// It has come to a script, whose lines are to be answered.
+    Script(OpenedScript<'a>),
+}
+
+/// The run that is asked for, be it refused.
+pub fn prepare_run<'a, F: Files>(
     alloc: Global,
     request: &Request<'a>,
+    files: &mut F,
+    images: &mut dyn HostOp,
+    scripts: &dyn HostOp,
+) -> Result<PreparedRun<'a>, RunStop<'a>>
+    ensures told { F.told files.new ≡ F.told files.old }
+    ensures failed { OnOk result (NoneFailed (F.faults files.old) (F.faults files.new) (F.failed files.old) (F.failed files.new)) }
+    ensures fileless { IsFileless (asked_run (test images.old) (test scripts.now) (changes images.old) (asked_by request.now)) → files.new ≡ files.old }
+    ensures run { IfOk result (IsPrepared (test images.new) (test scripts.now) (changes images.new) (F.told files.old)
+        (asked_run (test images.old) (test scripts.now) (changes images.old) (asked_by request.now)) (F.asked files.old) (F.asked files.new)) }
+    ensures stop { IfErr result (λ stop. IsStop (F.told files.old)
+        (asked_run (test images.old) (test scripts.now) (changes images.old) (asked_by request.now))
+        (F.faults files.old) (F.faults files.new) (F.failed files.old) (F.failed files.new) (F.asked files.old) (F.asked files.new) stop) }
+{
+    match request {
+        Request::Answer(answer) => prepare_answer(alloc, answer, files, images, scripts),
+        Request::Replay(replay) => prepare_script(alloc, replay, files),
+    }
+}
+
+fn prepare_answer<'a, F: Files>(
+    alloc: Global,
+    request: &AnswerRequest<'a>,
+    files: &mut F,
+    images: &mut dyn HostOp,
+    scripts: &dyn HostOp,
+) -> Result<PreparedRun<'a>, RunStop<'a>>
+    ensures told { F.told files.new ≡ F.told files.old }
+    ensures failed { OnOk result (NoneFailed (F.faults files.old) (F.faults files.new) (F.failed files.old) (F.failed files.new)) }
+    ensures fileless { IsFileless (asked_run (test images.old) (test scripts.now) (changes images.old) (answer_asked request.now)) → files.new ≡ files.old }
+    ensures run { (then_images : List ℕ → Bool) (then_changes : Bool) → IfOk result (IsPrepared then_images (test scripts.now) then_changes (F.told files.old)
+        (asked_run (test images.old) (test scripts.now) (changes images.old) (answer_asked request.now)) (F.asked files.old) (F.asked files.new)) }
+    ensures stop { IfErr result (λ stop. IsStop (F.told files.old)
+        (asked_run (test images.old) (test scripts.now) (changes images.old) (answer_asked request.now))
+        (F.faults files.old) (F.faults files.new) (F.failed files.old) (F.failed files.new) (F.asked files.old) (F.asked files.new) stop) }
+{
+    match answer_to(alloc, request, files, images, scripts) {
+        Ok(answer) => Ok(PreparedRun::Ended(answer)),
+        Err(RunHalt::Refused(answer)) => Ok(PreparedRun::Ended(answer)),
+        Err(RunHalt::Stopped(stop)) => Err(stop),
+    }
+}
+
+#[tactic(auto, using(program_runs::proofs::Asked::none_asked))]
+fn answer_to<'a, F: Files>(
+    alloc: Global,
+    request: &AnswerRequest<'a>,
     files: &mut F,
     images: &mut dyn HostOp,
     scripts: &dyn HostOp,
 ) -> Result<RunOutput, RunHalt<'a>>
     ensures told { F.told files.new ≡ F.told files.old }
     ensures failed { OnOk result (NoneFailed (F.faults files.old) (F.faults files.new) (F.failed files.old) (F.failed files.new)) }
-    ensures fileless { IsFileless (asked_run (test images.old) (test scripts.now) (changes images.old) (asked_by request.now)) → files.new ≡ files.old }
+    ensures fileless { IsFileless (asked_run (test images.old) (test scripts.now) (changes images.old) (answer_asked request.now)) → files.new ≡ files.old }
     ensures answer { IfOk result (λ answer.
-        HasOutcome (F.told files.old) (asked_run (test images.old) (test scripts.now) (changes images.old) (asked_by request.now))
+        HasOutcome (F.told files.old) (asked_run (test images.old) (test scripts.now) (changes images.old) (answer_asked request.now))
         (F.asked files.old) (F.asked files.new) (outcome_of answer)) }
     ensures halt { IfErr result (λ halt.
-        HaltsAt (F.told files.old) (asked_run (test images.old) (test scripts.now) (changes images.old) (asked_by request.now))
+        HaltsAt (F.told files.old) (asked_run (test images.old) (test scripts.now) (changes images.old) (answer_asked request.now))
         (F.faults files.old) (F.faults files.new) (F.failed files.old) (F.failed files.new) (F.asked files.old) (F.asked files.new) halt) }
 {
     match request {
-        Request::Value(expression) => answer_value(alloc, expression, images, scripts),
-        Request::Validate(style) => answer_validate(alloc, style, files),
-        Request::Migrate(style) => answer_migrate(alloc, style, files),
-        Request::Eval(request) => answer_eval(alloc, request, files, images, scripts),
-        Request::Replay(request) => answer_replay(alloc, request, files, images, scripts),
-        Request::Generate(features) => answer_generate(alloc, *features, images, scripts),
-        Request::Help => Ok(answer_said(alloc, HELP)?),
-        Request::Version => Ok(answer_said(alloc, VERSION)?),
-        Request::Wrong => Ok(answer_usage(alloc)?),
+        AnswerRequest::Value(expression) => answer_value(alloc, expression, images, scripts),
+        AnswerRequest::Validate(style) => answer_validate(alloc, style, files),
+        AnswerRequest::Migrate(style) => answer_migrate(alloc, style, files),
+        AnswerRequest::Eval(request) => answer_eval(alloc, request, files, images, scripts),
+        AnswerRequest::Tile(tile) => answer_tile(alloc, tile, files),
+        AnswerRequest::Generate(features) => answer_generate(alloc, *features, images, scripts),
+        AnswerRequest::Help => Ok(answer_said(alloc, HELP)?),
+        AnswerRequest::Version => Ok(answer_said(alloc, VERSION)?),
+        AnswerRequest::Wrong => Ok(answer_usage(alloc)?),
+    }
+}
+
+fn prepare_script<'a, F: Files>(
+    alloc: Global,
+    request: &ReplayRequest<'a>,
+    files: &mut F,
+) -> Result<PreparedRun<'a>, RunStop<'a>>
+    ensures told { F.told files.new ≡ F.told files.old }
+    ensures failed { OnOk result (NoneFailed (F.faults files.old) (F.faults files.new) (F.failed files.old) (F.failed files.new)) }
+    ensures run { (images scripts : List ℕ → Bool) (can_change : Bool) → IfOk result (IsPrepared images scripts can_change (F.told files.old)
+        (replay_run (replay_words request.now) images scripts can_change) (F.asked files.old) (F.asked files.new)) }
+    ensures stop { (images scripts : List ℕ → Bool) (can_change : Bool) → IfErr result (λ stop. IsStop (F.told files.old)
+        (replay_run (replay_words request.now) images scripts can_change)
+        (F.faults files.old) (F.faults files.new) (F.failed files.old) (F.failed files.new) (F.asked files.old) (F.asked files.new) stop) }
+{
+    match open_script(alloc, request, files) {
+        Ok(opened) => Ok(PreparedRun::Script(opened)),
+        Err(RunHalt::Refused(answer)) => Ok(PreparedRun::Ended(answer)),
+        Err(RunHalt::Stopped(stop)) => Err(stop),
     }
 }

@@ -1,17 +1,20 @@
 ghost use Rattle.std.specs.Prelude.{◌≡◌, map, string_bytes, OnOk, IfOk, IfErr};
 ghost use Rattle.program_runs.specs.FailedReads.{NoneFailed};
-ghost use Rattle.program_runs.specs.Progress.{outcome_of, IsStop};
-ghost use Rattle.program_runs.specs.Runs.{HasOutcome, IsFileless};
+ghost use Rattle.program_runs.specs.Progress.{IsStop};
+ghost use Rattle.program_runs.specs.Runs.{IsFileless};
 ghost use Rattle.style_program.specs.Commands.{run_of};
 ghost use Rattle.style_program.specs.ListedFaults.{ListsItsFault};
+ghost use Rattle.style_program.specs.PreparedRun.{IsPrepared};
 ghost use Rattle.style_program.specs.Promises.{KeepsPromises, outside};
 ghost use Rattle.style_program.specs.Words.{asked};
 
-use crate::reply::answer_to;
+use crate::replay_command::OpenedScript;
+use crate::reply::{PreparedRun, prepare_run};
 use crate::words::request_of;
 use host_ops::HostOp;
 use outside_io::{Files, Sink, Steps};
-use program_runs::{RunHalt, RunOutput, RunStop, Status, write_answer, write_unread};
+use program_runs::{RunStop, Status, WriteStop, write_answer, write_unread};
+use script_runs::answer_script;
 use std::alloc::Global;
 use std::sync::ledger::Ledger;
 use typing_laws::faults_are_listed;
@@ -19,8 +22,9 @@ use typing_laws::faults_are_listed;
 /// Does what the words after the program's name ask for: reads from `files`, writes to `out` and `err`, and
 /// answers how the run ended.
 ///
-/// `images` and `scripts` are the tests that expressions ask. Nothing is written before all reading is done.
-/// A failed allocation is the only free answer.
+/// `images` and `scripts` are the tests that expressions ask. Nothing is written before all reading is done, and the
+/// answer to each line of a script is written before the next line is looked at. A failed allocation is the only free
+/// answer.
 pub fn run_style<F: Files, O: Sink, E: Sink, L: Ledger>(
     alloc: Global,
     words: &[String],
@@ -45,32 +49,59 @@ pub fn run_style<F: Files, O: Sink, E: Sink, L: Ledger>(
     ensures told { F.told files.new ≡ F.told files.old }
     ensures steps { steps.new ≡ steps.old }
 {
-    faults_are_listed();
     let mut images = images;
-    match settled(alloc, words, files, &mut *images, &*scripts) {
-        Ok(answer) => match write_answer(&answer, out, err) {
+    run_words(alloc, words, files, out, err, &mut *images, &*scripts)
+}
+
+fn run_words<F: Files, O: Sink, E: Sink>(
+    alloc: Global,
+    words: &[String],
+    files: &mut F,
+    out: &mut O,
+    err: &mut E,
+    images: &mut dyn HostOp,
+    scripts: &dyn HostOp,
+) -> Status
+    ensures promises { KeepsPromises (F.told files.old)
+        (run_of (test images.old) (test scripts.now) (changes images.old) (map string_bytes words.now)) result
+        (outside (F.faults files.old) (F.failed files.old) (F.asked files.old) (O.held out.old) (O.faults out.old) (E.held err.old) (E.faults err.old))
+        (outside (F.faults files.new) (F.failed files.new) (F.asked files.new) (O.held out.new) (O.faults out.new) (E.held err.new) (E.faults err.new))
+        (files.new ≡ files.old) }
+    ensures listed { result ≡ Status.Found → ListsItsFault (test images.old) (test scripts.now) (asked (map string_bytes words.now)) }
+    ensures told { F.told files.new ≡ F.told files.old }
+{
+    faults_are_listed();
+    match prepared(alloc, words, files, images, scripts) {
+        Ok(PreparedRun::Ended(answer)) => match write_answer(&answer, out, err) {
             Ok(()) => answer.ending.status(),
             Err(_) => Status::WriteFault,
         },
+        Ok(PreparedRun::Script(opened)) => {
+            let OpenedScript { session, script } = opened;
+            match answer_script(alloc, session, script.as_slice(), images, scripts, out) {
+                Ok(ending) => ending.status(),
+                Err(WriteStop::NoMemory) => Status::NoMemory,
+                Err(WriteStop::Unwritten) => Status::WriteFault,
+            }
+        }
         Err(RunStop::NoMemory) => Status::NoMemory,
         Err(RunStop::Unread(name)) => write_unread(alloc, name, err),
     }
 }
 
-// The answer to the words, be it a refusal.
-#[tactic(auto, using(program_runs::proofs::Asked::none_asked))]
-fn settled<'a, F: Files>(
+// The run of the words.
+fn prepared<'a, F: Files>(
     alloc: Global,
     words: &'a [String],
     files: &mut F,
     images: &mut dyn HostOp,
     scripts: &dyn HostOp,
-) -> Result<RunOutput, RunStop<'a>>
+) -> Result<PreparedRun<'a>, RunStop<'a>>
     ensures told { F.told files.new ≡ F.told files.old }
     ensures failed { OnOk result (NoneFailed (F.faults files.old) (F.faults files.new) (F.failed files.old) (F.failed files.new)) }
     ensures fileless { IsFileless (run_of (test images.old) (test scripts.now) (changes images.old) (map string_bytes words.now)) → files.new ≡ files.old }
-    ensures answer { IfOk result (λ answer. HasOutcome (F.told files.old)
-        (run_of (test images.old) (test scripts.now) (changes images.old) (map string_bytes words.now)) (F.asked files.old) (F.asked files.new) (outcome_of answer)) }
+    ensures run { IfOk result (IsPrepared (test images.new) (test scripts.now) (changes images.new) (F.told files.old)
+        (run_of (test images.old) (test scripts.now) (changes images.old) (map string_bytes words.now)) (F.asked files.old) (F.asked files.new)) }
     ensures stop { IfErr result (λ stop. IsStop (F.told files.old)
         (run_of (test images.old) (test scripts.now) (changes images.old) (map string_bytes words.now))
         (F.faults files.old) (F.faults files.new) (F.failed files.old) (F.failed files.new) (F.asked files.old) (F.asked files.new) stop) }
@@ -78,9 +109,5 @@ fn settled<'a, F: Files>(
     let Ok(request) = request_of(alloc, words) else {
         return Err(RunStop::NoMemory);
     };
-    match answer_to(alloc, &request, files, images, scripts) {
-        Ok(answer) => Ok(answer),
-        Err(RunHalt::Refused(answer)) => Ok(answer),
-        Err(RunHalt::Stopped(stop)) => Err(stop),
-    }
+    prepare_run(alloc, &request, files, images, scripts)
 }

@@ -1,7 +1,7 @@
 ghost use Rattle.std.specs.Prelude.{◌≡◌, ◌≤◌, length, map, string_bytes, option_map, IfOk, nat_eq, if◌then◌else◌};
 ghost use Rattle.fixed_num.specs.Decimal.{read_text};
 ghost use Rattle.style_program.specs.Words.{asked, asked_alone, asked_of_one, asked_of_more, asked_with_script, features_named, shown_words, source_and_tile, tiles_named, are_allowed, count_of};
-ghost use Rattle.style_program.specs.WordsView.{asked_by, eval_words, tile_word};
+ghost use Rattle.style_program.specs.WordsView.{answer_asked, asked_by, eval_words, tile_word};
 
 use fixed_num::{Fixed, read_decimal};
 use std::alloc::{AllocError, Global};
@@ -31,6 +31,15 @@ pub struct ReplayRequest<'a> {
 /// What the words ask for.
 #[derive(Debug, Drop)]
 pub enum Request<'a> {
+    /// One answer, once all is read.
+    Answer(AnswerRequest<'a>),
+    /// The answers to a script: what a style shows while it is edited.
+    Replay(ReplayRequest<'a>),
+}
+
+/// What is asked for where one answer is given.
+#[derive(Debug, Drop)]
+pub enum AnswerRequest<'a> {
     /// The value of this expression.
     Value(&'a str),
     /// What a style breaks.
@@ -39,8 +48,8 @@ pub enum Request<'a> {
     Migrate(&'a str),
     /// What a style shows.
     Eval(EvalRequest<'a>),
-    /// What it shows while it is edited by a script.
-    Replay(ReplayRequest<'a>),
+    /// What a tile holds.
+    Tile(&'a str),
     /// How much it shows of so many features that are made.
     Generate(u32),
     Help,
@@ -54,8 +63,8 @@ pub fn request_of(alloc: Global, words: &[String]) -> Result<Request<'_>, AllocE
     ensures { IfOk result (λ request. asked_by request ≡ asked (map string_bytes words.now)) }
 {
     match words {
-        [word] => Ok(request_alone(word.as_str())),
-        [command, word] => Ok(request_of_one(command.as_str(), word.as_str())),
+        [word] => Ok(Request::Answer(request_alone(word.as_str()))),
+        [command, word] => Ok(Request::Answer(request_of_one(command.as_str(), word.as_str()))),
         [command, style, word, words @ ..] => {
             request_of_more(
                 alloc,
@@ -65,32 +74,33 @@ pub fn request_of(alloc: Global, words: &[String]) -> Result<Request<'_>, AllocE
                 words,
             )
         }
-        _ => Ok(Request::Wrong),
+        _ => Ok(Request::Answer(AnswerRequest::Wrong)),
     }
 }
 
-fn request_alone<'a>(word: &str) -> Request<'a>
-    ensures { asked_by result ≡ asked_alone word.now }
+fn request_alone<'a>(word: &str) -> AnswerRequest<'a>
+    ensures { answer_asked result ≡ asked_alone word.now }
 {
     match word {
-        "--help" => Request::Help,
-        "--version" => Request::Version,
-        _ => Request::Wrong,
+        "--help" => AnswerRequest::Help,
+        "--version" => AnswerRequest::Version,
+        _ => AnswerRequest::Wrong,
     }
 }
 
-fn request_of_one<'a>(command: &str, word: &'a str) -> Request<'a>
-    ensures { asked_by result ≡ asked_of_one command.now word.now }
+fn request_of_one<'a>(command: &str, word: &'a str) -> AnswerRequest<'a>
+    ensures { answer_asked result ≡ asked_of_one command.now word.now }
 {
     match command {
-        "value" => Request::Value(word),
-        "validate" => Request::Validate(word),
-        "migrate" => Request::Migrate(word),
+        "value" => AnswerRequest::Value(word),
+        "validate" => AnswerRequest::Validate(word),
+        "migrate" => AnswerRequest::Migrate(word),
+        "tile" => AnswerRequest::Tile(word),
         "generate" => match features_named(word) {
-            Some(features) => Request::Generate(features),
-            None => Request::Wrong,
+            Some(features) => AnswerRequest::Generate(features),
+            None => AnswerRequest::Wrong,
         },
-        _ => Request::Wrong,
+        _ => AnswerRequest::Wrong,
     }
 }
 
@@ -128,11 +138,11 @@ fn request_of_more<'a>(
 {
     match command {
         "eval" => match shown_request(alloc, style, word, words)? {
-            Some(request) => Ok(Request::Eval(request)),
-            None => Ok(Request::Wrong),
+            Some(request) => Ok(Request::Answer(AnswerRequest::Eval(request))),
+            None => Ok(Request::Answer(AnswerRequest::Wrong)),
         },
         "replay" => request_replay(alloc, style, word, words),
-        _ => Ok(Request::Wrong),
+        _ => Ok(Request::Answer(AnswerRequest::Wrong)),
     }
 }
 
@@ -146,11 +156,11 @@ fn request_replay<'a>(
         asked_by request ≡ asked_with_script style.now script.now (map string_bytes words.now)) }
 {
     let [zoom, tiles @ ..] = words else {
-        return Ok(Request::Wrong);
+        return Ok(Request::Answer(AnswerRequest::Wrong));
     };
     match shown_request(alloc, style, zoom.as_str(), tiles)? {
         Some(shown) => Ok(Request::Replay(ReplayRequest { script, shown })),
-        None => Ok(Request::Wrong),
+        None => Ok(Request::Answer(AnswerRequest::Wrong)),
     }
 }
 

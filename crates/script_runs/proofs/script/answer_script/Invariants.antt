@@ -1,8 +1,7 @@
 use Rattle.std.proofs.Common.{◌≡◌, ◌≤◌, ◌+◌, ℕ, List, length}
-use Rattle.std.specs.Prelude.{Option}
 use Rattle.edit_session.specs.View.{session_state, tiles_of, IsSoundSession}
-use Rattle.program_runs.specs.Outcome.{RunOutcome}
-use Rattle.program_runs.specs.Runs.{HasOutcome}
+use Rattle.outside_io.specs.Writing.{Gains}
+use Rattle.program_runs.specs.Progress.{HasWritten}
 use Rattle.script_runs.specs.ScriptLines.{script_lines}
 use Rattle.script_runs.specs.ScriptRun.{lines_run, script_run}
 use Rattle.script_runs.proofs.script.answer_script.Given as goal
@@ -18,9 +17,10 @@ invariant-loop-line g l =
       tiles : tiles_of l.session ≡ tiles_of l.fn.session;
       changes : (goal.HostOp-dyn g l.images.now).changes l.images.now.1 ≡ can_change;
       counted : l.number + length l.rest ≤ length l.fn.script + 1;
-      leads : (files : List ℕ → Option (List ℕ)) (asked all : List (List ℕ)) (o : RunOutcome)
-          → HasOutcome files (lines_run (tiles_of l.fn.session) scripts can_change l.number (session_state l.session images) l.out.items l.any (script_lines l.rest)) asked all o
-          → HasOutcome files (script_run (tiles_of l.fn.session) scripts can_change (session_state l.fn.session images_first) l.fn.script) asked all o;
+      none_failed : g.O.Sink.faults l.out ≡ g.O.Sink.faults l.fn.out;
+      written : (text : List ℕ) × Gains (g.O.Sink.held l.fn.out) (g.O.Sink.held l.out) text
+          × HasWritten (script_run (tiles_of l.fn.session) scripts can_change (session_state l.fn.session images_first) l.fn.script) text
+          (lines_run (tiles_of l.fn.session) scripts can_change l.number (session_state l.session images) l.any (script_lines l.rest));
     }
 
 abbrev pub decreases-loop-line : goal.decreases-loop-line

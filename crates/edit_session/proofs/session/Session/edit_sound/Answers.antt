@@ -71,9 +71,11 @@ returns-then-is_done-clause-ready c =
     let is : us ≡ layer_list after = layers_listed after c.layers_of.result.now c.layers_of.ensures in
     let none = ap findings c.in_ok-undo.ensures.edited ∙ c.requires.sound in
     let follows = subst (λ (tiles : List SourceTile). Follows tiles s.globals us c.in_ok-is_done.is_done s.layers c.follow.new.self)
-    (ap (map tile_seen) c.as_slice.ensures.value) c.in_ok-is_done.ensures in
-    (is_whole (tiles_of s) s.globals after none c.note_types-2.ensures.typed us is c.follow.new.self
-    (sym c.if-is_done.true ∙ follows.limit) (follows.prepared c.if-is_done.true), c.in_ok-follow.ensures ∙ ap (map layer_mark) (layers_listed after c.layers_of-then-is_done.result.now c.layers_of-then-is_done.ensures))
+    (ap (map tile_seen) c.as_slice.ensures.value) c.in_ok-is_done.ensures in (
+      is_whole (tiles_of s) s.globals after none c.note_types-2.ensures.typed us is c.follow.new.self
+          (sym c.if-is_done.true ∙ follows.limit) (follows.prepared c.if-is_done.true),
+      c.in_ok-follow.ensures ∙ ap (map layer_mark) (layers_listed after c.layers_of-then-is_done.result.now c.layers_of-then-is_done.ensures),
+    )
 
 pub returns-clause-answer : goal.returns-clause-answer
 returns-clause-answer c = λ has_image scripts can_change.

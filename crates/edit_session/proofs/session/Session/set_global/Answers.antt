@@ -24,10 +24,13 @@ returns-clause-ready c =
       | then-self+in_ok-self w ↦
           subst is_ready (sym w.self-is) (record { is_accepted = whole; is_prepared = w.in_ok-self.ensures; is_counted = counted; is_noted = ready.is_noted }, marks)
       | else-self w ↦
-          subst is_ready (sym w.self-is) (record {
-            is_accepted = whole;
-            is_prepared = ready.is_prepared ∙ sym (style_steady document new s.globals (ready.is_noted w.if-self.false));
-            is_counted = counted;
-            is_noted = ready.is_noted;
-          }, marks)
+          subst is_ready (sym w.self-is) (
+            record {
+              is_accepted = whole;
+              is_prepared = ready.is_prepared ∙ sym (style_steady document new s.globals (ready.is_noted w.if-self.false));
+              is_counted = counted;
+              is_noted = ready.is_noted;
+            },
+            marks,
+          )
     ]

@@ -1,5 +1,4 @@
 use Rattle.std.proofs.Common.{rules, ◌≡◌, ◌∙◌, ◌||◌, ap, refl, sym, ℕ, ◌+◌, length}
-use Rattle.edit_session.specs.View.{tiles_of}
 use Rattle.generated_runs.specs.Counted.{line_count}
 use Rattle.generated_runs.proofs.ScriptLaws.{next_counted}
 use Rattle.generated_runs.proofs.counting.Counting.answer.Goals as goal
@@ -10,9 +9,9 @@ returns-clause-on g c =
     let images_next = (goal.HostOp-dyn g c.args.images.now).test c.answer_line.new.images in
     let can_change = (goal.HostOp-dyn g c.args.images.now).changes c.args.images.now.1 in
     let scripts = (goal.HostOp-dyn g c.args.scripts.now).test c.args.scripts.now.1 in
-    let any : (c.args.self.now.any || c.in_ok-refused.refused) ≡ c.if-self.self = search rules in
-    λ files run rest. next_counted files (tiles_of c.args.session.now) scripts can_change run c.args.session.now c.answer_line.new.session c.args.self.now _ images images_next c.answer_line.new.out.items
-    c.clear.new.self.items c.in_ok-refused.refused c.args.line.now rest refl c.answer_line.ensures.tiles refl any
+    let any : (c.args.self.now.any || c.in_ok-answer.answer.is_refused) ≡ c.if-self.self = search rules in
+    λ features rest. next_counted features scripts can_change c.args.session.now c.answer_line.new.session c.args.self.now _ images images_next
+    c.in_ok-answer.answer.text.items c.in_ok-answer.answer.is_refused c.args.line.now rest c.answer_line.ensures.tiles refl any
     (ap (λ (n : ℕ). c.args.self.now.lines + n) (c.line_count.ensures ∙ ap line_count c.as_slice.ensures.value))
     (ap (λ (n : ℕ). c.args.self.now.bytes + n) (c.len.ensures ∙ (sym c.as_slice.ensures.len ∙ ap length c.as_slice.ensures.value)))
-    c.clear.ensures.items (λ asked all o made. c.in_ok-refused.ensures.leads files c.args.self.now.any rest asked all o made)
+    c.in_ok-answer.ensures.gives

@@ -1,8 +1,6 @@
-use Rattle.std.proofs.Common.{◌≡◌, ◌+◌, drop, ℕ, List}
-use Rattle.std.specs.Prelude.{Option}
+use Rattle.std.proofs.Common.{◌≡◌, ◌+◌, drop}
 use Rattle.edit_session.specs.View.{IsSoundSession}
-use Rattle.program_runs.specs.Runs.{Run}
-use Rattle.generated_runs.specs.Counting.{CountsOn, IsSmall, lines_left}
+use Rattle.generated_runs.specs.Counting.{EndsAs, IsSmall, lines_left}
 use Rattle.generated_runs.specs.GeneratedScript.{generated_lines}
 use Rattle.generated_runs.proofs.counting.Counting.answer_all.Given as goal
 
@@ -17,7 +15,6 @@ invariant-loop-place g l =
       changes : (goal.HostOp-dyn g l.images.now).changes l.images.now.1 ≡ can_change;
       small : IsSmall l.self;
       number : l.self.number ≡ l.place + 1;
-      on : (files : List ℕ → Option (List ℕ)) (run : Run) → CountsOn files run
-          (lines_left scripts can_change images_first l.fn.session l.fn.self (generated_lines l.fn.features)) l.fn.self
-          → CountsOn files run (lines_left scripts can_change images l.session l.self (drop l.place (generated_lines l.fn.features))) l.self;
+      on : EndsAs (lines_left l.fn.features scripts can_change images_first l.fn.session l.fn.self (generated_lines l.fn.features))
+          (lines_left l.fn.features scripts can_change images l.session l.self (drop l.place (generated_lines l.fn.features)));
     }

@@ -1,0 +1,2 @@
+pub mod ExtentSteps
+pub mod ExtentCounts
