@@ -1,6 +1,6 @@
 -- How what is prepared follows each edit: by what takes it back.
-use Rattle.std.proofs.Common.{◌≡◌, ◌∙◌, ℕ, ◌+◌, ◌<◌, ◌≤◌, List, [], get_or, set, length, map, refl, ap, sym, arith, Bool, true, false}
-use Rattle.std.specs.Prelude.{insert, remove, ◌||◌}
+use Rattle.std.proofs.Common.{◌≡◌, ◌∙◌, ℕ, ◌<◌, ◌≤◌, List, get_or, set, length, ap, sym, arith, Bool, true, false}
+use Rattle.std.specs.Prelude.{insert, remove}
 use Rattle.std.proofs.lemmas.Bool.{le-leb, leb-true}
 use Rattle.std.proofs.lemmas.List.{length-map}
 use Rattle.decimal_json.specs.Tree.{Tree, null, trees_of}
@@ -10,7 +10,7 @@ use Rattle.global_laws.specs.GlobalLaw.{names_globals, items_name_globals}
 use Rattle.style_layout.specs.CodeView.{layers_seen}
 use Rattle.style_layout.specs.Layers.{StyleLayer}
 use Rattle.style_layout.specs.Shown.{SourceTile}
-use Rattle.style_layout.specs.StyleLayout.{cell_count, layer_cells}
+use Rattle.style_layout.specs.StyleLayout.{cell_count}
 use Rattle.edit_session.proofs.LayerLists.{changed_back, added_back, removed_back, moved_forth, cells_moved, cells_remove, length_inserted, either_off, off_changed, off_added, off_removed, off_moved}
 use Rattle.edit_session.specs.Opening.{cell_limit, within_limit}
 use Rattle.edit_session.specs.PreparedLayers.{ArePrepared, Becomes, Follows, prepared_layer, prepared_layers}

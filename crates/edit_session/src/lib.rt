@@ -15,8 +15,9 @@
 //! lets the texts pass that it let pass.
 //!
 //! Of an edit of layers only the part that it changes is checked against the rules, and only the layer that it changes is prepared anew
-//! and its cells counted. A layer is found by a mark of its id, eight bytes for each (`layer_marks.rt`). A value of the global state is set in time logarithmic in their number, and prepares the layers anew only
-//! where a text in them is `global-state`, or was before an edit.
+//! and its cells counted. A layer is found by a mark of its id, eight bytes for each (`layer_marks.rt`). A value of the global state
+//! is set in time logarithmic in their number, and prepares the layers anew only where a text in them is `global-state`, or was before
+//! an edit.
 //!
 //! The text to believe is in `specs/`: `SessionState`, `Opening`, `Applied`, `View`.
 #![tactic(auto)]

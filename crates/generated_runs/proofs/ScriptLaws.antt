@@ -1,6 +1,6 @@
 -- The run of lines whose answers are counted.
 use Rattle.std.proofs.Common.{◌≡◌, refl, sym, subst, ℕ, ◌+◌, List, [], ◌∷◌, Bool, ◌||◌, inl, inr, length, arith}
-use Rattle.std.specs.Prelude.{Option, Some, None, Result, Ok, Err, IfOk}
+use Rattle.std.specs.Prelude.{Option, Result, Ok, Err, IfOk}
 use Rattle.edit_session.specs.SessionState.{SessionState}
 use Rattle.edit_session.specs.View.{session_state, tiles_of}
 use Rattle.edit_session.specs.declared.session.Session.{Session}

@@ -1,5 +1,5 @@
 -- What contracts of private functions see of a script whose answers are counted.
-use Rattle.std.specs.Prelude.{◌≡◌, ℕ, ◌*◌, ◌^◌, ◌≤◌, List, Bool, Option}
+use Rattle.std.specs.Prelude.{ℕ, ◌*◌, ◌^◌, ◌≤◌, List, Bool, Option}
 use Rattle.edit_session.specs.View.{session_state, tiles_of}
 use Rattle.edit_session.specs.declared.session.Session.{Session}
 use Rattle.program_runs.specs.Outcome.{RunOutcome}

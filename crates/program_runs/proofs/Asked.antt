@@ -1,5 +1,5 @@
 -- What a run has read: nothing yet, or all of it.
-use Rattle.std.specs.Prelude.{◌≡◌, ℕ, List, Option, Some, None}
+use Rattle.std.specs.Prelude.{ℕ, List, Option, Some, None}
 use Rattle.std.proofs.Common.{refl, inl, inr}
 use Rattle.program_runs.specs.Outcome.{RunOutcome}
 use Rattle.program_runs.specs.Runs.{Run, ends, says, reads, parses, may_parse, HasOutcome, HasAsked}

@@ -7,7 +7,7 @@ use Rattle.outside_io.specs.Writing.{Gains, GainsPrefix}
 use Rattle.outside_io.specs.WritingLaws.{gains_both}
 use Rattle.program_runs.specs.declared.halt.WriteStop.TheVariants.{NoMemory, Unwritten}
 use Rattle.program_runs.specs.declared.status.Ending.{Ending}
-use Rattle.program_runs.specs.Outcome.{RunOutcome, said}
+use Rattle.program_runs.specs.Outcome.{said}
 use Rattle.program_runs.specs.Progress.{Writes, HasWritten, IsWritten, IsCut}
 use Rattle.program_runs.specs.Runs.{Run, ends, HasOutcome, HasSaid, after_text}
 use Rattle.program_runs.proofs.Saying.{whole}

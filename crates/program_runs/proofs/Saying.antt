@@ -1,6 +1,6 @@
 -- What a run has come to write: what it has is of each outcome, and what an outcome has it comes to write.
 use Rattle.std.specs.Prelude.{◌≡◌, ℕ, List, [], ◌∷◌, ◌++◌, length, take, Option, Some, None, ◌⊎◌}
-use Rattle.std.proofs.Common.{refl, sym, ap, subst, ◌∙◌, inl, inr, append-nil, append_assoc}
+use Rattle.std.proofs.Common.{sym, ap, subst, ◌∙◌, inl, inr, append-nil, append_assoc}
 use Rattle.std.proofs.Math.Seq.{take-append_seam}
 use Rattle.outside_io.specs.Writing.{Gains, GainsPrefix}
 use Rattle.json_tokens.specs.Rules.{all_rules}

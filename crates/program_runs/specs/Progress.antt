@@ -18,23 +18,27 @@ use Rattle.program_runs.specs.Written.{OutTextIsDue}
 abbrev pub outcome_of : RunOutput → RunOutcome
 outcome_of a = record { out = a.out.items; err = a.err.items; ending = a.ending }
 
--- The run comes to the rest of it, once it has read the files of some more names: outcomes of the rest are outcomes of the run, and what the
--- rest reads and writes the run reads and writes.
+-- The run comes to the rest of it, once it has read the files of some more names: outcomes of the rest are outcomes of the run, and
+-- what the rest reads and writes the run reads and writes.
 pub record ComesTo (files : List ℕ → Option (List ℕ)) (run rest : Run) (asked_old asked_new : List (List ℕ)) : Type 0 where
   pub outcomes : (all : List (List ℕ)) (o : RunOutcome) → HasOutcome files rest asked_new all o → HasOutcome files run asked_old all o
   pub reads : (now : List (List ℕ)) → HasAsked files rest asked_new now → HasAsked files run asked_old now
   pub says : (now : List (List ℕ)) (text : List ℕ) → HasSaid files rest asked_new now text → HasSaid files run asked_old now text
 
--- No answer: an allocation failed, or a read of the run's failed. The arguments after the run are the count of failed reads before and after, the name
--- of the last of them before and after, and the names that were read.
-abbrev pub IsStop : (List ℕ → Option (List ℕ)) → Run → (old new : ℕ) → (failed_old failed_new : Option (List ℕ)) → (asked_old asked_new : List (List ℕ)) → RunStop → Type 0
+-- No answer: an allocation failed, or a read of the run's failed. The arguments after the run are the count of failed reads before
+-- and after, the name of the last of them before and after, and the names that were read.
+abbrev pub IsStop : (List ℕ → Option (List ℕ)) → Run → (old new : ℕ) → (failed_old failed_new : Option (List ℕ))
+    → (asked_old asked_new : List (List ℕ)) → RunStop → Type 0
 IsStop files run old new failed_old failed_new asked_old asked_new NoMemory =
     NoneFailed old new failed_old failed_new × HasAsked files run asked_old asked_new
-IsStop files run old new failed_old failed_new asked_old asked_new (Unread name) = ReadFails files run old new failed_new asked_old asked_new name.now
+IsStop files run old new failed_old failed_new asked_old asked_new (Unread name) =
+    ReadFails files run old new failed_new asked_old asked_new name.now
 
 -- no answer, or what was read is refused, and that is an outcome
-abbrev pub HaltsAt : (List ℕ → Option (List ℕ)) → Run → (old new : ℕ) → (failed_old failed_new : Option (List ℕ)) → (asked_old asked_new : List (List ℕ)) → RunHalt → Type 0
-HaltsAt files run old new failed_old failed_new asked_old asked_new (Stopped stop) = IsStop files run old new failed_old failed_new asked_old asked_new stop
+abbrev pub HaltsAt : (List ℕ → Option (List ℕ)) → Run → (old new : ℕ) → (failed_old failed_new : Option (List ℕ))
+    → (asked_old asked_new : List (List ℕ)) → RunHalt → Type 0
+HaltsAt files run old new failed_old failed_new asked_old asked_new (Stopped stop) =
+    IsStop files run old new failed_old failed_new asked_old asked_new stop
 HaltsAt files run old new failed_old failed_new asked_old asked_new (Refused answer) =
     NoneFailed old new failed_old failed_new × HasOutcome files run asked_old asked_new (outcome_of answer)
 
@@ -44,21 +48,28 @@ module _ {A : Type 0} (files : List ℕ → Option (List ℕ)) (part : (A → Ru
   GoesOn asked_old asked_new x = (k : A → Run) → ComesTo files (part k) (k x) asked_old asked_new
 
   -- whatever the run would go on with, it stops before that
-  abbrev pub Halts : (old new : ℕ) → (failed_old failed_new : Option (List ℕ)) → (asked_old asked_new : List (List ℕ)) → RunHalt → Type 0
-  Halts old new failed_old failed_new asked_old asked_new halt = (k : A → Run) → HaltsAt files (part k) old new failed_old failed_new asked_old asked_new halt
+  abbrev pub Halts : (old new : ℕ) → (failed_old failed_new : Option (List ℕ)) → (asked_old asked_new : List (List ℕ))
+      → RunHalt → Type 0
+  Halts old new failed_old failed_new asked_old asked_new halt =
+      (k : A → Run) → HaltsAt files (part k) old new failed_old failed_new asked_old asked_new halt
 
 -- ---- a run whose answers are written one after another, and which reads no file meanwhile
 
 -- It writes this text, and comes to the rest of it.
 pub record Writes (run : Run) (text : List ℕ) (rest : Run) : Type 0 where
-  pub outcomes : (files : List ℕ → Option (List ℕ)) (asked all : List (List ℕ)) (o : RunOutcome) → HasOutcome files rest asked all o → HasOutcome files run asked all (after_text text o)
-  pub says : (files : List ℕ → Option (List ℕ)) (asked now : List (List ℕ)) (more : List ℕ) → HasSaid files rest asked now more → HasSaid files run asked now (text ++ more)
-  pub begins : (files : List ℕ → Option (List ℕ)) (asked : List (List ℕ)) (front : List ℕ) → IsFront front text → HasSaid files run asked asked front
+  pub outcomes : (files : List ℕ → Option (List ℕ)) (asked all : List (List ℕ)) (o : RunOutcome)
+      → HasOutcome files rest asked all o → HasOutcome files run asked all (after_text text o)
+  pub says : (files : List ℕ → Option (List ℕ)) (asked now : List (List ℕ)) (more : List ℕ)
+      → HasSaid files rest asked now more → HasSaid files run asked now (text ++ more)
+  pub begins : (files : List ℕ → Option (List ℕ)) (asked : List (List ℕ)) (front : List ℕ)
+      → IsFront front text → HasSaid files run asked asked front
 
 -- It has written this text so far, and has come to the rest of it.
 pub record HasWritten (run : Run) (text : List ℕ) (rest : Run) : Type 0 where
-  pub outcomes : (files : List ℕ → Option (List ℕ)) (asked all : List (List ℕ)) (o : RunOutcome) → HasOutcome files rest asked all o → HasOutcome files run asked all (after_text text o)
-  pub says : (files : List ℕ → Option (List ℕ)) (asked now : List (List ℕ)) (more : List ℕ) → HasSaid files rest asked now more → HasSaid files run asked now (text ++ more)
+  pub outcomes : (files : List ℕ → Option (List ℕ)) (asked all : List (List ℕ)) (o : RunOutcome)
+      → HasOutcome files rest asked all o → HasOutcome files run asked all (after_text text o)
+  pub says : (files : List ℕ → Option (List ℕ)) (asked now : List (List ℕ)) (more : List ℕ)
+      → HasSaid files rest asked now more → HasSaid files run asked now (text ++ more)
   pub so_far : (files : List ℕ → Option (List ℕ)) (asked : List (List ℕ)) → (text ≡ []) ⊎ HasSaid files run asked asked text
 
 -- by what out held before and holds now

@@ -1,6 +1,6 @@
 -- From the answer to a line to the run of the lines from it on.
 use Rattle.std.proofs.Common.{◌≡◌, ℕ, ◌+◌, List, ◌∷◌, ◌++◌, Bool, ◌||◌, refl, subst, sym, inl, inr}
-use Rattle.std.specs.Prelude.{true, Option, Some, None, Result, Ok, Err, IfOk}
+use Rattle.std.specs.Prelude.{true, Option, Result, Ok, Err, IfOk}
 use Rattle.edit_script.specs.Edit.{Edit}
 use Rattle.edit_script.specs.Line.{AnswersLine}
 use Rattle.edit_script.specs.declared.command.LineFault.{LineFault}
@@ -8,7 +8,7 @@ use Rattle.edit_session.specs.Applied.{Reply, applied}
 use Rattle.edit_session.specs.SessionState.{SessionState}
 use Rattle.program_runs.specs.Outcome.{RunOutcome}
 use Rattle.program_runs.specs.Progress.{Writes}
-use Rattle.program_runs.specs.Runs.{Run, says, HasOutcome, HasSaid, IsFront, after_text}
+use Rattle.program_runs.specs.Runs.{Run, says, HasOutcome, HasSaid, after_text}
 use Rattle.script_runs.specs.AnswerTexts.{fault_name, refused_line, reply_text, is_refused}
 use Rattle.script_runs.specs.LineAnswers.{LineGives, line_seen}
 use Rattle.script_runs.specs.ScriptRun.{LineOut, line_out, lines_run, replied}

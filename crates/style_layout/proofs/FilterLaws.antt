@@ -7,9 +7,7 @@ use Rattle.prop_values.specs.declared.kinds.Want.TheVariants as wants
 use Rattle.expr_plain.specs.Resolved.{passes}
 use Rattle.expr_syntax.specs.Mentioned.{mentions}
 use Rattle.expr_syntax.specs.Term.{Term}
-use Rattle.expr_syntax.specs.declared.world_parts.Mentions.{Mentions}
 use Rattle.eval_face.proofs.AgreementLaws.{agreeing_worlds}
-use Rattle.eval_face.specs.Agreement.{AgreeOn}
 use Rattle.eval_face.specs.Meaning.{mean}
 use Rattle.eval_face.specs.World.{no_feature}
 use Rattle.tile_reader.specs.declared.tile.Feature.{Feature}

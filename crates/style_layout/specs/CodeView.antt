@@ -1,5 +1,5 @@
 -- What clauses see of the program's values.
-use Rattle.std.specs.Prelude.{ℕ, ℤ, List, map, Bool, Option, option_map}
+use Rattle.std.specs.Prelude.{List, map, Bool, option_map}
 use Rattle.prop_values.specs.View.{data_of}
 use Rattle.prop_values.specs.declared.outcome.Outcome.{Outcome}
 use Rattle.stable_order.specs.Keys.{key_before}

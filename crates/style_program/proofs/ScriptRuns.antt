@@ -4,7 +4,6 @@ use Rattle.std.proofs.Math.Seq.{take-length}
 use Rattle.std.specs.Prelude.{Option, None, Bool, ◌⊎◌}
 use Rattle.edit_session.specs.Opening.{Fault, tiles_fault}
 use Rattle.edit_session.specs.SessionState.{SessionState, opened}
-use Rattle.outside_io.specs.Counts.{raised}
 use Rattle.outside_io.specs.Writing.{Gains, GainsPrefix}
 use Rattle.outside_io.specs.WritingLaws.{front_of_nothing, gains_nothing}
 use Rattle.program_runs.specs.Ending.{status_of}

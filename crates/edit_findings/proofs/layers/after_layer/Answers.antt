@@ -1,4 +1,4 @@
-use Rattle.std.proofs.Common.{◌≡◌, ◌∙◌, ◌+◌, ◌++◌, [], drop, ap, sym}
+use Rattle.std.proofs.Common.{◌∙◌, ◌+◌, ◌++◌, drop, ap, sym}
 use Rattle.std.proofs.lemmas.List.{append-nil}
 use Rattle.decimal_json.specs.View.{tree_of}
 use Rattle.style_edits.specs.Layers.{layer_list}

@@ -1,7 +1,6 @@
-use Rattle.std.proofs.Common.{◌∙◌, ap, sym, arith, get_or, map}
-use Rattle.std.specs.Prelude.{Some, slice_get}
+use Rattle.std.proofs.Common.{◌∙◌, ap, sym, map}
+use Rattle.std.specs.Prelude.{slice_get}
 use Rattle.style_layout.specs.CodeView.{feature_seen, layer_seen, property_seen, scene_seen}
-use Rattle.style_layout.specs.declared.properties.Property.{Property}
 use Rattle.style_layout.proofs.KeyedLists.{there_is}
 use Rattle.style_layout.proofs.feature_lines.write_feature_values.Goals as goal
 

@@ -1,4 +1,4 @@
-use Rattle.std.proofs.Common.{◌≡◌, ◌∙◌, [], ap, sym}
+use Rattle.std.proofs.Common.{◌∙◌, [], ap, sym}
 use Rattle.prop_values.specs.declared.kinds.Want.TheVariants as wants
 use Rattle.expr_plain.specs.Resolved.{passes}
 use Rattle.expr_syntax.specs.TermView.{term_of}

@@ -1,5 +1,5 @@
 use Rattle.std.proofs.Common.{◌≡◌, ℕ, List, Bool, refl, subst}
-use Rattle.std.specs.Prelude.{None, Some, option_map}
+use Rattle.std.specs.Prelude.{option_map}
 use Rattle.std.specs.Result.{result_err}
 use Rattle.edit_session.specs.Opening.{tiles_fault}
 use Rattle.edit_session.specs.SessionState.{opened}
@@ -8,8 +8,7 @@ use Rattle.program_runs.specs.declared.halt.RunHalt.TheVariants.{Stopped}
 use Rattle.program_runs.specs.declared.halt.RunStop.TheVariants.{NoMemory}
 use Rattle.program_runs.proofs.Asked.{none_asked}
 use Rattle.program_runs.proofs.Going.{at_residual}
-use Rattle.program_runs.specs.Progress.{HaltsAt, outcome_of}
-use Rattle.program_runs.specs.Runs.{HasOutcome}
+use Rattle.program_runs.specs.Progress.{HaltsAt}
 use Rattle.style_program.specs.EvalRun.{opened_or_refused}
 use Rattle.style_program.specs.TileRunView.{shown_seen}
 use Rattle.style_program.proofs.AtFirst.{of_ok}

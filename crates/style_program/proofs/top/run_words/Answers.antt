@@ -1,4 +1,4 @@
-use Rattle.std.proofs.Common.{◌≡◌, List, ℕ, ap, sym, subst, refl, map, string_bytes}
+use Rattle.std.proofs.Common.{List, ℕ, sym, subst, refl, map, string_bytes}
 use Rattle.edit_session.specs.View.{session_state, tiles_of}
 use Rattle.outside_io.specs.WritingLaws.{front_of_nothing}
 use Rattle.program_runs.specs.Outcome.{said}

@@ -1,5 +1,4 @@
-use Rattle.std.proofs.Common.{◌≡◌, List, Bool, true, false, ap, map, sym, subst, ◌∙◌}
-use Rattle.decimal_json.specs.Tree.{Tree}
+use Rattle.std.proofs.Common.{◌≡◌, List, true, false, ap, map, sym, subst, ◌∙◌}
 use Rattle.decimal_json.specs.View.{items_view, tree_of}
 use Rattle.edit_script.specs.View.{command_seen}
 use Rattle.style_edits.proofs.DocumentLaws.{layers_listed}
@@ -10,7 +9,7 @@ use Rattle.style_layout.specs.Shown.{SourceTile}
 use Rattle.style_rules.specs.Findings.{findings}
 use Rattle.edit_session.specs.LayerMarks.{layer_mark}
 use Rattle.edit_session.specs.PreparedLayers.{AreTyped, ArePrepared, Follows}
-use Rattle.edit_session.specs.View.{session_state, tiles_of, IsWholeDocument}
+use Rattle.edit_session.specs.View.{session_state, tiles_of}
 use Rattle.edit_session.specs.declared.answer.Refusal.TheVariants.{CellLimit}
 use Rattle.edit_session.proofs.AppliedLaws.{accepted_is_sound, layers_accepted, layers_refused}
 use Rattle.edit_session.proofs.FollowLaws.{before_edit, few_cells, is_prepared, is_refused, is_whole, not_refused}
