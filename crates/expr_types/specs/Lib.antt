@@ -12,6 +12,7 @@ pub mod Arithmetics
 pub mod OwnTable
 pub mod ArgumentPaths
 pub mod Typing
+pub mod NodeKinds
 pub mod Visits
 pub mod Allowed
 pub mod Checked

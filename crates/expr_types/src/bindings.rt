@@ -8,9 +8,9 @@ use prop_values::Kind;
 
 /// The names that a `let` binds, each with the kind of its binding.
 #[derive(Drop)]
-pub(crate) struct Bound<'a> {
-    pub(crate) names: &'a Names,
-    pub(crate) kinds: &'a [Kind],
+pub struct Bound<'a> {
+    pub names: &'a Names,
+    pub kinds: &'a [Kind],
     ghost each: { length names.now ≡ length kinds.now },
 }
 

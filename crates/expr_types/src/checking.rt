@@ -346,7 +346,8 @@ fn handed(op: &Operator, want: &Want) -> Want
     }
 }
 
-fn argument_want(op: &Operator, count: usize, place: usize, want: &Want) -> Want
+/// What an argument, counted from 0, of so many is wanted as, in a node under a want.
+pub fn argument_want(op: &Operator, count: usize, place: usize, want: &Want) -> Want
     requires { place < 2 ^ 60 }
     ensures { result ≡ argument_want op.now count place want.now }
 {

@@ -47,7 +47,7 @@ fn same_count(one: Option<u32>, other: Option<u32>) -> bool
 }
 
 /// Whether two kinds are the same.
-pub(crate) fn same_kind(one: Kind, other: Kind) -> bool
+pub fn same_kind(one: Kind, other: Kind) -> bool
     ensures { result ≡ same_kind one other }
 {
     match (one, other) {
@@ -172,7 +172,7 @@ pub(crate) fn kind_under(want: &Want, kind: Kind) -> Kind
 }
 
 /// The kind, under a want, of a node that hands it to its branches.
-pub(crate) fn branch_kind(want: &Want, kind: Kind) -> Kind
+pub fn branch_kind(want: &Want, kind: Kind) -> Kind
     ensures { result ≡ branch_kind want.now kind }
 {
     match *want {

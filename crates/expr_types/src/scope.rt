@@ -10,7 +10,7 @@ use prop_values::FaultSet;
 
 /// The names around an expression with their kinds: those of each `let`, the innermost first.
 #[derive(Drop)]
-pub(crate) enum KindScope<'a> {
+pub enum KindScope<'a> {
     Empty,
     Inside(Bound<'a>, &'a KindScope<'a>),
 }

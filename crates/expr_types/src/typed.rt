@@ -86,6 +86,13 @@ impl<'a> Typed<'a> {
     {
         self.places[place].always
     }
+
+    /// What is known of its nodes, in preorder from 0, literals among them. The expression is borrowed no longer.
+    pub fn into_places(self) -> Vec<Placed>
+        ensures { result.items ≡ places_in self.entry }
+    {
+        self.places
+    }
 }
 
 /// Checks an expression as the value of a property of a row, or as a filter where there is none: the first
