@@ -50,12 +50,19 @@ pub fn run_style<F: Files, O: Sink, E: Sink, L: Ledger>(
     ensures steps { steps.new ≡ steps.old }
 {
     let mut images = images;
-    run_words(alloc, words, files, out, err, &mut *images, &*scripts)
+    let call = Call { alloc, words };
+    run_words(call, files, out, err, &mut *images, &*scripts)
+}
+
+// The words of a call, and where memory for their run is taken.
+#[derive(Clone, Copy)]
+struct Call<'a> {
+    alloc: Global,
+    words: &'a [String],
 }
 
 fn run_words<F: Files, O: Sink, E: Sink>(
-    alloc: Global,
-    words: &[String],
+    call: Call<'_>,
     files: &mut F,
     out: &mut O,
     err: &mut E,
@@ -63,14 +70,15 @@ fn run_words<F: Files, O: Sink, E: Sink>(
     scripts: &dyn HostOp,
 ) -> Status
     ensures promises { KeepsPromises (F.told files.old)
-        (run_of (test images.old) (test scripts.now) (changes images.old) (map string_bytes words.now)) result
+        (run_of (test images.old) (test scripts.now) (changes images.old) (map string_bytes call.entry.words.now)) result
         (outside (F.faults files.old) (F.failed files.old) (F.asked files.old) (O.held out.old) (O.faults out.old) (E.held err.old) (E.faults err.old))
         (outside (F.faults files.new) (F.failed files.new) (F.asked files.new) (O.held out.new) (O.faults out.new) (E.held err.new) (E.faults err.new))
         (files.new ≡ files.old) }
-    ensures listed { result ≡ Status.Found → ListsItsFault (test images.old) (test scripts.now) (asked (map string_bytes words.now)) }
+    ensures listed { result ≡ Status.Found → ListsItsFault (test images.old) (test scripts.now) (asked (map string_bytes call.entry.words.now)) }
     ensures told { F.told files.new ≡ F.told files.old }
 {
     faults_are_listed();
+    let Call { alloc, words } = call;
     match prepared(alloc, words, files, images, scripts) {
         Ok(PreparedRun::Ended(answer)) => match write_answer(&answer, out, err) {
             Ok(()) => answer.ending.status(),

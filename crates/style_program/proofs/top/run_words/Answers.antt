@@ -27,8 +27,8 @@ returns-in-Ok-Ended-clause-promises g c =
 
 pub returns-in-Ok-clause-listed : goal.returns-in-Ok-clause-listed
 returns-in-Ok-clause-listed g c = λ is.
-    found_is_listed c.faults_are_listed.ensures (g.F.Files.told c.args.files.now) _ _ _ (map string_bytes c.args.words.now)
-    (asked (map string_bytes c.args.words.now)) _ _ (outcome_of c.in-Ok-Ended.answer) _ refl (rw c.in-Ok-Ended.field-0-is at c.in-Ok-Ended.ensures.run) c.status.ensures is
+    found_is_listed c.faults_are_listed.ensures (g.F.Files.told c.args.files.now) _ _ _ (map string_bytes c.args.call.words.now)
+    (asked (map string_bytes c.args.call.words.now)) _ _ (outcome_of c.in-Ok-Ended.answer) _ refl (rw c.in-Ok-Ended.field-0-is at c.in-Ok-Ended.ensures.run) c.status.ensures is
 
 -- ---- it came to a script, whose lines are answered
 
@@ -43,7 +43,7 @@ returns-in-Ok-answer_script-clause-promises g c =
     let scripts = (goal.HostOp-dyn g c.args.scripts.now).test c.args.scripts.now.1 in
     let opened = c.in-Ok-Script.opened in
     let answered : List ℕ → Run = λ script. script_run (tiles_of opened.session) scripts can_change (session_state opened.session images) script in
-    let run = run_of ((goal.HostOp-dyn g c.args.images.now).test c.args.images.now.1) scripts ((goal.HostOp-dyn g c.args.images.now).changes c.args.images.now.1) (map string_bytes c.args.words.now) in
+    let run = run_of ((goal.HostOp-dyn g c.args.images.now).test c.args.images.now.1) scripts ((goal.HostOp-dyn g c.args.images.now).changes c.args.images.now.1) (map string_bytes c.args.call.words.now) in
     let asked_old = g.F.Files.asked c.args.files.now in
     let asked_new = g.F.Files.asked c.prepared.new.files in
     let script = c.as_slice.result.now in
@@ -60,15 +60,15 @@ returns-in-Ok-answer_script-clause-listed g c = λ is.
     let scripts = (goal.HostOp-dyn g c.args.scripts.now).test c.args.scripts.now.1 in
     let opened = c.in-Ok-Script.opened in
     let answered : List ℕ → Run = λ script. script_run (tiles_of opened.session) scripts can_change (session_state opened.session images) script in
-    let run = run_of ((goal.HostOp-dyn g c.args.images.now).test c.args.images.now.1) scripts ((goal.HostOp-dyn g c.args.images.now).changes c.args.images.now.1) (map string_bytes c.args.words.now) in
+    let run = run_of ((goal.HostOp-dyn g c.args.images.now).test c.args.images.now.1) scripts ((goal.HostOp-dyn g c.args.images.now).changes c.args.images.now.1) (map string_bytes c.args.call.words.now) in
     let asked_old = g.F.Files.asked c.args.files.now in
     let asked_new = g.F.Files.asked c.prepared.new.files in
     let script = c.as_slice.result.now in
     let comes : ComesTo files run (answered script) asked_old asked_new =
     subst (λ (text : List ℕ). ComesTo files run (answered text) asked_old asked_new) (sym c.as_slice.ensures.value) (rw c.in-Ok-Script.field-0-is at c.in-Ok-Script.ensures.run).1 in
     let ended = c.in-Ok-answer_script.ensures.written files asked_new in
-    found_is_listed c.faults_are_listed.ensures files _ _ _ (map string_bytes c.args.words.now)
-    (asked (map string_bytes c.args.words.now)) _ _ (said ended.0 c.in-Ok-answer_script.ending) _ refl (comes.outcomes asked_new (said ended.0 c.in-Ok-answer_script.ending) ended.1) c.status-in-Ok-answer_script.ensures is
+    found_is_listed c.faults_are_listed.ensures files _ _ _ (map string_bytes c.args.call.words.now)
+    (asked (map string_bytes c.args.call.words.now)) _ _ (said ended.0 c.in-Ok-answer_script.ending) _ refl (comes.outcomes asked_new (said ended.0 c.in-Ok-answer_script.ending) ended.1) c.status-in-Ok-answer_script.ensures is
 
 pub returns-in-Err-NoMemory-answer_script-clause-promises : goal.returns-in-Err-NoMemory-answer_script-clause-promises
 returns-in-Err-NoMemory-answer_script-clause-promises g c =
@@ -78,7 +78,7 @@ returns-in-Err-NoMemory-answer_script-clause-promises g c =
     let scripts = (goal.HostOp-dyn g c.args.scripts.now).test c.args.scripts.now.1 in
     let opened = c.in-Ok-Script.opened in
     let answered : List ℕ → Run = λ script. script_run (tiles_of opened.session) scripts can_change (session_state opened.session images) script in
-    let run = run_of ((goal.HostOp-dyn g c.args.images.now).test c.args.images.now.1) scripts ((goal.HostOp-dyn g c.args.images.now).changes c.args.images.now.1) (map string_bytes c.args.words.now) in
+    let run = run_of ((goal.HostOp-dyn g c.args.images.now).test c.args.images.now.1) scripts ((goal.HostOp-dyn g c.args.images.now).changes c.args.images.now.1) (map string_bytes c.args.call.words.now) in
     let asked_old = g.F.Files.asked c.args.files.now in
     let asked_new = g.F.Files.asked c.prepared.new.files in
     let script = c.as_slice.result.now in
@@ -94,7 +94,7 @@ returns-in-Ok-Script-clause-promises g c =
     let scripts = (goal.HostOp-dyn g c.args.scripts.now).test c.args.scripts.now.1 in
     let opened = c.in-Ok-Script.opened in
     let answered : List ℕ → Run = λ script. script_run (tiles_of opened.session) scripts can_change (session_state opened.session images) script in
-    let run = run_of ((goal.HostOp-dyn g c.args.images.now).test c.args.images.now.1) scripts ((goal.HostOp-dyn g c.args.images.now).changes c.args.images.now.1) (map string_bytes c.args.words.now) in
+    let run = run_of ((goal.HostOp-dyn g c.args.images.now).test c.args.images.now.1) scripts ((goal.HostOp-dyn g c.args.images.now).changes c.args.images.now.1) (map string_bytes c.args.call.words.now) in
     let asked_old = g.F.Files.asked c.args.files.now in
     let asked_new = g.F.Files.asked c.prepared.new.files in
     let script = c.as_slice.result.now in
