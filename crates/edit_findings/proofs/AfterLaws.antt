@@ -248,6 +248,7 @@ module _ (d : Tree) (places : EditPlaces) (sound : IsSoundList (sources_of d) (l
   by_edit (edits.set_global name value) keys fault = nothing_listed (sources_of d) (layer_list d) sound
   by_edit edits.list keys fault = nothing_listed (sources_of d) (layer_list d) sound
   by_edit edits.stats keys fault = nothing_listed (sources_of d) (layer_list d) sound
+  by_edit edits.style keys fault = nothing_listed (sources_of d) (layer_list d) sound
 
 -- The findings of a document without findings after an edit without fault.
 pub after_edit : (d : Tree) (e : Edit) (places : EditPlaces) → HasDistinctMembers d → HasKeysFor e (layer_list d) →

@@ -32,3 +32,4 @@ pub data Edit : Type 0 where
   set_global : List ℕ → Data → Edit
   list : Edit
   stats : Edit
+  style : Edit

@@ -99,7 +99,8 @@ rows =
     (codes "remove-image", text_form edits.remove_image) ∷
     (codes "set-global", global_form) ∷
     (codes "list", bare_form edits.list) ∷
-    (codes "stats", bare_form edits.stats) ∷ []
+    (codes "stats", bare_form edits.stats) ∷
+    (codes "style", bare_form edits.style) ∷ []
 
 -- ---- a line
 

@@ -4,9 +4,9 @@ use Rattle.decimal_json.specs.View.{tree_of}
 use Rattle.prop_values.specs.Data.{pairs_of}
 use Rattle.prop_values.specs.View.{data_of}
 use Rattle.edit_script.specs.declared.command.Command.{Command}
-use Rattle.edit_script.specs.declared.command.Command.TheVariants.{SetPaint, SetLayout, SetFilter, SetRange, AddLayer, RemoveLayer, MoveLayer, SetZoom, SetState, RemoveState, AddImage, RemoveImage, SetGlobal, List, Stats}
+use Rattle.edit_script.specs.declared.command.Command.TheVariants.{SetPaint, SetLayout, SetFilter, SetRange, AddLayer, RemoveLayer, MoveLayer, SetZoom, SetState, RemoveState, AddImage, RemoveImage, SetGlobal, List, Stats, Style}
 use Rattle.edit_script.specs.declared.command.LineFault.{LineFault}
-use Rattle.edit_script.specs.Edit.{Edit, set_paint, set_layout, set_filter, set_range, add_layer, remove_layer, move_layer, set_zoom, set_state, remove_state, add_image, remove_image, set_global, list, stats}
+use Rattle.edit_script.specs.Edit.{Edit, set_paint, set_layout, set_filter, set_range, add_layer, remove_layer, move_layer, set_zoom, set_state, remove_state, add_image, remove_image, set_global, list, stats, style}
 
 -- The edit of a command: each variant is the edit of its name. Source: own.
 abbrev pub command_seen : Command → Edit
@@ -25,6 +25,7 @@ command_seen (RemoveImage name) = remove_image name
 command_seen (SetGlobal name value) = set_global name (data_of value)
 command_seen List = list
 command_seen Stats = stats
+command_seen Style = style
 
 -- what was read, where it is seen by f
 abbrev pub seen_by : {A B : Type 0} → (A → B) → Result A LineFault → Result B LineFault

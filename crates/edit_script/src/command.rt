@@ -36,6 +36,8 @@ pub enum Command {
     List,
     /// `["stats"]`
     Stats,
+    /// `["style"]`
+    Style,
 }
 
 /// Why a line is no command.

@@ -69,6 +69,7 @@ fn read_named(
         "set-global" => set_global(alloc, elements),
         "list" => Ok(list(elements)),
         "stats" => Ok(stats(elements)),
+        "style" => Ok(style(elements)),
         _ => Ok(Err(LineFault::Form)),
     }
 }
@@ -283,6 +284,15 @@ fn stats(elements: &[Json]) -> Result<Command, LineFault>
 {
     match elements {
         [] => Ok(Command::Stats),
+        _ => Err(LineFault::Form),
+    }
+}
+
+fn style(elements: &[Json]) -> Result<Command, LineFault>
+    ensures { read_seen result ≡ edit_or_fault (bare_form edits.style (items_view elements.now)) }
+{
+    match elements {
+        [] => Ok(Command::Style),
         _ => Err(LineFault::Form),
     }
 }

@@ -89,6 +89,7 @@ fault_tells_nothing document (edits.remove_image name) fault can_change n h = ab
 fault_tells_nothing document (edits.set_global name d) fault can_change n h = refl
 fault_tells_nothing document edits.list fault can_change n h = refl
 fault_tells_nothing document edits.stats fault can_change n h = refl
+fault_tells_nothing document edits.style fault can_change n h = refl
 
 -- nor does an edit of layers
 pub layers_tell_nothing : (e : Edit) (can_change : Bool) (n : ℕ) → edits_layers e ≡ true → n ≡ tell_count_after can_change e n
@@ -107,6 +108,7 @@ layers_tell_nothing (edits.remove_image name) can_change n h = absurd (cc)
 layers_tell_nothing (edits.set_global name d) can_change n h = refl
 layers_tell_nothing edits.list can_change n h = refl
 layers_tell_nothing edits.stats can_change n h = refl
+layers_tell_nothing edits.style can_change n h = refl
 
 module _ (tiles : List SourceTile) (scripts : List ℕ → Bool) (can_change : Bool) (p : SessionState) where
   layers_applied : (e : Edit) → edits_layers e ≡ true → applied tiles scripts can_change p e ≡ unless_refused (
@@ -127,6 +129,7 @@ module _ (tiles : List SourceTile) (scripts : List ℕ → Bool) (can_change : B
   layers_applied (edits.set_global name d) h = absurd (cc)
   layers_applied edits.list h = absurd (cc)
   layers_applied edits.stats h = absurd (cc)
+  layers_applied edits.style h = absurd (cc)
 
   module _ (e : Edit) (of_layers : edits_layers e ≡ true) (possible : edit_fault p.document e ≡ None)
       (document : Tree) (made : document ≡ edited p.document e) where

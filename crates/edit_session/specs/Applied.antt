@@ -2,6 +2,7 @@
 use Rattle.std.specs.Prelude.{ℕ, List, [], ◌∷◌, Bool, true, false, Option, Some, None, option_map, if◌then◌else◌}
 use Rattle.std.specs.Option.{option_or}
 use Rattle.std.specs.Str.{bytes_eq}
+use Rattle.decimal_json.specs.JsonText.{json_text}
 use Rattle.decimal_json.specs.Tree.{Tree}
 use Rattle.decimal_json.specs.declared.paths.PathPart.{PathPart}
 use Rattle.edit_script.specs.Edit as edits
@@ -123,6 +124,8 @@ pub data Reply : Type 0 where
   listed : List ℕ → Reply
   -- the number of evaluations is asked for
   stats_asked : Reply
+  -- the text of the style as JSON
+  styled : List ℕ → Reply
   refused : Refusal → Reply
 
 -- an edit that is refused changes nothing
@@ -164,4 +167,5 @@ module _ (tiles : List SourceTile) (scripts : List ℕ → Bool) (can_change : B
   abbrev pub applied : SessionState → Edit → SessionState × Reply
   applied p edits.list = (p, listed (listing_of tiles scripts p))
   applied p edits.stats = (p, stats_asked)
+  applied p edits.style = (p, styled (json_text p.document))
   applied p edit = unless_refused (refusal p edit) p (presented_after p edit)

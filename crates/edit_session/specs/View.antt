@@ -12,12 +12,12 @@ use Rattle.style_layout.specs.CodeView.{layers_seen, tile_seen}
 use Rattle.style_layout.specs.Layers.{style_layers}
 use Rattle.style_layout.specs.Shown.{SourceTile}
 use Rattle.style_layout.specs.StyleLayout.{cell_count}
-use Rattle.edit_session.specs.Applied.{Reply, done, listed, stats_asked, refused, whole_refusal, with_image, applied}
+use Rattle.edit_session.specs.Applied.{Reply, done, listed, stats_asked, styled, refused, whole_refusal, with_image, applied}
 use Rattle.edit_session.specs.LayerMarks.{AreMarks}
 use Rattle.edit_session.specs.Opening.{Fault, has_findings, unknown_source, not_vector, too_many_cells, zoom_range}
 use Rattle.edit_session.specs.SessionState.{SessionState}
 use Rattle.edit_session.specs.declared.answer.Answer.{Answer}
-use Rattle.edit_session.specs.declared.answer.Answer.TheVariants.{Done, Listing, Stats, Refused}
+use Rattle.edit_session.specs.declared.answer.Answer.TheVariants.{Done, Listing, Stats, Style, Refused}
 use Rattle.edit_session.specs.declared.answer.Refusal.TheVariants.{FixedImages}
 use Rattle.edit_session.specs.declared.layers.PreparedLayers.{PreparedLayers}
 use Rattle.edit_session.specs.declared.opening.OpenFault.{OpenFault}
@@ -30,6 +30,7 @@ abbrev pub reply_seen : Answer → Reply
 reply_seen Done = done
 reply_seen (Listing text) = listed text.items
 reply_seen Stats = stats_asked
+reply_seen (Style text) = styled text.items
 reply_seen (Refused refusal) = refused refusal
 
 abbrev pub fault_seen : OpenFault → Fault

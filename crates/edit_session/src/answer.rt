@@ -11,6 +11,8 @@ pub enum Answer {
     Listing(Vec<u8>),
     /// The number of evaluations of the last listing was asked for, which is not counted.
     Stats,
+    /// The text of the style as it is then, as JSON.
+    Style(Vec<u8>),
     /// It is refused, and nothing changed.
     Refused(Refusal),
 }

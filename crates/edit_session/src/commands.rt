@@ -1,10 +1,11 @@
 //! What each command does to a session.
 
 ghost use Rattle.std.specs.Prelude.{◌≡◌, ℕ, List, [], Bool, None, true, option_map, IfOk, OnOk, OnErr};
+ghost use Rattle.decimal_json.specs.JsonText.{json_text};
 ghost use Rattle.decimal_json.specs.View.{tree_of};
 ghost use Rattle.edit_script.specs.Edit as edits;
 ghost use Rattle.edit_script.specs.View.{command_seen};
-ghost use Rattle.edit_session.specs.Applied.{edits_layers, listed, listing_of, refusal_of, tell_count_after};
+ghost use Rattle.edit_session.specs.Applied.{edits_layers, listed, listing_of, refusal_of, styled, tell_count_after};
 ghost use Rattle.edit_session.specs.View.{session_state, reply_seen, tiles_of, IsAnswer, IsReady, told};
 ghost use Rattle.host_ops.specs.Change.{IsSameTest, count_after};
 ghost use Rattle.prop_values.specs.Data.{pairs_of};
@@ -18,7 +19,7 @@ use crate::answer::{Answer, Refusal};
 use crate::globals::set_global;
 use crate::session::Session;
 use crate::whole::{finding_refusal, note_types};
-use decimal_json::Text;
+use decimal_json::{Text, write};
 use edit_script::Command;
 use host_ops::{HostOp, TellFault};
 use prop_values::{Entries, Value, copy_entries};
@@ -77,6 +78,7 @@ impl Session<'_> {
         match command {
             Command::List => self.answer_list(images, scripts),
             Command::Stats => Ok(Answer::Stats),
+            Command::Style => self.answer_style(),
             Command::SetZoom(zoom) => {
                 self.zoom = Zoom::new(*zoom);
                 Ok(Answer::Done)
@@ -104,6 +106,14 @@ impl Session<'_> {
         let mut out = Vec::new(self.alloc);
         self.listing(images, scripts, &mut out)?;
         Ok(Answer::Listing(out))
+    }
+
+    fn answer_style(&self) -> Result<Answer, AllocError>
+        ensures { IfOk result (λ answer. reply_seen answer ≡ styled (json_text (tree_of self.now.document))) }
+    {
+        let mut text = Vec::new(self.alloc);
+        write(&self.document, &mut text)?;
+        Ok(Answer::Style(text))
     }
 
     fn set_state(

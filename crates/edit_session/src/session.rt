@@ -113,8 +113,8 @@ impl<'a> Session<'a> {
         }))
     }
 
-    /// Does what a command says, and answers. A refused command changes nothing, and neither do `list` and `stats`. Once
-    /// allocation fails every later call answers so too.
+    /// Does what a command says, and answers. A refused command changes nothing, and neither do `list`, `stats` and
+    /// `style`. Once allocation fails every later call answers so too.
     pub fn apply(
         &mut self,
         command: &Command,

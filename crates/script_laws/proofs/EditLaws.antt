@@ -104,6 +104,7 @@ state_keeps tiles p (edits.set_global name d) asked h none =
     record { findings = h.findings; cells = subst (λ n. n ≤ cell_limit) same h.cells }
 state_keeps tiles p edits.list asked h none = absurd (cc)
 state_keeps tiles p edits.stats asked h none = absurd (cc)
+state_keeps tiles p edits.style asked h none = absurd (cc)
 
 module _ (tiles : List SourceTile) (scripts : List ℕ → Bool) (can_change : Bool) where
   -- ---- edits
@@ -112,6 +113,7 @@ module _ (tiles : List SourceTile) (scripts : List ℕ → Bool) (can_change : B
       applied tiles scripts can_change p e ≡ unless_refused (refusal tiles scripts can_change p e) p (presented_after p e)
   as_edit p edits.list h = absurd (cc)
   as_edit p edits.stats h = absurd (cc)
+  as_edit p edits.style h = absurd (cc)
   as_edit p e h = refl
 
   pub is_accepted : (p : SessionState) (e : Edit) → asks e ≡ false → edit_fault p.document e ≡ None →
@@ -141,6 +143,7 @@ module _ (tiles : List SourceTile) (scripts : List ℕ → Bool) (can_change : B
   applied_keeps : (p : SessionState) (e : Edit) → IsSoundState tiles p → IsSoundState tiles (applied tiles scripts can_change p e).0
   applied_keeps p edits.list h = h
   applied_keeps p edits.stats h = h
+  applied_keeps p edits.style h = h
   applied_keeps p e h = edit_keeps p e refl h
 
   line_keeps : (number : ℕ) (p : SessionState) (l : Line) → IsSoundState tiles p →

@@ -29,6 +29,7 @@ module _ (tiles : List SourceTile) (scripts : List ℕ → Bool) (can_change : B
       (applied tiles scripts can_change p e).0 ≡ p
   edit_stays p edits.list h = refl
   edit_stays p edits.stats h = refl
+  edit_stays p edits.style h = refl
   edit_stays p e h = unless_stays (refusal tiles scripts can_change p e) p (presented_after p e) h
 
   line_stays : (number : ℕ) (p : SessionState) (l : Line) → (line tiles scripts can_change number p l).is_refused ≡ true →

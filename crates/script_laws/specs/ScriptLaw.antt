@@ -7,7 +7,7 @@ use Rattle.decimal_json.specs.Parses.{IsAccepted}
 use Rattle.decimal_json.specs.Tree.{Tree}
 use Rattle.prop_values.specs.Data.{Data}
 use Rattle.edit_script.specs.Command.{command_of}
-use Rattle.edit_script.specs.Edit.{Edit, list, stats, set_global, set_range, remove_layer, move_layer}
+use Rattle.edit_script.specs.Edit.{Edit, list, stats, style, set_global, set_range, remove_layer, move_layer}
 use Rattle.edit_script.specs.declared.command.LineFault.{LineFault}
 use Rattle.edit_script.specs.declared.command.LineFault.TheVariants.{Json}
 use Rattle.style_edits.specs.Edited.{edited}
@@ -56,10 +56,11 @@ pub record HasNamesOnce (document : Tree) : Type 0 where
   pub root : HasDistinctMembers document
   pub layers : AreKeyed (layer_list document)
 
--- one of a listing or of its evaluations asks, and changes nothing
+-- one of a listing, of its evaluations or of the style asks, and changes nothing
 abbrev pub asks : Edit → Bool
 asks list = true
 asks stats = true
+asks style = true
 asks edit = false
 
 -- it removes or moves a layer, or sets its range

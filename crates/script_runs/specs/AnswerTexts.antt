@@ -3,7 +3,7 @@ use Rattle.std.specs.Prelude.{ℕ, List, ◌++◌, codes, decimal, Bool, true, f
 use Rattle.decimal_json.specs.Place.{path_json}
 use Rattle.edit_script.specs.declared.command.LineFault.{LineFault}
 use Rattle.edit_script.specs.declared.command.LineFault.TheVariants.{Json, Form, Number}
-use Rattle.edit_session.specs.Applied.{Reply, done, listed, stats_asked, refused}
+use Rattle.edit_session.specs.Applied.{Reply, done, listed, stats_asked, styled, refused}
 use Rattle.edit_session.specs.declared.answer.Refusal.{Refusal}
 use Rattle.edit_session.specs.declared.answer.Refusal.TheVariants.{UnknownLayer, UnknownBefore, UnknownSource, ZoomRange, UnknownProperty, Finding, CellLimit, FixedImages}
 use Rattle.program_runs.specs.Outcome.{line}
@@ -36,10 +36,12 @@ abbrev pub reply_text : ℕ → Reply → List ℕ
 reply_text number done = ok_line number
 reply_text number (listed text) = text
 reply_text number stats_asked = refused_line number (fault_name Form)
+reply_text number (styled text) = line text
 reply_text number (refused refusal) = refused_line number (refusal_text refusal)
 
 abbrev pub is_refused : Reply → Bool
 is_refused done = false
 is_refused (listed text) = false
 is_refused stats_asked = true
+is_refused (styled text) = false
 is_refused (refused refusal) = true

@@ -2,6 +2,7 @@
 
 ghost use Rattle.std.specs.Prelude.{◌≡◌, ◌++◌, codes, decimal, true, false, IfOk, OnOk};
 ghost use Rattle.edit_session.specs.View.{reply_seen};
+ghost use Rattle.program_runs.specs.Outcome.{line};
 ghost use Rattle.script_runs.specs.AnswerTexts.{fault_name, is_refused, ok_line, refusal_text, refused_line, reply_text};
 
 use crate::script::LineAnswer;
@@ -28,6 +29,7 @@ pub(crate) fn answer_of(
             is_refused: false,
         }),
         Answer::Stats => fault_answer(alloc, number, LineFault::Form),
+        Answer::Style(text) => style_answer(text),
         Answer::Refused(refusal) => refused_answer(alloc, number, &refusal),
     }
 }
@@ -62,6 +64,18 @@ fn refused_answer(alloc: Global, number: usize, refusal: &Refusal) -> Result<Lin
     Ok(LineAnswer {
         text,
         is_refused: true,
+    })
+}
+
+fn style_answer(text: Vec<u8>) -> Result<LineAnswer, AllocError>
+    ensures text { IfOk result (λ answer. answer.text.items ≡ line text.items) }
+    ensures refused { IfOk result (λ answer. answer.is_refused ≡ false) }
+{
+    let mut line = text;
+    line.push(b'\n')?;
+    Ok(LineAnswer {
+        text: line,
+        is_refused: false,
     })
 }
 

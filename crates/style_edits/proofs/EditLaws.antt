@@ -5,7 +5,7 @@ use Rattle.std.specs.Bool.{then_some}
 use Rattle.std.specs.List.{list_all}
 use Rattle.std.specs.Option.{option_and_then}
 use Rattle.decimal_json.specs.Tree.{Tree}
-use Rattle.edit_script.specs.Edit.{Edit, set_paint, set_layout, set_filter, set_range, add_layer, remove_layer, move_layer, set_zoom, set_state, remove_state, add_image, remove_image, set_global, list, stats}
+use Rattle.edit_script.specs.Edit.{Edit, set_paint, set_layout, set_filter, set_range, add_layer, remove_layer, move_layer, set_zoom, set_state, remove_state, add_image, remove_image, set_global, list, stats, style}
 use Rattle.style_edits.specs.ByPlace.{layer_at, changed_at, removed_at, inserted_at, moved_at, edited_at, is_missing, unsets_nothing_at, fault_at}
 use Rattle.style_edits.specs.Places.{layer_place, places_in, places_of}
 use Rattle.style_edits.specs.Causes.{first_cause}
@@ -41,6 +41,7 @@ edited_by_place (remove_image name) ts = refl
 edited_by_place (set_global name value) ts = refl
 edited_by_place list ts = refl
 edited_by_place stats ts = refl
+edited_by_place style ts = refl
 
 -- ---- the fault of an edit
 
@@ -80,6 +81,7 @@ unsets_is (remove_image name) ts = refl
 unsets_is (set_global name value) ts = refl
 unsets_is list ts = refl
 unsets_is stats ts = refl
+unsets_is style ts = refl
 
 pub fault_by_place : (document : Tree) (edit : Edit) → edit_fault document edit ≡ fault_at document edit (places_of document edit)
 fault_by_place document edit = λ i. first_cause (
