@@ -35,29 +35,32 @@ no_finding : (fs : List (List PathPart × ℕ)) (limit : Option Refusal) → opt
 no_finding [] limit h = refl
 no_finding (f ∷ fs) limit h = absurd (cc)
 
-pub accepted_is_sound : (tiles : List SourceTile) (globals : List (List ℕ × Data)) (document : Tree) → whole_refusal tiles globals document ≡ None →
-    findings document ≡ []
-accepted_is_sound tiles globals document h = no_finding (findings document) (limit_refusal (cell_count tiles (style_layers globals document))) h
+pub accepted_is_sound : (limit : ℕ) (tiles : List SourceTile) (globals : List (List ℕ × Data)) (document : Tree)
+    → whole_refusal limit tiles globals document ≡ None → findings document ≡ []
+accepted_is_sound limit tiles globals document h =
+    no_finding (findings document) (limit_refusal limit (cell_count tiles (style_layers globals document))) h
 
 -- one without findings is refused by its cells alone
-pub whole_by_cells : (tiles : List SourceTile) (globals : List (List ℕ × Data)) (document : Tree) → findings document ≡ [] →
-    whole_refusal tiles globals document ≡ limit_refusal (cell_count tiles (style_layers globals document))
-whole_by_cells tiles globals document h = λ i. option_or (first_finding (h i)) (limit_refusal (cell_count tiles (style_layers globals document)))
+pub whole_by_cells : (limit : ℕ) (tiles : List SourceTile) (globals : List (List ℕ × Data)) (document : Tree) → findings document ≡ []
+    → whole_refusal limit tiles globals document ≡ limit_refusal limit (cell_count tiles (style_layers globals document))
+whole_by_cells limit tiles globals document h =
+    λ i. option_or (first_finding (h i)) (limit_refusal limit (cell_count tiles (style_layers globals document)))
 
 -- one with a finding by that
-pub whole_by_finding : (tiles : List SourceTile) (globals : List (List ℕ × Data)) (document : Tree) (r : Refusal) → Some r ≡ first_finding (findings document) →
-    whole_refusal tiles globals document ≡ Some r
-whole_by_finding tiles globals document r h = λ i. option_or (sym h i) (limit_refusal (cell_count tiles (style_layers globals document)))
+pub whole_by_finding : (limit : ℕ) (tiles : List SourceTile) (globals : List (List ℕ × Data)) (document : Tree) (r : Refusal)
+    → Some r ≡ first_finding (findings document) → whole_refusal limit tiles globals document ≡ Some r
+whole_by_finding limit tiles globals document r h =
+    λ i. option_or (sym h i) (limit_refusal limit (cell_count tiles (style_layers globals document)))
 
 pub found_nothing : (fs : List (List PathPart × ℕ)) → None ≡ first_finding fs → fs ≡ []
 found_nothing [] h = refl
 found_nothing (f ∷ fs) h = absurd (cc)
 
 -- a whole document stays one with other values of the global state
-pub whole_with : (tiles : List SourceTile) (document : Tree) (new old : List (List ℕ × Data)) → whole_refusal tiles old document ≡ None
-    → whole_refusal tiles new document ≡ None
-whole_with tiles document new old h =
-    (λ i. option_or (first_finding (findings document)) (limit_refusal (values_change_no_cell tiles document new old i))) ∙ h
+pub whole_with : (limit : ℕ) (tiles : List SourceTile) (document : Tree) (new old : List (List ℕ × Data))
+    → whole_refusal limit tiles old document ≡ None → whole_refusal limit tiles new document ≡ None
+whole_with limit tiles document new old h =
+    (λ i. option_or (first_finding (findings document)) (limit_refusal limit (values_change_no_cell tiles document new old i))) ∙ h
 
 -- no cause holds
 accepted : (fault : Option EditFault) (whole : Option Refusal) (before after : SessionState) → fault ≡ None → whole ≡ None
@@ -112,7 +115,7 @@ layers_tell_nothing edits.style can_change n h = refl
 
 module _ (tiles : List SourceTile) (scripts : List ℕ → Bool) (can_change : Bool) (p : SessionState) where
   layers_applied : (e : Edit) → edits_layers e ≡ true → applied tiles scripts can_change p e ≡ unless_refused (
-      option_or (option_map refusal_of (edit_fault p.document e)) (option_or (whole_refusal tiles p.globals (edited p.document e)) None))
+      option_or (option_map refusal_of (edit_fault p.document e)) (option_or (whole_refusal p.limit tiles p.globals (edited p.document e)) None))
       p (record p { document = edited p.document e })
   layers_applied (edits.set_paint layer name value) h = refl
   layers_applied (edits.set_layout layer name value) h = refl
@@ -134,18 +137,18 @@ module _ (tiles : List SourceTile) (scripts : List ℕ → Bool) (can_change : B
   module _ (e : Edit) (of_layers : edits_layers e ≡ true) (possible : edit_fault p.document e ≡ None)
       (document : Tree) (made : document ≡ edited p.document e) where
     -- an edit of layers is accepted
-    pub layers_accepted : whole_refusal tiles p.globals document ≡ None
+    pub layers_accepted : whole_refusal p.limit tiles p.globals document ≡ None
         → (record p { document = document }, done) ≡ applied tiles scripts can_change p e
     layers_accepted w =
         (λ k. (record p { document = made k }, done))
-        ∙ (accepted _ _ p _ possible (ap (whole_refusal tiles p.globals) (sym made) ∙ w) ∙ sym (layers_applied e of_layers))
+        ∙ (accepted _ _ p _ possible (ap (whole_refusal p.limit tiles p.globals) (sym made) ∙ w) ∙ sym (layers_applied e of_layers))
 
     -- it is refused, and taken back
-    pub layers_refused : (r : Refusal) (left : Tree) → whole_refusal tiles p.globals document ≡ Some r → left ≡ p.document
+    pub layers_refused : (r : Refusal) (left : Tree) → whole_refusal p.limit tiles p.globals document ≡ Some r → left ≡ p.document
         → (record p { document = left }, refused r) ≡ applied tiles scripts can_change p e
     layers_refused r left w back =
         (λ k. (record p { document = back k }, refused r))
-        ∙ (refused_by _ _ r p _ possible (ap (whole_refusal tiles p.globals) (sym made) ∙ w) ∙ sym (layers_applied e of_layers))
+        ∙ (refused_by _ _ r p _ possible (ap (whole_refusal p.limit tiles p.globals) (sym made) ∙ w) ∙ sym (layers_applied e of_layers))
 
   -- members are set in the state of a feature
   pub state_set : (source layer s l : List ℕ) (id : ℕ) (members given : List (List ℕ × Data)) (states : FeatureStates)

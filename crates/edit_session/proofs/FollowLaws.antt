@@ -1,5 +1,5 @@
 -- Documents whose layers are prepared one by one.
-use Rattle.std.proofs.Common.{◌≡◌, ◌∙◌, ℕ, List, [], map, refl, ap, sym, subst, Bool, true, false, Option, Some, None}
+use Rattle.std.proofs.Common.{◌≡◌, ◌∙◌, ◌≤◌, ℕ, List, [], map, refl, ap, sym, subst, Bool, true, false, Option, Some, None}
 use Rattle.std.specs.Prelude.{codes, if◌then◌else◌}
 use Rattle.decimal_json.specs.Accessors.{member}
 use Rattle.decimal_json.specs.Tree.{Tree, list, trees_of}
@@ -23,7 +23,7 @@ use Rattle.style_rules.specs.Levels.{HasDistinctMembers}
 use Rattle.edit_session.proofs.AppliedLaws.{whole_by_cells}
 use Rattle.edit_session.proofs.LayerLists.{all_prepared}
 use Rattle.edit_session.specs.Applied.{limit_refusal, whole_refusal}
-use Rattle.edit_session.specs.Opening.{within_limit}
+use Rattle.edit_session.specs.Opening.{cell_limit, within_limit}
 use Rattle.edit_session.specs.PreparedLayers.{AreTyped, ArePrepared, Follows, prepared_layers}
 use Rattle.edit_session.specs.View.{IsWholeDocument, reads_globals}
 use Rattle.edit_session.specs.declared.answer.Refusal.{Refusal}
@@ -60,39 +60,42 @@ module _ (tiles : List SourceTile) (globals : List (List ℕ × Data)) where
       }
 
   -- a count within the limit is not refused
-  unlimited : (count : ℕ) → within_limit count ≡ true → limit_refusal count ≡ None
-  unlimited count h = ap (λ b. if b then None else Some CellLimit) h
+  unlimited : (limit count : ℕ) → within_limit limit count ≡ true → limit_refusal limit count ≡ None
+  unlimited limit count h = ap (λ b. if b then None else Some CellLimit) h
 
-  limited : (count : ℕ) → within_limit count ≡ false → limit_refusal count ≡ Some CellLimit
-  limited count h = ap (λ b. if b then None else Some CellLimit) h
+  limited : (limit count : ℕ) → within_limit limit count ≡ false → limit_refusal limit count ≡ Some CellLimit
+  limited limit count h = ap (λ b. if b then None else Some CellLimit) h
 
-  within : (count : ℕ) (b : Bool) → within_limit count ≡ b → limit_refusal count ≡ None → within_limit count ≡ true
-  within count true is h = is
-  within count false is h = absurd (let e = sym (limited count is) ∙ h in cc)
+  within : (limit count : ℕ) (b : Bool) → within_limit limit count ≡ b → limit_refusal limit count ≡ None → within_limit limit count ≡ true
+  within limit count true is h = is
+  within limit count false is h = absurd (let e = sym (limited limit count is) ∙ h in cc)
 
-  pub few_cells : (d : Tree) (p : PreparedLayers) → IsWholeDocument tiles globals d p → findings d ≡ [] → within_limit p.cells ≡ true
+  pub few_cells : (d : Tree) (p : PreparedLayers) → IsWholeDocument tiles globals d p → findings d ≡ [] → within_limit p.limit p.cells ≡ true
   few_cells d p whole none =
       let count = cell_count tiles (style_layers globals d) in
-      ap within_limit whole.is_counted
-      ∙ within count (within_limit count) refl (sym (whole_by_cells tiles globals d none) ∙ whole.is_accepted)
+      ap (within_limit p.limit) whole.is_counted
+      ∙ within p.limit count (within_limit p.limit count) refl (sym (whole_by_cells p.limit tiles globals d none) ∙ whole.is_accepted)
 
-  module _ (d : Tree) (none : findings d ≡ []) (typed : AreTyped (layer_list d)) (us : List Tree) (is : us ≡ layer_list d) where
+  module _ (limit : ℕ) (d : Tree) (none : findings d ≡ []) (typed : AreTyped (layer_list d)) (us : List Tree) (is : us ≡ layer_list d) where
     same_layers : style_layers globals d ≡ prepared_layers globals us
     same_layers = style_is d typed ∙ ap (prepared_layers globals) (sym is)
 
-    same_limit : (b : Bool) → b ≡ within_limit (cell_count tiles (prepared_layers globals us)) → within_limit (cell_count tiles (style_layers globals d)) ≡ b
-    same_limit b h = ap (λ ls. within_limit (cell_count tiles ls)) same_layers ∙ sym h
+    same_limit : (b : Bool) → b ≡ within_limit limit (cell_count tiles (prepared_layers globals us))
+        → within_limit limit (cell_count tiles (style_layers globals d)) ≡ b
+    same_limit b h = ap (λ ls. within_limit limit (cell_count tiles ls)) same_layers ∙ sym h
 
-    pub not_refused : true ≡ within_limit (cell_count tiles (prepared_layers globals us)) → whole_refusal tiles globals d ≡ None
-    not_refused h = whole_by_cells tiles globals d none ∙ unlimited _ (same_limit true h)
+    pub not_refused : true ≡ within_limit limit (cell_count tiles (prepared_layers globals us)) → whole_refusal limit tiles globals d ≡ None
+    not_refused h = whole_by_cells limit tiles globals d none ∙ unlimited limit _ (same_limit true h)
 
-    pub is_refused : false ≡ within_limit (cell_count tiles (prepared_layers globals us)) → whole_refusal tiles globals d ≡ Some CellLimit
-    is_refused h = whole_by_cells tiles globals d none ∙ limited _ (same_limit false h)
+    pub is_refused : false ≡ within_limit limit (cell_count tiles (prepared_layers globals us))
+        → whole_refusal limit tiles globals d ≡ Some CellLimit
+    is_refused h = whole_by_cells limit tiles globals d none ∙ limited limit _ (same_limit false h)
 
-    pub is_whole : (p : PreparedLayers) → true ≡ within_limit (cell_count tiles (prepared_layers globals us)) → ArePrepared tiles globals us p
-        → IsWholeDocument tiles globals d p
-    is_whole p h prepared = record {
-      is_accepted = not_refused h;
+    pub is_whole : (p : PreparedLayers) → p.limit ≡ limit → limit ≤ cell_limit → true ≡ within_limit limit (cell_count tiles (prepared_layers globals us))
+        → ArePrepared tiles globals us p → IsWholeDocument tiles globals d p
+    is_whole p same few h prepared = record {
+      is_limited = subst (λ n. n ≤ cell_limit) (sym same) few;
+      is_accepted = ap (λ n. whole_refusal n tiles globals d) same ∙ not_refused h;
       is_prepared = prepared.layers ∙ sym same_layers;
       is_counted = prepared.counted ∙ ap (cell_count tiles) (sym same_layers);
       is_noted = λ off. ap items_name_globals (sym (ap trees_of is ∙ elements_back (layers_of d))) ∙ prepared.noted off;

@@ -6,3 +6,4 @@ pub mod LayerLists
 pub mod FollowLaws
 pub mod FollowSteps
 pub mod MarkLaws
+pub mod ViewLaws

@@ -102,8 +102,8 @@ abbrev pub first_finding : List (List PathPart × ℕ) → Option Refusal
 first_finding [] = None
 first_finding (f ∷ fs) = Some (Finding (record { path = f.0; rule = f.1 }))
 
-abbrev pub limit_refusal : ℕ → Option Refusal
-limit_refusal count = if within_limit count then None else Some CellLimit
+abbrev pub limit_refusal : (limit count : ℕ) → Option Refusal
+limit_refusal limit count = if within_limit limit count then None else Some CellLimit
 
 -- images are reported to a test that cannot change
 abbrev pub images_refusal : Bool → Edit → Option Refusal
@@ -133,10 +133,10 @@ abbrev pub unless_refused : Option Refusal → SessionState → SessionState →
 unless_refused None before after = (after, done)
 unless_refused (Some refusal) before after = (before, refused refusal)
 
--- a whole document over tiles breaks a rule, or has too many cells by the values of the global state
-abbrev pub whole_refusal : List SourceTile → List (List ℕ × Data) → Tree → Option Refusal
-whole_refusal tiles globals document =
-    option_or (first_finding (findings document)) (limit_refusal (cell_count tiles (style_layers globals document)))
+-- a whole document over tiles breaks a rule, or has more cells than it may by the values of the global state
+abbrev pub whole_refusal : (limit : ℕ) → List SourceTile → List (List ℕ × Data) → Tree → Option Refusal
+whole_refusal limit tiles globals document =
+    option_or (first_finding (findings document)) (limit_refusal limit (cell_count tiles (style_layers globals document)))
 
 -- an edit of the layers of a document, which makes another document
 abbrev pub edits_layers : Edit → Bool
@@ -152,7 +152,8 @@ edits_layers _ = false
 -- The document that an edit makes is refused. Every other edit leaves the document, and as many cells as there were:
 -- so no value of the global state is refused.
 abbrev pub document_refusal : List SourceTile → SessionState → Edit → Option Refusal
-document_refusal tiles p edit = if edits_layers edit then whole_refusal tiles p.globals (edited p.document edit) else None
+document_refusal tiles p edit =
+    if edits_layers edit then whole_refusal p.limit tiles p.globals (edited p.document edit) else None
 
 -- over tiles, with the test on texts that can be shown; `can_change` says whether the test of images can change
 module _ (tiles : List SourceTile) (scripts : List ℕ → Bool) (can_change : Bool) where

@@ -29,12 +29,12 @@ first_failing test (t ∷ ts) = if test t.0 then first_failing test ts else Some
 
 -- ---- cells
 
--- The most cells that a style may have over the tiles of a session. Source: own.
+-- The most cells that a style may have over the tiles of a session that is alone. Source: own.
 abbrev pub cell_limit : ℕ
 cell_limit = 8000000
 
-abbrev pub within_limit : ℕ → Bool
-within_limit count = nat_le count cell_limit
+abbrev pub within_limit : (limit count : ℕ) → Bool
+within_limit limit count = nat_le count limit
 
 -- ---- the fault
 
@@ -48,15 +48,15 @@ pub data Fault : Type 0 where
   too_many_cells : ℕ → Fault
   zoom_range : Fault
 
-abbrev pub cells_fault : ℕ → Option Fault
-cells_fault count = if within_limit count then None else Some (too_many_cells (min count (2 ^ 128 - 1)))
+abbrev pub cells_fault : (limit count : ℕ) → Option Fault
+cells_fault limit count = if within_limit limit count then None else Some (too_many_cells (min count (2 ^ 128 - 1)))
 
--- the fault of a document without findings
-abbrev pub tiles_fault : Tree → List SourceTile → ℤ → Option Fault
-tiles_fault document tiles zoom = first_cause (
+-- the fault of a document without findings, which may have so many cells
+abbrev pub tiles_fault : (limit : ℕ) → Tree → List SourceTile → ℤ → Option Fault
+tiles_fault limit document tiles zoom = first_cause (
     option_map unknown_source (first_failing (has_source document) tiles) ∷
     option_map not_vector (first_failing (is_vector document) tiles) ∷
-    cells_fault (cell_count tiles (style_layers (globals_of document) document)) ∷
+    cells_fault limit (cell_count tiles (style_layers (globals_of document) document)) ∷
     then_some (not (is_zoom (Some zoom))) zoom_range ∷ [])
 
 abbrev pub findings_fault : List (List PathPart × ℕ) → Option Fault
@@ -64,5 +64,5 @@ findings_fault [] = None
 findings_fault (f ∷ fs) = Some has_findings
 
 -- The fault of an opening, or none. Source: own.
-abbrev pub open_fault : Tree → List SourceTile → ℤ → Option Fault
-open_fault document tiles zoom = option_or (findings_fault (findings document)) (tiles_fault document tiles zoom)
+abbrev pub open_fault : (limit : ℕ) → Tree → List SourceTile → ℤ → Option Fault
+open_fault limit document tiles zoom = option_or (findings_fault (findings document)) (tiles_fault limit document tiles zoom)

@@ -34,14 +34,16 @@ pub record ArePrepared (tiles : List SourceTile) (globals : List (List ℕ × Da
 
 -- Where these layers have not too many cells, they are what is prepared; else nothing changes.
 pub record Follows (tiles : List SourceTile) (globals : List (List ℕ × Data)) (ts : List Tree) (is_done : Bool) (old new : PreparedLayers) : Type 0 where
-  pub limit : is_done ≡ within_limit (cell_count tiles (prepared_layers globals ts))
+  pub limit : is_done ≡ within_limit old.limit (cell_count tiles (prepared_layers globals ts))
+  pub same_limit : new.limit ≡ old.limit
   pub prepared : is_done ≡ true → ArePrepared tiles globals ts new
   pub stays : is_done ≡ false → new ≡ old
 
 -- One layer more or another: where the layers have not too many cells they are these, with a note whether the new one reads
 -- the global state; else nothing changes.
 pub record Becomes (tiles : List SourceTile) (ls : List StyleLayer) (reads : Bool) (is_done : Bool) (old new : PreparedLayers) : Type 0 where
-  pub limit : is_done ≡ within_limit (cell_count tiles ls)
+  pub limit : is_done ≡ within_limit old.limit (cell_count tiles ls)
+  pub same_limit : new.limit ≡ old.limit
   pub layers : is_done ≡ true → layers_seen new.style ≡ ls
   pub counted : is_done ≡ true → new.cells ≡ cell_count tiles ls
   pub noted : is_done ≡ true → new.reads_globals ≡ (old.reads_globals || reads)

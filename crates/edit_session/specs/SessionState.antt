@@ -16,15 +16,19 @@ pub record SessionState : Type 0 where
   pub has_image : List ℕ → Bool
   -- the values of the global state, by their names
   pub globals : List (List ℕ × Data)
+  -- the most cells that the document may have
+  pub limit : ℕ
 
--- A document before the first edit: no feature has a state, and the global state has its defaults. Source: own.
-abbrev pub opened : Tree → ℤ → (List ℕ → Bool) → SessionState
-opened document zoom has_image = record {
+-- A document before the first edit, which may have so many cells: no feature has a state, and the global state has its
+-- defaults. Source: own.
+abbrev pub opened : (limit : ℕ) → Tree → ℤ → (List ℕ → Bool) → SessionState
+opened limit document zoom has_image = record {
   document = document;
   zoom = zoom;
   states = λ source layer id. [];
   has_image = has_image;
   globals = globals_of document;
+  limit = limit;
 }
 
 -- what all layers see, with the test on texts that can be shown

@@ -1,5 +1,5 @@
 -- What the program's values are to a clause.
-use Rattle.std.specs.Prelude.{◌≡◌, ℕ, List, map, Bool, false, None, if◌then◌else◌}
+use Rattle.std.specs.Prelude.{◌≡◌, ◌≤◌, ℕ, List, map, Bool, false, None, if◌then◌else◌}
 use Rattle.decimal_json.specs.Tree.{Tree}
 use Rattle.decimal_json.specs.View.{tree_of}
 use Rattle.edit_script.specs.Edit.{Edit}
@@ -14,7 +14,7 @@ use Rattle.style_layout.specs.Shown.{SourceTile}
 use Rattle.style_layout.specs.StyleLayout.{cell_count}
 use Rattle.edit_session.specs.Applied.{Reply, done, listed, stats_asked, styled, refused, whole_refusal, with_image, applied}
 use Rattle.edit_session.specs.LayerMarks.{AreMarks}
-use Rattle.edit_session.specs.Opening.{Fault, has_findings, unknown_source, not_vector, too_many_cells, zoom_range}
+use Rattle.edit_session.specs.Opening.{cell_limit, Fault, has_findings, unknown_source, not_vector, too_many_cells, zoom_range}
 use Rattle.edit_session.specs.SessionState.{SessionState}
 use Rattle.edit_session.specs.declared.answer.Answer.{Answer}
 use Rattle.edit_session.specs.declared.answer.Answer.TheVariants.{Done, Listing, Stats, Style, Refused}
@@ -23,6 +23,7 @@ use Rattle.edit_session.specs.declared.layers.PreparedLayers.{PreparedLayers}
 use Rattle.edit_session.specs.declared.opening.OpenFault.{OpenFault}
 use Rattle.edit_session.specs.declared.opening.OpenFault.TheVariants.{Findings, UnknownSource, NotVector, CellLimit, ZoomRange}
 use Rattle.edit_session.specs.declared.session.Session.{Session}
+use Rattle.edit_session.specs.declared.view.View.{View}
 
 -- ---- answers
 
@@ -50,7 +51,18 @@ session_state session has_image = record {
   states = members_at session.states;
   has_image = has_image;
   globals = session.globals;
+  limit = session.layers.limit;
 }
+
+-- what it represents through a view, whose zoom and states stand in the place of its own
+abbrev pub state_in : Session → View → (List ℕ → Bool) → SessionState
+state_in session view has_image =
+    record (session_state session has_image) { zoom = view.zoom; states = members_at view.states }
+
+-- the zoom and the states of its own stay
+pub record HasOwnView (old new : Session) : Type 0 where
+  pub zoom : new.zoom ≡ old.zoom
+  pub states : new.states ≡ old.states
 
 -- the tiles that it was opened over
 abbrev pub tiles_of : Session → List SourceTile
@@ -64,9 +76,11 @@ lacks_memory session = session.lacks_memory
 abbrev pub reads_globals : Tree → Bool
 reads_globals document = items_name_globals (layers_of document)
 
--- a document over tiles that breaks no rule and is within the limit of cells, with its layers, their cells, and whether they read the global state
+-- a document over tiles that breaks no rule and is within its limit of cells, with its layers, their cells, and whether they read the
+-- global state
 pub record IsWholeDocument (tiles : List SourceTile) (globals : List (List ℕ × Data)) (document : Tree) (layers : PreparedLayers) : Type 0 where
-  pub is_accepted : whole_refusal tiles globals document ≡ None
+  pub is_limited : layers.limit ≤ cell_limit
+  pub is_accepted : whole_refusal layers.limit tiles globals document ≡ None
   pub is_prepared : layers_seen layers.style ≡ style_layers globals document
   pub is_counted : layers.cells ≡ cell_count tiles (style_layers globals document)
   pub is_noted : layers.reads_globals ≡ false → reads_globals document ≡ false

@@ -30,20 +30,24 @@ pub struct PreparedLayers {
     pub(crate) cells: u128,
     /// Whether a text in them may be `global-state`. Where none is, no value of them reads the global state.
     pub(crate) reads_globals: bool,
+    /// The most cells that they may have.
+    pub(crate) limit: u64,
 }
 
 impl PreparedLayers {
-    /// Those of a document.
+    /// Those of a document, which may have so many cells.
     pub(crate) fn of(
         alloc: Global,
         document: &Json,
         globals: &Entries,
         tiles: &[SourceTile<'_>],
+        limit: u64,
     ) -> Result<PreparedLayers, AllocError>
         ensures style { IfOk result (λ made. layers_seen made.style ≡ style_layers globals.now (tree_of document.now)) }
         ensures cells { IfOk result (λ made. made.cells
             ≡ min (cell_count (map tile_seen tiles.now) (style_layers globals.now (tree_of document.now))) (2 ^ 128 - 1)) }
         ensures reads { IfOk result (λ made. made.reads_globals ≡ reads_globals (tree_of document.now)) }
+        ensures limit { IfOk result (λ made. made.limit ≡ limit) }
     {
         let style = prepare(alloc, document, globals)?;
         let cells = cell_count(&style, tiles);
@@ -51,6 +55,7 @@ impl PreparedLayers {
             style,
             cells,
             reads_globals: reads_globals(document),
+            limit,
         })
     }
 
@@ -71,7 +76,7 @@ impl PreparedLayers {
         tiles: &[SourceTile<'_>],
     ) -> Result<bool, AllocError>
         requires before { ArePrepared (map tile_seen tiles.now) globals.now (undone_layers undo.now (items_view layers.now)) self.old }
-        requires few { within_limit self.old.cells ≡ true }
+        requires few { within_limit self.old.limit self.old.cells ≡ true }
         requires within { IsWithin undo.now (items_view layers.now) }
         requires typed { AreTyped (items_view layers.now) }
         ensures { IfOk result (λ is_done.
@@ -109,7 +114,7 @@ impl PreparedLayers {
     {
         let prepared = prepared_layer(alloc, globals, layer)?;
         let cells = self.cells_with(place, &prepared, tiles);
-        if !is_within_limit(cells) {
+        if !is_within_limit(self.limit, cells) {
             return Ok(false);
         }
         let reads = names_globals(layer);
@@ -147,7 +152,7 @@ impl PreparedLayers {
     {
         let prepared = prepared_layer(alloc, globals, layer)?;
         let cells = self.cells_and(place, &prepared, tiles);
-        if !is_within_limit(cells) {
+        if !is_within_limit(self.limit, cells) {
             return Ok(false);
         }
         let reads = names_globals(layer);
@@ -180,6 +185,7 @@ impl PreparedLayers {
         ensures layers { layers_seen self.new.style ≡ remove (layers_seen self.old.style) place }
         ensures cells { self.new.cells ≡ cell_count (map tile_seen tiles.now) (remove (layers_seen self.old.style) place) }
         ensures reads { self.new.reads_globals ≡ self.old.reads_globals }
+        ensures limit { self.new.limit ≡ self.old.limit }
     {
         let cells = layer_cells(self.style.layer(place), tiles);
         self.cells -= cells;

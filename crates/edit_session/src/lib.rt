@@ -6,8 +6,8 @@
 //! session.listing(images, scripts, &mut out)?               // appends the text that `apply` answers to `list`
 //! ```
 //!
-//! What is promised: `session_state` says what a session represents: a document, a zoom, states of features, images and values of the
-//! global state. `open` gives a session that represents the style before any edit (`opened`), or exactly the first cause why it cannot
+//! What is promised: `session_state` says what a session represents: a document, a zoom, states of features, images, values of the
+//! global state, and the most cells that the document may have. `open` gives a session that represents the style before any edit (`opened`), or exactly the first cause why it cannot
 //! (`open_fault`). `apply` answers by `applied`: a command is refused by the first cause that holds, and then nothing changes; else the
 //! session represents what is after the edit; a listing is that of the full layout of the document as it then is, and `listing` appends
 //! it. `set-global` is never refused. `add-image` and `remove-image` report to the test of images once, and nothing else does
@@ -29,8 +29,10 @@ mod layer_marks;
 mod layers;
 mod opening;
 mod session;
+mod view;
 mod whole;
 
 pub use answer::{Answer, Refusal};
 pub use opening::{CELL_LIMIT, OpenFault};
 pub use session::Session;
+pub use view::View;

@@ -25,8 +25,8 @@ pub enum OpenFault<'a> {
     ZoomRange,
 }
 
-/// The most cells that a style may have over the tiles of a session.
-pub const CELL_LIMIT: u128 = 8_000_000;
+/// The most cells that a style may have over the tiles of a session that is alone.
+pub const CELL_LIMIT: u64 = 8_000_000;
 
 pub(crate) fn first_unknown<'a>(style: &Json, tiles: &[SourceTile<'a>]) -> Option<&'a str>
     ensures { option_map (λ source. source.now) result ≡ first_failing (has_source (tree_of style.now)) (map tile_seen tiles.now) }
@@ -62,12 +62,12 @@ fn is_vector(style: &Json, name: &str) -> bool
     }
 }
 
-/// Whether so many cells, counted up to `u128::MAX`, are no more than a session may have.
+/// Whether so many cells, counted up to `u128::MAX`, are no more than this limit.
 #[tactic(auto, using(crate::proofs::CountLaws::limit_at, crate::proofs::CountLaws::exact_within))]
-pub(crate) fn is_within_limit(cells: u128) -> bool
-    ensures within { result ≡ within_limit cells }
-    ensures limit { (count : ℕ) → cells ≡ min count (2 ^ 128 - 1) → result ≡ within_limit count }
+pub(crate) fn is_within_limit(limit: u64, cells: u128) -> bool
+    ensures within { result ≡ within_limit limit cells }
+    ensures limit { (count : ℕ) → cells ≡ min count (2 ^ 128 - 1) → result ≡ within_limit limit count }
     ensures exact { (count : ℕ) → cells ≡ min count (2 ^ 128 - 1) → result ≡ true → cells ≡ count }
 {
-    cells <= CELL_LIMIT
+    cells <= limit as u128
 }

@@ -27,15 +27,15 @@ sources_kept document =
     ∙ map_kept (migrated_part (codes "sources")) (member (codes "sources") document) (λ t. refl)
 
 pub styles_open_alike : MigratedDocumentsHaveAsManyCells → MigratedDocumentsGiveTheSameGlobals → SoundDocumentsStaySound → MigratedStylesOpenAlike
-styles_open_alike as_many globals stays document distinct none tiles zoom =
+styles_open_alike as_many globals stays document distinct none limit tiles zoom =
     let sources = sources_kept document in
     let cells : cell_count tiles (style_layers (globals_of (migrated document)) (migrated document)) ≡ cell_count tiles (style_layers (globals_of document) document) =
     ap (λ gs. cell_count tiles (style_layers gs (migrated document))) (globals document) ∙ as_many tiles (globals_of document) document in
-    let same : tiles_fault (migrated document) tiles zoom ≡ tiles_fault document tiles zoom =
+    let same : tiles_fault limit (migrated document) tiles zoom ≡ tiles_fault limit document tiles zoom =
     λ i. first_cause (
     option_map unknown_source (first_failing (λ name. is_some (option_and_then (member name) (sources i))) tiles) ∷
     option_map not_vector (first_failing (λ name. is_among (codes "vector" ∷ []) (option_and_then (text_at (codes "type")) (option_and_then (member name) (sources i)))) tiles) ∷
-    cells_fault (cells i) ∷
+    cells_fault limit (cells i) ∷
     then_some (not (is_zoom (Some zoom))) zoom_range ∷ []) in
     let found = stays document distinct none ∙ sym none in
     λ i. option_or (findings_fault (found i)) (same i)

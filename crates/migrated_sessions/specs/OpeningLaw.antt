@@ -20,12 +20,12 @@ MigratedDocumentsHaveAsManyCells =
     cell_count tiles (style_layers globals (migrated document)) ≡ cell_count tiles (style_layers globals document)
 
 -- Each document without findings opens after it was migrated where it opened before, and else has the same
--- fault: over all tiles, with the same sources and as many cells, and at every zoom.
+-- fault: with any limit of cells, over all tiles, with the same sources and as many cells, and at every zoom.
 abbrev pub MigratedStylesOpenAlike : Type 0
 MigratedStylesOpenAlike =
     (document : Tree) → HasDistinctMembers document → HasNoFinding document →
-    (tiles : List SourceTile) (zoom : ℤ) →
-    open_fault (migrated document) tiles zoom ≡ open_fault document tiles zoom
+    (limit : ℕ) (tiles : List SourceTile) (zoom : ℤ) →
+    open_fault limit (migrated document) tiles zoom ≡ open_fault limit document tiles zoom
 
 -- Each session over a migrated document has the listing that it has over the document.
 abbrev pub MigratedStylesAreListedAlike : Type 0

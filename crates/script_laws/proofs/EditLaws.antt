@@ -18,7 +18,7 @@ use Rattle.style_layout.specs.Shown.{SourceTile}
 use Rattle.style_layout.specs.StyleLayout.{cell_count}
 use Rattle.style_rules.specs.Findings.{findings}
 use Rattle.edit_session.specs.Applied.{done, refused, presented_after, first_finding, limit_refusal, images_refusal, refusal_of, unless_refused, whole_refusal, document_refusal, refusal, applied, with_global}
-use Rattle.edit_session.specs.Opening.{cell_limit, within_limit}
+use Rattle.edit_session.specs.Opening.{within_limit}
 use Rattle.edit_session.specs.SessionState.{SessionState}
 use Rattle.edit_session.specs.declared.answer.Refusal.{Refusal}
 use Rattle.edit_session.specs.declared.answer.Refusal.TheVariants.{CellLimit}
@@ -58,19 +58,19 @@ few : (b : Bool) → (if b then None else Some CellLimit) ≡ None → b ≡ tru
 few true h = refl
 few false h = absurd (cc)
 
-accepted_keeps : (tiles : List SourceTile) (p : SessionState) → whole_refusal tiles p.globals p.document ≡ None → IsSoundState tiles p
+accepted_keeps : (tiles : List SourceTile) (p : SessionState) → whole_refusal p.limit tiles p.globals p.document ≡ None → IsSoundState tiles p
 accepted_keeps tiles p h =
     let count = cell_count tiles (style_layers p.globals p.document) in
-    let both = none_of_both (first_finding (findings p.document)) (limit_refusal count) h in
+    let both = none_of_both (first_finding (findings p.document)) (limit_refusal p.limit count) h in
     record {
       findings = no_finding (findings p.document) both.0;
-      cells = leb-true count cell_limit (few (within_limit count) both.1);
+      cells = leb-true count p.limit (few (within_limit p.limit count) both.1);
     }
 
-keeping_accepted : (tiles : List SourceTile) (p : SessionState) → IsSoundState tiles p → whole_refusal tiles p.globals p.document ≡ None
+keeping_accepted : (tiles : List SourceTile) (p : SessionState) → IsSoundState tiles p → whole_refusal p.limit tiles p.globals p.document ≡ None
 keeping_accepted tiles p h =
     let count = cell_count tiles (style_layers p.globals p.document) in
-    let within = le-leb count cell_limit h.cells in
+    let within = le-leb count p.limit h.cells in
     λ i. option_or (first_finding (h.findings i)) (if within i then None else Some CellLimit)
 
 -- the document that an edit makes, and its cells, by the edit
@@ -101,7 +101,7 @@ state_keeps tiles p (edits.add_image name) asked h none = record { findings = h.
 state_keeps tiles p (edits.remove_image name) asked h none = record { findings = h.findings; cells = h.cells }
 state_keeps tiles p (edits.set_global name d) asked h none =
     let same = values_change_no_cell tiles p.document p.globals (with_global p.document name d p.globals) in
-    record { findings = h.findings; cells = subst (λ n. n ≤ cell_limit) same h.cells }
+    record { findings = h.findings; cells = subst (λ n. n ≤ p.limit) same h.cells }
 state_keeps tiles p edits.list asked h none = absurd (cc)
 state_keeps tiles p edits.stats asked h none = absurd (cc)
 state_keeps tiles p edits.style asked h none = absurd (cc)
@@ -188,18 +188,18 @@ refused_by None cause before after h = absurd (cc)
 refused_by (Some x) cause before after h = let same : x ≡ cause = cc in ap Some same
 
 layers_cells : (tiles : List SourceTile) (scripts : List ℕ → Bool) (can_change : Bool) (p : SessionState) (e : Edit) → rearranges e ≡ true →
-    cell_count tiles (style_layers p.globals (edited p.document e)) ≤ cell_limit →
+    cell_count tiles (style_layers p.globals (edited p.document e)) ≤ p.limit →
     (applied tiles scripts can_change p e).1 ≡ refused CellLimit → ⊥
 layers_cells tiles scripts can_change p (edits.remove_layer id) is few h =
-    not_cells (edit_fault p.document (edits.remove_layer id)) (findings (edited p.document (edits.remove_layer id))) _ None (le-leb _ cell_limit few) (λ e. absurd (cc)) (refused_by _ CellLimit p _ h)
+    not_cells (edit_fault p.document (edits.remove_layer id)) (findings (edited p.document (edits.remove_layer id))) _ None (le-leb _ p.limit few) (λ e. absurd (cc)) (refused_by _ CellLimit p _ h)
 layers_cells tiles scripts can_change p (edits.move_layer id before) is few h =
-    not_cells (edit_fault p.document (edits.move_layer id before)) (findings (edited p.document (edits.move_layer id before))) _ None (le-leb _ cell_limit few) (λ e. absurd (cc)) (refused_by _ CellLimit p _ h)
+    not_cells (edit_fault p.document (edits.move_layer id before)) (findings (edited p.document (edits.move_layer id before))) _ None (le-leb _ p.limit few) (λ e. absurd (cc)) (refused_by _ CellLimit p _ h)
 layers_cells tiles scripts can_change p (edits.set_range layer min max) is few h =
-    not_cells (edit_fault p.document (edits.set_range layer min max)) (findings (edited p.document (edits.set_range layer min max))) _ None (le-leb _ cell_limit few) (λ e. absurd (cc)) (refused_by _ CellLimit p _ h)
+    not_cells (edit_fault p.document (edits.set_range layer min max)) (findings (edited p.document (edits.set_range layer min max))) _ None (le-leb _ p.limit few) (λ e. absurd (cc)) (refused_by _ CellLimit p _ h)
 layers_cells tiles scripts can_change p _ is few h = absurd (cc)
 
 pub few_cells : (tiles : List SourceTile) (p : SessionState) (e : Edit) → rearranges e ≡ true → IsSoundState tiles p →
-    cell_count tiles (style_layers p.globals (edited p.document e)) ≤ cell_limit
+    cell_count tiles (style_layers p.globals (edited p.document e)) ≤ p.limit
 few_cells tiles p e is h = omega (arith, no_cell_comes tiles p.globals p.document e is, h.cells)
 
 pub rearranging_brings_no_cell : RearrangingBringsNoCell

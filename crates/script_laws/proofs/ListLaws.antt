@@ -15,7 +15,7 @@ use Rattle.tile_reader.specs.Tile.{tile_of}
 use Rattle.tile_reader.specs.declared.fault.TileFault.{TileFault}
 use Rattle.tile_reader.specs.declared.tile.TileLayer.{TileLayer}
 use Rattle.edit_session.specs.Applied.{listing_of}
-use Rattle.edit_session.specs.Opening.{Fault, tiles_fault}
+use Rattle.edit_session.specs.Opening.{cell_limit, Fault, tiles_fault}
 use Rattle.style_layout.specs.Shown.{SourceTile}
 use Rattle.style_rules.specs.Findings.{findings}
 use Rattle.program_runs.specs.Outcome.{RunOutcome, said}
@@ -157,7 +157,7 @@ module _ (files : List ℕ → Option (List ℕ)) (o : RunOutcome) (w : ReplayWo
   listed_from (Some fault) asked all before h = (h.1, (h.0, refl))
 
   abbrev fault : Option Fault
-  fault = tiles_fault shown.0 shown.1 w.shown.zoom
+  fault = tiles_fault cell_limit shown.0 shown.1 w.shown.zoom
 
   read_script : (asked all : Names) → HasOutcome files (script_part w.script (edited_run w images scripts can_change shown)) asked all o →
       (names : Names) × HasOutcome files (listed_run w.shown images scripts shown) asked names o × PerhapsMore w.script names all

@@ -22,7 +22,6 @@ use Rattle.style_rules.specs.declared.lists.Finding.{Finding as Found}
 use Rattle.edit_findings.specs.FoundAfter.{AreKeyed, HasKeysFor, found_by_edit}
 use Rattle.edit_findings.proofs.AfterLaws.{after_edit}
 use Rattle.edit_session.specs.Applied.{done, refused, presented_after, first_finding, refusal_of, applied}
-use Rattle.edit_session.specs.Opening.{cell_limit}
 use Rattle.edit_session.specs.SessionState.{SessionState}
 use Rattle.edit_session.specs.declared.answer.Refusal.TheVariants.{Finding, CellLimit}
 use Rattle.script_laws.specs.ScriptLaw.{HasNamesOnce, rearranges, RearrangingBreaksNoRule, PossibleRearrangingIsAccepted}
@@ -72,7 +71,7 @@ rearranging_breaks_no_rule tiles scripts can_change p e is once sound =
     let none = nothing_found p.document e is once sound.findings in (none, never_found tiles scripts can_change p e is none)
 
 accepted : (tiles : List SourceTile) (scripts : List ℕ → Bool) (can_change : Bool) (p : SessionState) (e : Edit) → rearranges e ≡ true →
-    findings (edited p.document e) ≡ [] → cell_count tiles (style_layers p.globals (edited p.document e)) ≤ cell_limit →
+    findings (edited p.document e) ≡ [] → cell_count tiles (style_layers p.globals (edited p.document e)) ≤ p.limit →
     edit_fault p.document e ≡ None → applied tiles scripts can_change p e ≡ (presented_after p e, done)
 accepted tiles scripts can_change p (edits.remove_layer id) is none few fault =
     is_accepted tiles scripts can_change p (edits.remove_layer id) refl fault (record { findings = none; cells = few }) refl

@@ -21,7 +21,6 @@ use Rattle.style_rules.specs.Levels.{HasDistinctMembers}
 use Rattle.style_rules.specs.declared.lists.Finding.{Finding as Found}
 use Rattle.edit_findings.specs.FoundAfter.{AreKeyed}
 use Rattle.edit_session.specs.Applied.{Reply, done, refused, applied, presented_after, images_refusal}
-use Rattle.edit_session.specs.Opening.{cell_limit}
 use Rattle.edit_session.specs.SessionState.{SessionState}
 use Rattle.edit_session.specs.declared.answer.Refusal.TheVariants.{Finding, CellLimit}
 use Rattle.program_runs.specs.Outcome.{RunOutcome, said}
@@ -36,10 +35,10 @@ Line = Result Edit LineFault
 
 -- ---- sound states
 
--- No place of the document breaks a rule, and it has no more cells over the tiles than the limit.
+-- No place of the document breaks a rule, and it has no more cells over the tiles than it may have.
 pub record IsSoundState (tiles : List SourceTile) (p : SessionState) : Type 0 where
   pub findings : findings p.document ≡ []
-  pub cells : cell_count tiles (style_layers p.globals p.document) ≤ cell_limit
+  pub cells : cell_count tiles (style_layers p.globals p.document) ≤ p.limit
 
 -- ---- edits
 
@@ -175,7 +174,7 @@ abbrev pub RearrangingBringsNoCell : Type 0
 RearrangingBringsNoCell =
     (tiles : List SourceTile) (scripts : List ℕ → Bool) (can_change : Bool) (p : SessionState) (edit : Edit) →
     rearranges edit ≡ true → IsSoundState tiles p →
-    (cell_count tiles (style_layers p.globals (edited p.document edit)) ≤ cell_limit)
+    (cell_count tiles (style_layers p.globals (edited p.document edit)) ≤ p.limit)
     × ((applied tiles scripts can_change p edit).1 ≢ refused CellLimit)
 
 -- An edit that removes or moves a layer, or sets its range, is never refused for a rule: where it has no fault, the edited

@@ -13,12 +13,8 @@ use itoa::Buffer;
 use std::alloc::{AllocError, Global};
 use style_rules::Finding;
 
-/// What the line of this number is answered.
-pub(crate) fn answer_of(
-    alloc: Global,
-    number: usize,
-    answer: Answer,
-) -> Result<LineAnswer, AllocError>
+/// What the line of this number is answered, by the answer of a session.
+pub fn answer_of(alloc: Global, number: usize, answer: Answer) -> Result<LineAnswer, AllocError>
     ensures text { IfOk result (λ line. line.text.items ≡ reply_text number (reply_seen answer)) }
     ensures refused { IfOk result (λ line. line.is_refused ≡ is_refused (reply_seen answer)) }
 {
@@ -30,12 +26,12 @@ pub(crate) fn answer_of(
         }),
         Answer::Stats => fault_answer(alloc, number, LineFault::Form),
         Answer::Style(text) => style_answer(text),
-        Answer::Refused(refusal) => refused_answer(alloc, number, &refusal),
+        Answer::Refused(refusal) => refusal_answer(alloc, number, &refusal),
     }
 }
 
 /// That the line of this number is no command.
-pub(crate) fn fault_answer(
+pub fn fault_answer(
     alloc: Global,
     number: usize,
     fault: LineFault,
@@ -43,9 +39,17 @@ pub(crate) fn fault_answer(
     ensures text { IfOk result (λ line. line.text.items ≡ refused_line number (fault_name fault)) }
     ensures refused { IfOk result (λ line. line.is_refused ≡ true) }
 {
+    refused_answer(alloc, number, fault_name(fault))
+}
+
+/// That the line of this number is refused, by the name of the cause.
+pub fn refused_answer(alloc: Global, number: usize, name: &str) -> Result<LineAnswer, AllocError>
+    ensures text { IfOk result (λ line. line.text.items ≡ refused_line number name.now) }
+    ensures refused { IfOk result (λ line. line.is_refused ≡ true) }
+{
     let mut text = Vec::new(alloc);
     write_refusal_front(number, &mut text)?;
-    text.extend_from_slice(fault_name(fault).as_bytes())?;
+    text.extend_from_slice(name.as_bytes())?;
     text.extend_from_slice(b"\n")?;
     Ok(LineAnswer {
         text,
@@ -53,7 +57,7 @@ pub(crate) fn fault_answer(
     })
 }
 
-fn refused_answer(alloc: Global, number: usize, refusal: &Refusal) -> Result<LineAnswer, AllocError>
+fn refusal_answer(alloc: Global, number: usize, refusal: &Refusal) -> Result<LineAnswer, AllocError>
     ensures text { IfOk result (λ line. line.text.items ≡ refused_line number (refusal_text refusal.now)) }
     ensures refused { IfOk result (λ line. line.is_refused ≡ true) }
 {
@@ -79,7 +83,8 @@ fn style_answer(text: Vec<u8>) -> Result<LineAnswer, AllocError>
     })
 }
 
-fn ok_answer(alloc: Global, number: usize) -> Result<LineAnswer, AllocError>
+/// That the line of this number is accepted.
+pub fn ok_answer(alloc: Global, number: usize) -> Result<LineAnswer, AllocError>
     ensures text { IfOk result (λ line. line.text.items ≡ ok_line number) }
     ensures refused { IfOk result (λ line. line.is_refused ≡ false) }
 {

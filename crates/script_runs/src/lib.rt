@@ -18,4 +18,6 @@ mod answers;
 mod lines;
 mod script;
 
+pub use answers::{answer_of, fault_answer, ok_answer, refused_answer};
+pub use lines::next_line;
 pub use script::{LineAnswer, ScriptLine, answer_line, answer_script, ending_by};

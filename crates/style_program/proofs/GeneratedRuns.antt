@@ -2,7 +2,7 @@
 use Rattle.std.proofs.Common.{◌≡◌, sym, subst, ℕ, pos, List, [], Bool}
 use Rattle.std.specs.Prelude.{Option, None, Result, Ok, Err, IfOk}
 use Rattle.decimal_json.specs.Tree.{Tree}
-use Rattle.edit_session.specs.Opening.{tiles_fault}
+use Rattle.edit_session.specs.Opening.{cell_limit, tiles_fault}
 use Rattle.edit_session.specs.SessionState.{SessionState, opened}
 use Rattle.generated_runs.specs.Counted.{counted}
 use Rattle.generated_runs.specs.GeneratedScript.{generated_lines, generated_style}
@@ -32,11 +32,11 @@ module _ (files : List ℕ → Option (List ℕ)) (features : ℕ) (images scrip
       (subst (λ f. HasOutcome files (sound_or_broken f (opened_run features images scripts can_change document)) asked asked o) (sym sound) made)
 
   pub opened_counts : {E : Type 0} (document : Tree) (p : SessionState) (tiles : List SourceTile) (r : Result RunOutput E) → tiles ≡ generated_tiles features
-      → None ≡ tiles_fault document (generated_tiles features) (pos 0) → p ≡ opened document (pos 0) images
+      → None ≡ tiles_fault cell_limit document (generated_tiles features) (pos 0) → p ≡ opened cell_limit document (pos 0) images
       → IfOk r (λ a. HasOutcome files (counted features (lines_run tiles scripts can_change 1 p false (generated_lines features))) asked asked (outcome_of a))
       → IfOk r (λ a. HasOutcome files (opened_run features images scripts can_change document) asked asked (outcome_of a))
   opened_counts document p tiles (Err lacks) over none first made = tt
   opened_counts document p tiles (Ok a) over none first made =
       subst (λ f. HasOutcome files (opened_or_refused f (counted features (answered_run features images scripts can_change document))) asked asked (outcome_of a)) none
-      (subst (λ ts. HasOutcome files (counted features (lines_run ts scripts can_change 1 (opened document (pos 0) images) false (generated_lines features))) asked asked (outcome_of a)) over
+      (subst (λ ts. HasOutcome files (counted features (lines_run ts scripts can_change 1 (opened cell_limit document (pos 0) images) false (generated_lines features))) asked asked (outcome_of a)) over
       (subst (λ q. HasOutcome files (counted features (lines_run tiles scripts can_change 1 q false (generated_lines features))) asked asked (outcome_of a)) first made))

@@ -2,7 +2,7 @@
 use Rattle.std.proofs.Common.{◌≡◌, ◌∙◌, ℕ, List, [], length, refl, sym, subst, inl, inr}
 use Rattle.std.proofs.Math.Seq.{take-length}
 use Rattle.std.specs.Prelude.{Option, None, Bool, ◌⊎◌}
-use Rattle.edit_session.specs.Opening.{Fault, tiles_fault}
+use Rattle.edit_session.specs.Opening.{cell_limit, Fault, tiles_fault}
 use Rattle.edit_session.specs.SessionState.{SessionState, opened}
 use Rattle.outside_io.specs.Writing.{Gains, GainsPrefix}
 use Rattle.outside_io.specs.WritingLaws.{front_of_nothing, gains_nothing}
@@ -44,12 +44,12 @@ module _ (files : List ℕ → Option (List ℕ)) (w : ReplayWords) (images scri
 
     -- and the style was opened, which the code has by other names
     pub script_comes : (asked_new : List (List ℕ)) (script : List ℕ) → GoesOn then_files (script_part w.script) asked_mid asked_new script
-        → (p : SessionState) (tiles : List SourceTile) → None ≡ tiles_fault shown.0 shown.1 w.shown.zoom → p ≡ opened shown.0 w.shown.zoom images → tiles ≡ shown.1
+        → (p : SessionState) (tiles : List SourceTile) → None ≡ tiles_fault cell_limit shown.0 shown.1 w.shown.zoom → p ≡ opened cell_limit shown.0 w.shown.zoom images → tiles ≡ shown.1
         → ComesTo files (replay_run w images scripts can_change) (script_run tiles scripts can_change p script) asked_old asked_new
     script_comes asked_new script read p tiles none first over =
         subst (λ (ts : List SourceTile). ComesTo files (replay_run w images scripts can_change) (script_run ts scripts can_change p script) asked_old asked_new) (sym over)
         (subst (λ (q : SessionState). ComesTo files (replay_run w images scripts can_change) (script_run shown.1 scripts can_change q script) asked_old asked_new) (sym first)
-        (subst (λ (f : Option Fault). ComesTo files (replay_run w images scripts can_change) (opened_or_refused f (script_run shown.1 scripts can_change (opened shown.0 w.shown.zoom images) script)) asked_old asked_new)
+        (subst (λ (f : Option Fault). ComesTo files (replay_run w images scripts can_change) (opened_or_refused f (script_run shown.1 scripts can_change (opened cell_limit shown.0 w.shown.zoom images) script)) asked_old asked_new)
         (sym none) (script_read asked_new script read)))
 
     pub script_halts : (old mid new : ℕ) (failed_old failed_mid failed_new : Option (List ℕ)) (asked_new : List (List ℕ)) (h : RunHalt) → NoneFailed old mid failed_old failed_mid

@@ -1,7 +1,7 @@
 -- The run of `eval`: what a style shows over tiles, or why it shows nothing. Source: own.
 use Rattle.std.specs.Prelude.{ℕ, List, Bool, Option, Some, None}
 use Rattle.edit_session.specs.Applied.{listing_of}
-use Rattle.edit_session.specs.Opening.{Fault, tiles_fault}
+use Rattle.edit_session.specs.Opening.{cell_limit, Fault, tiles_fault}
 use Rattle.edit_session.specs.SessionState.{SessionState, opened}
 use Rattle.program_runs.specs.declared.status.Ending.TheVariants.{Fine}
 use Rattle.program_runs.specs.Outcome.{RunOutcome, said}
@@ -18,14 +18,14 @@ opened_or_refused (Some fault) next = ends (not_opened fault)
 module _ (w : EvalWords) (images scripts : List ℕ → Bool) where
   -- what is shown before any edit
   abbrev pub shown_at_first : LoadedStyle → SessionState
-  shown_at_first shown = opened shown.0 w.zoom images
+  shown_at_first shown = opened cell_limit shown.0 w.zoom images
 
   abbrev pub listed_outcome : LoadedStyle → RunOutcome
   listed_outcome shown = said (listing_of shown.1 scripts (shown_at_first shown)) Fine
 
   -- the listing of the style
   abbrev pub listed_run : LoadedStyle → Run
-  listed_run shown = opened_or_refused (tiles_fault shown.0 shown.1 w.zoom) (ends (listed_outcome shown))
+  listed_run shown = opened_or_refused (tiles_fault cell_limit shown.0 shown.1 w.zoom) (ends (listed_outcome shown))
 
   abbrev pub eval_run : Run
   eval_run = load_part w listed_run

@@ -1,6 +1,6 @@
 -- The run of `replay`: what a style shows over tiles while a script edits it. Source: own.
 use Rattle.std.specs.Prelude.{ℕ, List, [], codes, Bool}
-use Rattle.edit_session.specs.Opening.{tiles_fault}
+use Rattle.edit_session.specs.Opening.{cell_limit, tiles_fault}
 use Rattle.program_runs.specs.Refusals.{too_long}
 use Rattle.program_runs.specs.Runs.{Run, reads}
 use Rattle.script_runs.specs.ScriptRun.{script_run}
@@ -20,7 +20,7 @@ module _ (w : ReplayWords) (images scripts : List ℕ → Bool) (can_change : Bo
   -- the style is opened, and answers the script
   abbrev pub edited_run : LoadedStyle → List ℕ → Run
   edited_run shown script =
-      opened_or_refused (tiles_fault shown.0 shown.1 w.shown.zoom)
+      opened_or_refused (tiles_fault cell_limit shown.0 shown.1 w.shown.zoom)
       (script_run shown.1 scripts can_change (shown_at_first w.shown images scripts shown) script)
 
   abbrev pub replay_run : Run

@@ -13,7 +13,7 @@ ghost use Rattle.style_rules.specs.Findings.{findings};
 use crate::loading::{LoadedStyle, read_shown};
 use crate::refusals::not_opened;
 use crate::words::EvalRequest;
-use edit_session::Session;
+use edit_session::{CELL_LIMIT, Session};
 use host_ops::HostOp;
 use outside_io::Files;
 use program_runs::{Ending, RunHalt, RunOutput, answer_out};
@@ -50,7 +50,7 @@ fn answer_shown<'a>(
     ensures { (files : List ℕ → Option (List ℕ)) (asked : List (List ℕ)) → IfOk result (λ answer. HasOutcome files
         (listed_run (eval_words request.now) (test images.now) (test scripts.now) (shown_seen shown.entry)) asked asked (outcome_of answer)) }
 {
-    match Session::open_sound(alloc, shown.style, shown.tiles, request.zoom)? {
+    match Session::open_sound(alloc, shown.style, shown.tiles, request.zoom, CELL_LIMIT)? {
         Ok(session) => {
             let mut out = Vec::new(alloc);
             session.listing(images, scripts, &mut out)?;

@@ -13,7 +13,7 @@ use crate::loading::refuse_broken;
 use crate::refusals::not_opened;
 use crate::value_command::zero;
 use decimal_json::Json;
-use edit_session::Session;
+use edit_session::{CELL_LIMIT, Session};
 use generated_runs::{GENERATED_STYLE, answer_counted, generated_tile};
 use host_ops::HostOp;
 use program_runs::{RunHalt, RunOutput, Subject, parse_json};
@@ -49,7 +49,7 @@ fn answer_opened(
         (opened_run features (test images.old) (test scripts.now) (changes images.old) (tree_of style)) asked asked (outcome_of answer)) }
 {
     let tiles = generated_tiles(alloc, features)?;
-    match Session::open_sound(alloc, style, tiles, zero())? {
+    match Session::open_sound(alloc, style, tiles, zero(), CELL_LIMIT)? {
         Ok(session) => answer_counted(alloc, session, features, images, scripts),
         Err(fault) => not_opened(alloc, &fault),
     }

@@ -2,7 +2,7 @@
 
 ghost use Rattle.std.specs.Prelude.{◌≡◌, ℕ, List, [], Bool, None, Option, OnOk, IfOk, IfErr};
 ghost use Rattle.decimal_json.specs.View.{tree_of};
-ghost use Rattle.edit_session.specs.Opening.{tiles_fault};
+ghost use Rattle.edit_session.specs.Opening.{cell_limit, tiles_fault};
 ghost use Rattle.edit_session.specs.SessionState.{opened};
 ghost use Rattle.edit_session.specs.View.{session_state, tiles_of, IsSoundSession};
 ghost use Rattle.program_runs.specs.FailedReads.{NoneFailed};
@@ -18,7 +18,7 @@ ghost use Rattle.style_rules.specs.Findings.{findings};
 use crate::loading::{LoadedStyle, read_shown};
 use crate::refusals::not_opened;
 use crate::words::ReplayRequest;
-use edit_session::Session;
+use edit_session::{CELL_LIMIT, Session};
 use fixed_num::Fixed;
 use outside_io::Files;
 use program_runs::{RunHalt, Subject, read_file};
@@ -66,12 +66,12 @@ fn open_shown<'a>(
     ensures sound { IfOk result IsSoundSession }
     ensures tiles { IfOk result (λ session. tiles_of session ≡ (shown_seen shown.entry).1) }
     ensures opened { IfOk result (λ session. (has_image : List ℕ → Bool)
-        → session_state session has_image ≡ opened (shown_seen shown.entry).0 zoom has_image) }
-    ensures none { OnOk result (None ≡ tiles_fault (shown_seen shown.entry).0 (shown_seen shown.entry).1 zoom) }
+        → session_state session has_image ≡ opened cell_limit (shown_seen shown.entry).0 zoom has_image) }
+    ensures none { OnOk result (None ≡ tiles_fault cell_limit (shown_seen shown.entry).0 (shown_seen shown.entry).1 zoom) }
     ensures halt { (files : List ℕ → Option (List ℕ)) (count : ℕ) (failed : Option (List ℕ)) (asked : List (List ℕ)) (next : Run) → IfErr result (λ halt. HaltsAt files
-        (opened_or_refused (tiles_fault (shown_seen shown.entry).0 (shown_seen shown.entry).1 zoom) next) count count failed failed asked asked halt) }
+        (opened_or_refused (tiles_fault cell_limit (shown_seen shown.entry).0 (shown_seen shown.entry).1 zoom) next) count count failed failed asked asked halt) }
 {
-    match Session::open_sound(alloc, shown.style, shown.tiles, zoom)? {
+    match Session::open_sound(alloc, shown.style, shown.tiles, zoom, CELL_LIMIT)? {
         Ok(session) => Ok(session),
         Err(fault) => Err(RunHalt::Refused(not_opened(alloc, &fault)?)),
     }

@@ -53,7 +53,7 @@ returns-in-Removed c =
     let within = subst (λ (u : Undo). IsWithin u us) c.in-Removed.is c.requires.within in
     let before = subst (λ (u : Undo). ArePrepared tiles globals (undone_layers u us) old) c.in-Removed.is c.requires.before in
     removed_follows tiles globals us old c.remove.new.self _ _ within before c.requires.few (prepared_layer globals null)
-    c.remove.ensures.layers c.remove.ensures.cells c.remove.ensures.reads
+    c.remove.ensures.layers c.remove.ensures.cells c.remove.ensures.reads c.remove.ensures.limit
 
 pub returns-in-Moved : goal.returns-in-Moved
 returns-in-Moved c =
@@ -64,4 +64,4 @@ returns-in-Moved c =
     let within = subst (λ (u : Undo). IsWithin u us) c.in-Moved.is c.requires.within in
     let before = subst (λ (u : Undo). ArePrepared tiles globals (undone_layers u us) old) c.in-Moved.is c.requires.before in
     moved_follows tiles globals us old _ _ _ within.0 within.1 before c.requires.few (prepared_layer globals null)
-    (c.move_layer.ensures (prepared_layer globals null)) refl refl
+    (c.move_layer.ensures (prepared_layer globals null)) refl refl refl

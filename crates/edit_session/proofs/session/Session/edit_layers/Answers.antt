@@ -9,7 +9,7 @@ use Rattle.edit_session.proofs.session.Session.edit_layers.Goals as goal
 
 pub finding_refusal-requires-clause-sound : goal.finding_refusal-requires-clause-sound
 finding_refusal-requires-clause-sound c =
-    let s = c.args.self.now in accepted_is_sound (tiles_of s) s.globals (tree_of s.document) c.requires.ready.0.is_accepted
+    let s = c.args.self.now in accepted_is_sound s.layers.limit (tiles_of s) s.globals (tree_of s.document) c.requires.ready.0.is_accepted
 
 pub edit_sound-requires-clause-sound : goal.edit_sound-requires-clause-sound
 edit_sound-requires-clause-sound c =
@@ -21,4 +21,4 @@ returns-in-Some-clause-answer c = λ has_image scripts can_change.
     let made = edited (tree_of s.document) (command_seen c.args.command.now) in
     layers_refused (tiles_of s) scripts can_change (session_state s has_image) (command_seen c.args.command.now)
     c.requires.layers c.requires.possible made refl c.in-Some.refusal (tree_of s.document)
-    (whole_by_finding (tiles_of s) s.globals made c.in-Some.refusal (sym c.in-Some.is ∙ c.in_ok-refusal.ensures)) refl
+    (whole_by_finding s.layers.limit (tiles_of s) s.globals made c.in-Some.refusal (sym c.in-Some.is ∙ c.in_ok-refusal.ensures)) refl

@@ -7,6 +7,7 @@ use Rattle.style_edits.specs.Undone.{IsWithin, undone_layers}
 use Rattle.style_layout.specs.CodeView.{tile_seen}
 use Rattle.style_layout.specs.Shown.{SourceTile}
 use Rattle.style_rules.specs.Findings.{findings}
+use Rattle.edit_session.specs.Applied.{done, refused}
 use Rattle.edit_session.specs.LayerMarks.{layer_mark}
 use Rattle.edit_session.specs.PreparedLayers.{AreTyped, ArePrepared, Follows}
 use Rattle.edit_session.specs.View.{session_state, tiles_of}
@@ -17,7 +18,7 @@ use Rattle.edit_session.proofs.session.Session.edit_sound.Goals as goal
 
 pub note_types-requires : goal.note_types-requires
 note_types-requires c =
-    let s = c.args.self.now in accepted_is_sound (tiles_of s) s.globals (tree_of s.document) c.requires.ready.0.is_accepted
+    let s = c.args.self.now in accepted_is_sound s.layers.limit (tiles_of s) s.globals (tree_of s.document) c.requires.ready.0.is_accepted
 
 pub note_types-requires-2 : goal.note_types-requires-2
 note_types-requires-2 c = ap findings c.in_ok-undo.ensures.edited ∙ c.requires.sound
@@ -37,7 +38,7 @@ pub follow-requires-clause-few : goal.follow-requires-clause-few
 follow-requires-clause-few c =
     let s = c.args.self.now in
     few_cells (tiles_of s) s.globals (tree_of s.document) s.layers c.requires.ready.0
-    (accepted_is_sound (tiles_of s) s.globals (tree_of s.document) c.requires.ready.0.is_accepted)
+    (accepted_is_sound s.layers.limit (tiles_of s) s.globals (tree_of s.document) c.requires.ready.0.is_accepted)
 
 pub follow-requires-clause-within : goal.follow-requires-clause-within
 follow-requires-clause-within c =
@@ -58,9 +59,10 @@ returns-then-is_done-clause-answer c = λ has_image scripts can_change.
     let none = ap findings c.in_ok-undo.ensures.edited ∙ c.requires.sound in
     let follows = subst (λ (tiles : List SourceTile). Follows tiles s.globals us c.in_ok-is_done.is_done s.layers c.follow.new.self)
     (ap (map tile_seen) c.as_slice.ensures.value) c.in_ok-is_done.ensures in
-    layers_accepted (tiles_of s) scripts can_change (session_state s has_image) (command_seen c.args.command.now)
+    (λ k. (record (session_state s has_image) { document = after; limit = follows.same_limit k }, done))
+    ∙ layers_accepted (tiles_of s) scripts can_change (session_state s has_image) (command_seen c.args.command.now)
     c.requires.layers c.requires.possible after c.in_ok-undo.ensures.edited
-    (not_refused (tiles_of s) s.globals after none c.note_types-2.ensures.typed us is (sym c.if-is_done.true ∙ follows.limit))
+    (not_refused (tiles_of s) s.globals s.layers.limit after none c.note_types-2.ensures.typed us is (sym c.if-is_done.true ∙ follows.limit))
 
 pub returns-then-is_done-clause-ready : goal.returns-then-is_done-clause-ready
 returns-then-is_done-clause-ready c =
@@ -71,7 +73,7 @@ returns-then-is_done-clause-ready c =
     let none = ap findings c.in_ok-undo.ensures.edited ∙ c.requires.sound in
     let follows = subst (λ (tiles : List SourceTile). Follows tiles s.globals us c.in_ok-is_done.is_done s.layers c.follow.new.self)
     (ap (map tile_seen) c.as_slice.ensures.value) c.in_ok-is_done.ensures in (
-      is_whole (tiles_of s) s.globals after none c.note_types-2.ensures.typed us is c.follow.new.self
+      is_whole (tiles_of s) s.globals s.layers.limit after none c.note_types-2.ensures.typed us is c.follow.new.self follows.same_limit c.requires.ready.0.is_limited
           (sym c.if-is_done.true ∙ follows.limit) (follows.prepared c.if-is_done.true),
       c.in_ok-follow.ensures ∙ ap (map layer_mark) (layers_listed after c.layers_of-then-is_done.result.now c.layers_of-then-is_done.ensures),
     )
@@ -85,9 +87,10 @@ returns-clause-answer c = λ has_image scripts can_change.
     let none = ap findings c.in_ok-undo.ensures.edited ∙ c.requires.sound in
     let follows = subst (λ (tiles : List SourceTile). Follows tiles s.globals us c.in_ok-is_done.is_done s.layers c.follow.new.self)
     (ap (map tile_seen) c.as_slice.ensures.value) c.in_ok-is_done.ensures in
-    layers_refused (tiles_of s) scripts can_change (session_state s has_image) (command_seen c.args.command.now)
+    (λ k. (record (session_state s has_image) { document = tree_of c.undo_edit.new.style; limit = follows.same_limit k }, refused CellLimit))
+    ∙ layers_refused (tiles_of s) scripts can_change (session_state s has_image) (command_seen c.args.command.now)
     c.requires.layers c.requires.possible after c.in_ok-undo.ensures.edited CellLimit (tree_of c.undo_edit.new.style)
-    (is_refused (tiles_of s) s.globals after none c.note_types-2.ensures.typed us is (sym c.if-is_done.false ∙ follows.limit))
+    (is_refused (tiles_of s) s.globals s.layers.limit after none c.note_types-2.ensures.typed us is (sym c.if-is_done.false ∙ follows.limit))
     (c.in_ok-undo_edit.ensures.ok ∙ c.in_ok-undo.ensures.undo.1)
 
 pub follow-requires-then-is_done-clause-before : goal.follow-requires-then-is_done-clause-before

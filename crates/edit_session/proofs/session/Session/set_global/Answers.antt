@@ -17,15 +17,16 @@ returns-clause-ready c =
     let new = c.set_global.new.globals in
     let ready = c.requires.ready.0 in
     let marks = c.requires.ready.1 in
-    let whole = whole_with (tiles_of s) document new s.globals ready.is_accepted in
+    let whole = whole_with s.layers.limit (tiles_of s) document new s.globals ready.is_accepted in
     let counted = ready.is_counted ∙ sym (values_change_no_cell (tiles_of s) document new s.globals) in
     let is_ready = λ (x : Session). IsWholeDocument (tiles_of x) x.globals (tree_of x.document) x.layers × AreMarks x.marks (layer_list (tree_of x.document)) in
     elim c.if-self.branch [
       | then-self+in_ok-self w ↦
-          subst is_ready (sym w.self-is) (record { is_accepted = whole; is_prepared = w.in_ok-self.ensures; is_counted = counted; is_noted = ready.is_noted }, marks)
+          subst is_ready (sym w.self-is) (record { is_limited = ready.is_limited; is_accepted = whole; is_prepared = w.in_ok-self.ensures; is_counted = counted; is_noted = ready.is_noted }, marks)
       | else-self w ↦
           subst is_ready (sym w.self-is) (
             record {
+              is_limited = ready.is_limited;
               is_accepted = whole;
               is_prepared = ready.is_prepared ∙ sym (style_steady document new s.globals (ready.is_noted w.if-self.false));
               is_counted = counted;
