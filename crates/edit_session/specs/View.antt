@@ -54,7 +54,7 @@ session_state session has_image = record {
   limit = session.layers.limit;
 }
 
--- what it represents through a view, whose zoom and states stand in the place of its own
+-- what it represents through a view, with the zoom and the states of the view in the place of its own
 abbrev pub state_in : Session → View → (List ℕ → Bool) → SessionState
 state_in session view has_image =
     record (session_state session has_image) { zoom = view.zoom; states = members_at view.states }
