@@ -8,6 +8,10 @@ expressions of the rows of `value` that end with a value or a fault are the stdi
 
 Each line of those files is one row: a JSON object in the form that crates/worked_rows/src/main.rt gives. Names of rows differ. Rows
 with `fails` or `images` are left out by --run, since no real call is made to fail, and the program has its own images.
+
+A row may have a member `sweep`, an object, and then stands for more rows. Its `out` is an array with a text for each write. The member
+`reads` has the names of the files in the order in which they are read. The other rows are this one with each read failing, with each
+write of out failing after 0 bytes and after 1 byte, and, if `cut` is "style" or "script", with that file cut to each length below its own.
 """
 
 import json
@@ -29,12 +33,54 @@ def read_rows(names):
     rows = []
     for name in names:
         with open(os.path.join(ROWS, name), encoding="utf-8") as file:
-            rows += [(line.strip(), json.loads(line)) for line in file if line.strip()]
+            for line in file:
+                if line.strip():
+                    row = json.loads(line)
+                    rows += [(compact(each), each) for each in swept(row)] if "sweep" in row else [(line.strip(), row)]
     names = [row["name"] for _, row in rows]
     twice = sorted({name for name in names if names.count(name) > 1})
     if twice:
         sys.exit("rows: these names stand twice: " + ", ".join(twice))
     return rows
+
+
+def compact(row):
+    return json.dumps(row, ensure_ascii=False, separators=(",", ":"))
+
+
+def swept(row):
+    """A row without its `sweep`, and the rows that the sweep makes of it."""
+    sweep = row.pop("sweep")
+    yield row
+
+    def varied(how, **members):
+        return {**row, "name": row["name"] + ": " + how, **members}
+
+    for call, name in enumerate(sweep.get("reads", [])):
+        yield varied(f"read {call} fails", out="", err=f'read "{name}"\n', status=4, fails={"files": [call]})
+    for call, text in enumerate(row["out"]):
+        for taken in (0, 1):
+            out = row["out"][:call] + [text[:taken]]
+            yield varied(f"write {call} fails after {taken}", out=out, err="", status=5, fails={"out": [[call, taken]]})
+    if "cut" in sweep:
+        word, wanted = {"style": (1, cut_style), "script": (2, cut_script)}[sweep["cut"]]
+        name = row["words"][word]
+        for length in range(len(row["files"][name])):
+            files = {**row["files"], name: row["files"][name][:length]}
+            yield varied(f"the {sweep['cut']} is cut to {length}", files=files, **wanted(row, name, length))
+
+
+def cut_style(_row, _name, length):
+    """What is wanted of a style that is cut. Each front of a JSON object is one of some other object."""
+    return {"out": "", "err": f"refused style json Syntax {length}\n", "status": 3}
+
+
+def cut_script(row, name, length):
+    """What is wanted of a script that is cut: the answers to its whole lines, and a refusal of one that is cut inside."""
+    script, answers = row["files"][name], []
+    for number, (line, whole) in enumerate(zip(script[:length].splitlines(), script.splitlines())):
+        answers.append(row["out"][number] if line == whole else f"refused {number + 1} Json\n")
+    return {"out": answers, "err": "", "status": 1 if any(answer.startswith("refused") for answer in answers) else 0}
 
 
 def joined():
