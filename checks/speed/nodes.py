@@ -3,12 +3,14 @@
     python3 checks/speed/nodes.py [PROGRAM]
 
 The expressions are those of evaluations.py and some more. A program over the crates (nodes.txt) evaluates each so many times, and three times as many; the
-difference is what an evaluation takes. PROGRAM is that program, made before; else `rt run` proves it and LLVM builds it. valgrind has to be installed.
+difference is what an evaluation takes. PROGRAM is that program, made before; else `rt run` proves it, with the ledger that nodes_picks.txt picks, and LLVM
+builds it. valgrind has to be installed.
 """
 
 import json
 import pathlib
 import re
+import shutil
 import subprocess
 import sys
 import tempfile
@@ -59,7 +61,11 @@ def main():
         return measure(pathlib.Path(sys.argv[1]))
     with tempfile.TemporaryDirectory() as name:
         folder = pathlib.Path(name)
-        measure(scratch.build(scratch.make_program(folder, "node_steps", "speed/nodes.txt", BELOW), "tree", "0"))
+        program = scratch.make_program(folder, "node_steps", "speed/nodes.txt", BELOW)
+        proofs = program / "proofs" / "main"
+        proofs.mkdir(parents=True)
+        shutil.copy(TOP / "checks" / "speed" / "nodes_picks.txt", proofs / "Invariants.antt")
+        measure(scratch.build(program, "tree", "0"))
 
 
 if __name__ == "__main__":

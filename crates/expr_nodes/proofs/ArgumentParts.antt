@@ -1,9 +1,10 @@
 -- What is given of the arguments of a node that are evaluated from left to right.
-use Rattle.std.proofs.Common.{◌≡◌, ◌∙◌, ℕ, ◌+◌, ◌<◌, ◌≤◌, Result, Ok, Err, Some, None, IsErrAnd, List, [], ◌∷◌, length, take, drop, arith, refl, subst, sym, ap}
+use Rattle.std.proofs.Common.{◌≡◌, ◌∙◌, ℕ, ◌+◌, ◌<◌, ◌≤◌, Result, Ok, Err, Some, None, IsErrAnd, List, [], ◌∷◌, length, take, drop, arith, refl, subst, sym, ap, true, false}
 use Rattle.std.specs.Prelude.{Vec}
 use Rattle.std.specs.declared.alloc.Global.{Global}
 use Rattle.std.specs.List.{slice_get}
-use Rattle.prop_values.specs.Data.{Data}
+use Rattle.std.proofs.lemmas.Option.{slice_get_within}
+use Rattle.prop_values.specs.Data.{Data, boolean, number, text}
 use Rattle.prop_values.specs.View.{data_of}
 use Rattle.prop_values.specs.ViewParts.{values_view}
 use Rattle.prop_values.specs.declared.fault.EvalFault.{EvalFault}
@@ -14,23 +15,25 @@ use Rattle.property_tables.specs.Fitting.{fit}
 use Rattle.halts.specs.declared.halt.Halt.{Halt}
 use Rattle.halts.specs.declared.halt.Halt.TheVariants.{Fault, NoMemory}
 use Rattle.expr_syntax.specs.declared.expression.Operator.{Operator}
+use Rattle.expr_syntax.specs.declared.expression.Operator.TheVariants as operators
 use Rattle.expr_syntax.specs.Names.{row}
 use Rattle.expr_syntax.specs.Operators.{operator_name}
 use Rattle.operator_values.specs.Evaluated.{Evaluated, GivesValue, then_value}
 use Rattle.eval_face.specs.World.{World}
-use Rattle.eval_face.specs.Meanings.{values_of, and_values, then_values, looked_at, is_sequence}
+use Rattle.eval_face.specs.Names.{BoundOutcomes}
+use Rattle.eval_face.specs.Meanings.{Meaning, values_of, and_values, then_values, looked_at, is_sequence}
 use Rattle.eval_face.specs.Rules.{rule_of}
-use Rattle.operator_rules.specs.RuleParts.{argument_at, applied_by, decided_by, undecided_by, each_of, deciding_of}
+use Rattle.operator_rules.specs.RuleParts.{argument_at, asserts, applied_by, decided_by, undecided_by, each_of, deciding_of}
 use Rattle.operator_rules.specs.ValueStack.{added, EndsAll}
 use Rattle.operator_rules.proofs.ArgumentLaws.{after, values_from, made_of, one_given, two_given, one_halted, two_halted, second_halted, values_halted_at, decision_from, decision_halted, decision_found, decision_later, undecided}
-use Rattle.expr_nodes.specs.Node.{Node, children, total_size}
-use Rattle.expr_nodes.specs.Outcome.{promises, all_known}
+use Rattle.expr_nodes.specs.Node.{Node, children, size, total_size}
+use Rattle.expr_nodes.specs.Outcome.{outcome, promises, all_known}
 use Rattle.expr_nodes.specs.Slots.{HoldPromises, pending}
 use Rattle.expr_nodes.specs.EvaluatesNode.{IsReady, HasProgressed, EvaluatesNode, EvaluatesNodes, arguments_of, known_arguments, argument_in, size_in}
 use Rattle.expr_nodes.specs.declared.workspace.Workspace.{Workspace}
 use Rattle.expr_nodes.specs.declared.workspace.PromiseSlot.{PromiseSlot}
-use Rattle.expr_nodes.proofs.NodeLaws.{outcomes_length, argument_known, size_total, two_sizes, take_total, take_next}
-use Rattle.expr_nodes.proofs.Composing.{begun, joined, cheaper, given, halts}
+use Rattle.expr_nodes.proofs.NodeLaws.{size_pos, size_at, child_size, outcome_here, argument_is, outcomes_length, argument_known, size_total, two_sizes, take_total, take_next}
+use Rattle.expr_nodes.proofs.Composing.{begun, ticked, joined, cheaper, given, halts}
 
 -- the argument of a place, as the laws of arguments have it
 pub as_argument : (r : Result Value (Halt EvalFault)) (world : World) (op : Operator) (os : List Evaluated) (k : ℕ) (want : Want) → GivesValue r (argument_in op os k) → GivesValue r (argument_at op (all_known os) k want [] world)
@@ -39,7 +42,27 @@ as_argument r world op os k want g = subst (GivesValue r) (argument_known op os 
 count_known : (n : Node) (bs : List Node) (world : World) (k : ℕ) → length (children n) ≡ k → length (known_arguments n bs world) ≡ k
 count_known n bs world k l = outcomes_length (children n) (promises bs world) world ∙ l
 
--- ---- one and two arguments
+-- an argument that need be no text and no list
+pub plain_evaluates : {limit : ℕ} {bs : List Node} {world : World} {r : Result Value (Halt EvalFault)} {x y : Workspace} {s t : ℕ} (op : Operator) (n b : Node) (k : ℕ) → is_sequence (row (operator_name op)).sequence k ≡ false → slice_get (children n) k ≡ Some b → EvaluatesNode limit bs world r (outcome b (promises bs world) world) (size b) x y s t → EvaluatesNode limit bs world r (argument_in op (arguments_of n bs world) k) (size_in (children n) k) x y s t
+plain_evaluates {limit} {bs} {world} {r} {x} {y} {s} {t} op n b k q e h =
+    let o = outcome b (promises bs world) world in
+    let own = argument_in op (arguments_of n bs world) k in
+    let here : o ≡ own = argument_is op (arguments_of n bs world) k o false (sym q) (outcome_here (children n) k b (promises bs world) world e) in
+    let M : Evaluated → Type 0 = λ m. EvaluatesNode limit bs world r m (size b) x y s t in
+    let C : ℕ → Type 0 = λ c. EvaluatesNode limit bs world r own c x y s t in
+    subst C (sym (size_at (children n) k b e)) (subst M here h)
+
+-- ---- no argument, one and two
+
+none_given : (op : Operator) (ms : List Meaning) (want : Want) (names : BoundOutcomes) (world : World) → length ms ≡ 0 → made_of op want world [] ≡ each_of op ms want names world
+none_given op [] want names world l = refl
+none_given op (me ∷ ms) want names world l = absurd (omega arith)
+
+pub none_evaluates : {limit : ℕ} {bs : List Node} {world : World} {r : Result Value (Halt EvalFault)} {x : Workspace} {s : ℕ} (op : Operator) (n : Node) (want : Want) → length (children n) ≡ 0 → IsReady limit bs world x → GivesValue r (made_of op want world []) → EvaluatesNode limit bs world r (each_of op (known_arguments n bs world) want [] world) (total_size (children n)) x x s s
+none_evaluates {bs = bs} {world} {r} op n want l i g =
+    given 0 (total_size (children n)) i (begun i) (omega arith)
+    (subst (GivesValue r) (none_given op (known_arguments n bs world) want [] world (count_known n bs world 0 l)) g)
+    refl
 
 pub one_evaluates : {limit : ℕ} {bs : List Node} {world : World} {r : Result Value (Halt EvalFault)} {v : Value} {x y : Workspace} {s t : ℕ} (op : Operator) (n : Node) (want : Want) → length (children n) ≡ 1 → IsReady limit bs world x → EvaluatesNode limit bs world (Ok v) (argument_in op (arguments_of n bs world) 0) (size_in (children n) 0) x y s t → GivesValue r (made_of op want world (data_of v ∷ [])) → EvaluatesNode limit bs world r (each_of op (known_arguments n bs world) want [] world) (total_size (children n)) x y s t
 one_evaluates {bs = bs} {world} {r} {v} op n want l i h g =
@@ -108,6 +131,26 @@ values_halt {bs = bs} {world} {r = Err j} {h} {x} {y} op n {k} l p q e i =
     }
 
 -- ---- the first that decides
+
+-- an operator that asserts the form of a value decides by it, and looks at no text or list
+asserted : (op : Operator) (d : Data) → asserts op d ≡ true → (false ≡ is_sequence (row (operator_name op)).sequence 0) × (decided_by (rule_of op) d ≡ Some d)
+asserted operators.Boolean (boolean b) h = (refl, refl)
+asserted operators.Number (number z) h = (refl, refl)
+asserted operators.String (text s) h = (refl, refl)
+asserted _ _ h = absurd (cc)
+
+pub deciding_borrows : {limit : ℕ} {bs : List Node} {world : World} {r : Result Value (Halt EvalFault)} {x : Workspace} {s t : ℕ} (op : Operator) (n : Node) (want : Want) (d : Data) (b : Node) → slice_get (children n) 0 ≡ Some b → IsReady limit bs world x → outcome b (promises bs world) world ≡ Ok d → asserts op d ≡ true → t ≡ s + 1 → GivesValue r (fit want d) → EvaluatesNode limit bs world r (deciding_of op (known_arguments n bs world) want [] world) (total_size (children n)) x x s t
+deciding_borrows {bs = bs} {world} {r} op n want d b e i o a q g =
+    let os = arguments_of n bs world in
+    let sure = asserted op d a in
+    let cost = child_size (children n) 0 b e in
+    let least = size_pos b in
+    let count = outcomes_length (children n) (promises bs world) world in
+    let some = slice_get_within (children n) 0 b e in
+    let first : argument_in op os 0 ≡ Ok d = sym (argument_is op os 0 (outcome b (promises bs world) world) false sure.0 (outcome_here (children n) 0 b (promises bs world) world e)) ∙ o in
+    given 1 (total_size (children n)) i (ticked i q) (omega (arith, cost, least))
+    (subst (GivesValue r) (decision_found op (known_arguments n bs world) 0 want [] world d d (omega (arith, count, some)) refl (sym (argument_known op os 0 want [] world) ∙ first) sure.1) g)
+    refl
 
 pub deciding_halts : {limit : ℕ} {bs : List Node} {world : World} {r : Result Value (Halt EvalFault)} {h : Halt EvalFault} {x y z : Workspace} {s t u : ℕ} (op : Operator) (n : Node) (want : Want) {k : ℕ} → k < length (children n) → HasProgressed limit bs world (total_size (take k (children n))) x y s t → decision_from op (known_arguments n bs world) k want [] world ≡ decision_from op (known_arguments n bs world) 0 want [] world → EvaluatesNode limit bs world (Err h) (argument_in op (arguments_of n bs world) k) (size_in (children n) k) y z t u → IsErrAnd r (λ j. j ≡ h) → EvaluatesNode limit bs world r (deciding_of op (known_arguments n bs world) want [] world) (total_size (children n)) x z s u
 deciding_halts {bs = bs} {world} {r} {h} op n want {k} l p q e j =

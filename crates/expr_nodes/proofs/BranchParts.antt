@@ -33,8 +33,8 @@ use Rattle.expr_nodes.specs.Outcome.{outcome, promises, each_outcome, known, all
 use Rattle.expr_nodes.specs.EvaluatesNode.{IsReady, HasProgressed, EvaluatesNode, arguments_of, known_arguments, outcome_at, size_in}
 use Rattle.expr_nodes.specs.MovedInput.{moved_in}
 use Rattle.expr_nodes.specs.declared.workspace.Workspace.{Workspace}
-use Rattle.expr_nodes.proofs.NodeLaws.{output_known, outcome_here, size_at, size_total, child_size, take_total, take_next, take_within, first_and_rest, size_rest, two_sizes}
-use Rattle.expr_nodes.proofs.Composing.{begun, joined, cheaper, given, fails, halts, ended}
+use Rattle.expr_nodes.proofs.NodeLaws.{size_pos, output_known, outcome_here, size_at, size_total, child_size, take_total, take_next, take_within, first_and_rest, size_rest, two_sizes}
+use Rattle.expr_nodes.proofs.Composing.{begun, ticked, joined, cheaper, given, fails, halts, ended}
 
 known_length : (os : List Evaluated) → length (all_known os) ≡ length os
 known_length [] = refl
@@ -309,6 +309,20 @@ output_follows {bs = bs} {world} n b place e j i q =
     let f = size_total (drop 1 cs) place in
     ended (size b) (size_in cs (place + 1)) (total_size cs) j.progress i (omega (arith, a, c, d, f)) q j.stands
 
+first_sized : (ns : List Node) → 1 ≤ length ns → 1 ≤ size_in ns 0
+first_sized [] h = absurd (omega arith)
+first_sized (n ∷ ns) h = size_pos n
+
+-- the input is there, and its step is counted
+pub output_alone : {limit : ℕ} {bs : List Node} {world : World} {r : Result Value (Halt EvalFault)} {m : Evaluated} {x z : Workspace} {s t u : ℕ} (n : Node) (place : ℕ) → IsReady limit bs world x → 1 ≤ length (children n) → t ≡ s + 1 → EvaluatesNode limit bs world r (outcome_at (arguments_of n bs world) (place + 1)) (size_in (children n) (place + 1)) x z t u → outcome_at (arguments_of n bs world) (place + 1) ≡ m → EvaluatesNode limit bs world r m (total_size (children n)) x z s u
+output_alone n place f l p i q =
+    let cs = children n in
+    let b = first_sized cs l in
+    let c = first_and_rest cs in
+    let d = size_rest cs place in
+    let e = size_total (drop 1 cs) place in
+    ended 1 (size_in cs (place + 1)) (total_size cs) (ticked f p) i (omega (arith, b, c, d, e)) q refl
+
 -- what an input that was evaluated gives
 pub input_gives : {limit cost : ℕ} {bs : List Node} {world : World} {v : Value} {x y : Workspace} {s t : ℕ} (n b : Node) → slice_get (children n) 0 ≡ Some b → EvaluatesNode limit bs world (Ok v) (outcome b (promises bs world) world) cost x y s t → outcome_at (arguments_of n bs world) 0 ≡ Ok (data_of v)
 input_gives {bs = bs} {world} n b e j = outcome_here (children n) 0 b (promises bs world) world e ∙ j.gives
@@ -380,3 +394,22 @@ both_evaluate {bs = bs} {world} {r} {v} {w} n place a a0 a1 f i j g q =
     given (size_in cs (place + 1) + size_in cs (place + 1 + 1)) (total_size (drop 1 cs)) f (joined (size_in cs (place + 1)) (size_in cs (place + 1 + 1)) i.progress j.progress) (two_outputs cs place)
     (subst (GivesValue r) (sym (λ k. between_values a a0 a1 (lower k) (upper k)) ∙ q) g)
     (j.stands ∙ i.stands)
+
+-- both outputs are there, and their steps are counted
+count_sized : (ns : List Node) → length ns ≤ total_size ns
+count_sized [] = omega arith
+count_sized (n ∷ ns) = let a = size_pos n in let b = count_sized ns in omega arith
+
+rest_sized : (ns : List Node) → length ns ≤ 1 + total_size (drop 1 ns)
+rest_sized [] = omega arith
+rest_sized (n ∷ ns) = let b = count_sized ns in omega arith
+
+pub both_there : {limit : ℕ} {bs : List Node} {world : World} {r : Result Value (Halt EvalFault)} {m : Evaluated} {x : Workspace} {s t u : ℕ} (n : Node) (place : ℕ) (a a0 a1 : ℤ) → IsReady limit bs world x → t ≡ s + 1 → u ≡ t + 1 → place + 2 < length (children n) → GivesValue r (between_values a a0 a1 (outcome_at (arguments_of n bs world) (place + 1)) (outcome_at (arguments_of n bs world) (place + 2))) → between_places n bs world a a0 a1 place ≡ m → EvaluatesNode limit bs world r m (total_size (drop 1 (children n))) x x s u
+both_there {bs = bs} {world} {r} n place a a0 a1 f p q l g e =
+    let cs = children n in
+    let w = rest_sized cs in
+    let next : place + 2 ≡ place + 1 + 1 = omega arith in
+    let upper = ap (λ (k : ℕ). outcome_at (arguments_of n bs world) k) next ∙ stop_output n bs world (place + 1) in
+    given 2 (total_size (drop 1 cs)) f (joined 1 1 (ticked f p) (ticked f q)) (omega (arith, l, w))
+    (subst (GivesValue r) ((λ k. between_values a a0 a1 (stop_output n bs world place k) (upper k)) ∙ e) g)
+    refl

@@ -12,4 +12,6 @@ pub mod Composing
 pub mod ArgumentParts
 pub mod BindingParts
 pub mod BranchParts
+pub mod BorrowedLaws
+pub mod SumLaws
 pub mod BoxedLaws

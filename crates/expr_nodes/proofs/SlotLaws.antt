@@ -12,6 +12,10 @@ use Rattle.expr_nodes.specs.declared.workspace.PromiseSlot.{PromiseSlot}
 use Rattle.expr_nodes.specs.declared.workspace.PromiseSlot.TheVariants.{Waiting, Done}
 use Rattle.expr_nodes.proofs.BindingPlaces.{node_or}
 
+pub none_there : {A : Type 0} (xs : List A) → length xs ≡ 0 → xs ≡ []
+none_there [] h = refl
+none_there (x ∷ xs) h = absurd (omega arith)
+
 at_set : (ss : List PromiseSlot) (j : ℕ) (x : PromiseSlot) (i : ℕ) → j < i → slice_get (set ss j x) i ≡ slice_get ss i
 at_set [] j x i h = refl
 at_set (s ∷ ss) zero x zero h = absurd (omega arith)

@@ -10,18 +10,20 @@ ghost use Rattle.expr_nodes.specs.EvaluatesNode.{IsReady, EvaluatesNode, Evaluat
 ghost use Rattle.expr_nodes.specs.EvaluatesNode.{known_arguments, arguments_of, argument_in, size_in};
 
 use crate::access::{Bindings, NodeHandle};
+use crate::borrowed::borrowed_decision;
 use crate::evaluation::Surroundings;
-use crate::leaves::{sequence_value, undecided_value};
+use crate::leaves::{has_sequence, pair_value, sequence_value, undecided_value};
 use crate::workspace::Workspace;
 use expr_syntax::Operator;
-use operator_rules::{WorldView, decided, fitted, is_sequence, node_value};
+use operator_rules::{WorldView, decided, fitted, fitted_copy, is_sequence, node_value};
 use operator_values::Halt;
 use outside_io::Steps;
 use prop_values::{Value, Want};
 use std::sync::ledger::Ledger;
 
 impl Workspace {
-    /// A node whose operator evaluates all its arguments. The values of one and of two take no memory.
+    /// A node whose operator evaluates all its arguments. The values of up to two take no memory, where none has to be a text or
+    /// a list.
     #[tactic(auto, using(crate::proofs::NodeLaws::below_at, crate::proofs::NodeLaws::child_size))]
     #[cycle(nodes)]
     pub(crate) fn evaluate_each<N: NodeHandle, B: Bindings<N>, W: WorldView, L: Ledger>(
@@ -42,15 +44,22 @@ impl Workspace {
             want.now [] (W.world around.now.world.now))
             (total_size (children (N.node tree))) self.old self.new steps.old steps.new }
     {
+        if has_sequence(op) {
+            return self.evaluate_many(tree, op, want, around, steps);
+        }
         match tree.count() {
+            0 => node_value(self.alloc, op, &[], want, around.world),
             1 => {
-                let value = self.evaluate_argument(tree, op, 0, around, steps)?;
+                let argument = tree.child(0);
+                let value = self.evaluate_node(argument, around, steps)?;
                 node_value(self.alloc, op, &[value], want, around.world)
             }
             2 => {
-                let first = self.evaluate_argument(tree, op, 0, around, steps)?;
-                let second = self.evaluate_argument(tree, op, 1, around, steps)?;
-                node_value(self.alloc, op, &[first, second], want, around.world)
+                let left = tree.child(0);
+                let right = tree.child(1);
+                let first = self.evaluate_node(left, around, steps)?;
+                let second = self.evaluate_node(right, around, steps)?;
+                pair_value(self.alloc, op, first, second, want, around.world)
             }
             _ => self.evaluate_many(tree, op, want, around, steps),
         }
@@ -140,10 +149,41 @@ impl Workspace {
         sequence_value(value)
     }
 
-    /// A node whose operator stops at the argument that decides.
+    /// A node whose operator stops at the argument that decides. The first is borrowed where it decides as it is.
     #[tactic(auto, using(crate::proofs::NodeLaws::below_at, crate::proofs::NodeLaws::child_size))]
     #[cycle(nodes)]
     pub(crate) fn evaluate_deciding<N: NodeHandle, B: Bindings<N>, W: WorldView, L: Ledger>(
+        &mut self,
+        tree: N,
+        op: &Operator,
+        want: &Want,
+        around: &Surroundings<'_, B, W>,
+        steps: &mut Steps<L>,
+    ) -> Result<Value, Halt>
+        requires below { EachAsksBelow around.now.limit (children (N.node tree)) }
+        requires ready { IsReady around.now.limit (B.listed around.now.bindings.now)
+            (W.world around.now.world.now) self.old }
+        ensures { EvaluatesNode around.now.limit (B.listed around.now.bindings.now)
+            (W.world around.now.world.now) result
+            (deciding_of op.now
+            (known_arguments (N.node tree) (B.listed around.now.bindings.now) (W.world around.now.world.now))
+            want.now [] (W.world around.now.world.now))
+            (total_size (children (N.node tree))) self.old self.new steps.old steps.new }
+    {
+        if tree.count() > 0 {
+            let first = tree.child(0);
+            if let Some(value) = borrowed_decision(op, &first, around.world) {
+                steps.tick();
+                return fitted_copy(self.alloc, value, want);
+            }
+        }
+        self.evaluate_until_decided(tree, op, want, around, steps)
+    }
+
+    // The same, of arguments that are evaluated one after the other.
+    #[tactic(auto, using(crate::proofs::NodeLaws::below_at, crate::proofs::NodeLaws::child_size))]
+    #[cycle(nodes)]
+    fn evaluate_until_decided<N: NodeHandle, B: Bindings<N>, W: WorldView, L: Ledger>(
         &mut self,
         tree: N,
         op: &Operator,

@@ -11,13 +11,14 @@ ghost use Rattle.expr_nodes.specs.EvaluatesNode.{IsReady, EvaluatesNode};
 ghost use Rattle.expr_nodes.specs.EvaluatesNode.{known_arguments, arguments_of, outcome_at, size_in};
 
 use crate::access::{Bindings, NodeHandle};
+use crate::borrowed::{between_there, constant_in, output_there};
 use crate::evaluation::Surroundings;
 use crate::leaves::moved_input;
 use crate::workspace::Workspace;
 use expr_syntax::{Labels, Ramp};
 use fixed_num::Fixed;
 use interpolate_fixed::{StopPlace, step_place, stop_place};
-use operator_rules::{WorldView, between, condition, fitted, number_of};
+use operator_rules::{WorldView, between, condition, fitted, fitted_copy, number_of};
 use operator_values::Halt;
 use outside_io::Steps;
 use prop_values::{EvalFault, Value, Want};
@@ -82,6 +83,10 @@ impl Workspace {
         let count = tree.count();
         if count == 0 {
             return Err(Halt::Fault(EvalFault::WrongType));
+        }
+        if let Some(place) = output_there(&tree, labels, around.world) {
+            steps.tick();
+            return self.evaluate_output(tree, place, around, steps);
         }
         let value = self.evaluate_node(tree.child(0), around, steps)?;
         let place = labels.output_of(&value, (count - 1).saturating_sub(1));
@@ -172,6 +177,11 @@ impl Workspace {
             StopPlace::First => self.evaluate_output(tree, 0, around, steps),
             StopPlace::Last => self.evaluate_output(tree, inputs.len() - 1, around, steps),
             StopPlace::Between(i) => {
+                if let Some(value) = between_there(self.alloc, &tree, inputs, at, i) {
+                    steps.tick();
+                    steps.tick();
+                    return value;
+                }
                 let lower = self.evaluate_output(tree, i, around, steps)?;
                 let upper = self.evaluate_output(tree, i + 1, around, steps)?;
                 between(self.alloc, inputs, at, i, &lower, &upper)
@@ -201,7 +211,12 @@ impl Workspace {
     {
         let outputs = tree.count().saturating_sub(1);
         if place < outputs {
-            self.evaluate_node(tree.child(place + 1), around, steps)
+            let output = tree.child(place + 1);
+            if let Some(value) = constant_in(&output) {
+                steps.tick();
+                return fitted_copy(self.alloc, value, &Want::Any);
+            }
+            self.evaluate_node(output, around, steps)
         } else {
             Err(Halt::Fault(EvalFault::WrongType))
         }

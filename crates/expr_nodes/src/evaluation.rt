@@ -11,6 +11,7 @@ ghost use Rattle.expr_nodes.specs.Limits.{AsksBelow, EachAsksBelow, AskEarlier, 
 ghost use Rattle.expr_nodes.specs.EvaluatesNode.{IsReady, EvaluatesNode, known_arguments, outcome_at};
 
 use crate::access::{Bindings, NodeForm, NodeHandle};
+use crate::borrowed::number_there;
 use crate::leaves::property_value;
 use crate::workspace::Workspace;
 use expr_syntax::Operator;
@@ -92,7 +93,10 @@ impl Workspace {
                 key,
                 &want,
             ),
-            NodeForm::Inner(op, want) => self.evaluate_inner(tree, op, &want, around, steps),
+            NodeForm::Inner(op, want) => match number_there(&tree, op, &want, around.world) {
+                Some(number) => Ok(Value::Num(number)),
+                None => self.evaluate_inner(tree, op, &want, around, steps),
+            },
         }
     }
 

@@ -26,13 +26,16 @@
 //!
 //! The functions are those of `expr_plain`, over nodes (`evaluation.rt`, `arguments.rt`, `branches.rt`), and what
 //! they make of values is in `operator_rules`. They are methods of the `Workspace`, which has what changes: a slot
-//! for each binding, and the values of arguments whose node is not evaluated yet.
+//! for each binding, and the values of arguments whose node is not evaluated yet. A constant, or a property that is
+//! wanted as it is, is read where it is (`borrowed.rt`): as the first argument of an assertion, the input of a `match`
+//! and an output of an `interpolate`.
 //!
 //! The text to believe is in `specs/`: `Node`, `Outcome`, `Limits`, `Resolving`, `Resolved`, `Evaluators`.
 #![tactic(auto)]
 
 mod access;
 mod arguments;
+mod borrowed;
 mod boxed;
 mod boxed_expression;
 mod boxed_node;

@@ -50,8 +50,11 @@ impl Workspace {
     pub(crate) fn begin(&mut self, count: usize) -> Result<(), AllocError>
         ensures { IfOk result (λ _. self.new.slots.items ≡ replicate count Waiting) }
     {
-        self.values.clear();
-        self.slots.clear();
+        empty(&mut self.values);
+        empty(&mut self.slots);
+        if count == 0 {
+            return Ok(());
+        }
         self.slots.reserve(count)?;
         for _slot in 0..count {
             self.slots.push(PromiseSlot::Waiting)?;
@@ -102,5 +105,15 @@ impl Workspace {
         let value = node_value(self.alloc, op, &values[base..], want, world);
         self.values.truncate(base);
         value
+    }
+}
+
+// Lets go of all items. Most evaluations leave none.
+#[tactic(auto, using(crate::proofs::SlotLaws::none_there))]
+fn empty<T: Drop>(items: &mut Vec<T>)
+    ensures { items.new.items ≡ [] }
+{
+    if !items.is_empty() {
+        items.clear();
     }
 }

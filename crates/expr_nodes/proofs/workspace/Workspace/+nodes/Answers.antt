@@ -13,7 +13,7 @@ use Rattle.eval_face.specs.Lookups.{entry_at}
 use Rattle.eval_face.specs.Meaning.{meaning_by}
 use Rattle.eval_face.specs.Meanings.{as_sequence}
 use Rattle.eval_face.specs.Rules.{rule_of}
-use Rattle.eval_face.specs.Branches.{output_at, ramp_at}
+use Rattle.eval_face.specs.Branches.{output_at, ramp_at, between_values}
 use Rattle.interpolate_fixed.specs.Places.{input_at, place_of}
 use Rattle.operator_values.specs.Ramps.{between_of}
 use Rattle.operator_rules.specs.ProgramRules.{rule_in}
@@ -31,8 +31,8 @@ use Rattle.expr_nodes.proofs.NodeLaws.{inner_outcome, inner_size, inner_below, a
 use Rattle.expr_nodes.proofs.SlotLaws.{reach_at}
 use Rattle.expr_nodes.proofs.Composing.{begun, ticked, cheaper, given, halts, ended}
 use Rattle.expr_nodes.proofs.BindingParts.{slot_within, binding_ready, asked_before, asked_halts, asked_fails, asked_evaluates}
-use Rattle.expr_nodes.proofs.ArgumentParts.{one_evaluates, one_halts, two_evaluate, first_halts, second_halts, values_begin, values_halt, values_fail, one_further, many_halts, many_evaluates, deciding_halts, deciding_evaluates, decides_later, none_decides}
-use Rattle.expr_nodes.proofs.BranchParts.{count_here, no_match, no_step, no_ramp, case_any, match_any, step_any, case_halts, case_faults, case_chooses, case_later, case_further, case_ends, case_fails, input_halts, input_fails, output_follows, input_gives, match_halted, match_with, step_halted, step_with, ramp_halted, ramp_with, ramp_halts, ramp_evaluates, stop_alone, lower_halts, upper_halts, both_evaluate}
+use Rattle.expr_nodes.proofs.ArgumentParts.{plain_evaluates, none_evaluates, one_evaluates, one_halts, two_evaluate, first_halts, second_halts, values_begin, values_halt, values_fail, one_further, many_halts, many_evaluates, deciding_borrows, deciding_halts, deciding_evaluates, decides_later, none_decides}
+use Rattle.expr_nodes.proofs.BranchParts.{count_here, no_match, no_step, no_ramp, case_any, match_any, step_any, case_halts, case_faults, case_chooses, case_later, case_further, case_ends, case_fails, input_halts, input_fails, output_follows, output_alone, input_gives, match_halted, match_with, step_halted, step_with, ramp_halted, ramp_with, ramp_halts, ramp_evaluates, stop_alone, lower_halts, upper_halts, both_evaluate, both_there}
 use Rattle.expr_nodes.proofs.workspace.Workspace.+nodes.Goals as goal
 
 -- A node.
@@ -50,6 +50,12 @@ evaluate_node-evaluate_asked-requires g t c =
     let limit = c.args.around.now.limit in
     let smaller : reach limit bs + 1 < t = omega arith in
     search (rules, smaller, asked_below limit n c.in-Asked.slot c.in-Asked.want e c.requires.below, c.requires.ready)
+
+pub evaluate_node-number_there-requires : goal.evaluate_node-number_there-requires
+evaluate_node-number_there-requires g t c =
+    let n = g.N.NodeHandle.node c.args.tree in
+    let F : NodeForm → Type 0 = λ f. IsForm f n in
+    subst F c.in-Inner.is c.form.ensures
 
 pub evaluate_node-evaluate_inner-requires : goal.evaluate_node-evaluate_inner-requires
 evaluate_node-evaluate_inner-requires g t c =
@@ -109,8 +115,15 @@ evaluate_node-returns-in-Property-clause-all g t c =
     let key = ap (λ ps. fit c.in-Property.want (entry_at c.in-Property.key.now (pairs_of ps))) c.properties.ensures in
     given 1 (size n) c.requires.ready (ticked c.requires.ready c.tick.ensures) (size_pos n) (subst (GivesValue c.property_value.result) (key ∙ sym m) c.property_value.ensures) refl
 
-pub evaluate_node-returns-in-Inner-clause-all : goal.evaluate_node-returns-in-Inner-clause-all
-evaluate_node-returns-in-Inner-clause-all g t c =
+pub evaluate_node-returns-in-Some-clause-all : goal.evaluate_node-returns-in-Some-clause-all
+evaluate_node-returns-in-Some-clause-all g t c =
+    let n = g.N.NodeHandle.node c.args.tree in
+    let bs = g.B.Bindings.listed c.args.around.now.bindings.now in
+    let world = g.W.WorldView.world c.args.around.now.world.now in
+    given 1 (size n) c.requires.ready (ticked c.requires.ready c.tick.ensures) (size_pos n) (c.in-Some.ensures (promises bs world)) refl
+
+pub evaluate_node-returns-in-None-clause-all : goal.evaluate_node-returns-in-None-clause-all
+evaluate_node-returns-in-None-clause-all g t c =
     let n = g.N.NodeHandle.node c.args.tree in
     let bs = g.B.Bindings.listed c.args.around.now.bindings.now in
     let world = g.W.WorldView.world c.args.around.now.world.now in
@@ -252,45 +265,69 @@ evaluate_inner-returns-in-Ramp g t c =
 
 -- All arguments.
 
+pub evaluate_each-returns-in-0 : goal.evaluate_each-returns-in-0
+evaluate_each-returns-in-0 g t c =
+    let n = g.N.NodeHandle.node c.args.tree in
+    let bs = g.B.Bindings.listed c.args.around.now.bindings.now in
+    let world = g.W.WorldView.world c.args.around.now.world.now in
+    none_evaluates c.args.op.now n c.args.want.now (sym c.count.ensures ∙ c.in-0.is) c.requires.ready c.node_value.ensures
+
 pub evaluate_each-returns-in_err-value-in-1 : goal.evaluate_each-returns-in_err-value-in-1
 evaluate_each-returns-in_err-value-in-1 g t c =
     let n = g.N.NodeHandle.node c.args.tree in
     let bs = g.B.Bindings.listed c.args.around.now.bindings.now in
     let world = g.W.WorldView.world c.args.around.now.world.now in
-    let cs = children n in
-    one_halts c.args.op.now n c.args.want.now (sym c.count.ensures ∙ c.in-1.is) c.requires.ready c.in_err-value-in-1.ensures c.from_residual.ensures.1
+    let op = c.args.op.now in
+    let plain = c.has_sequence.ensures c.if-has_sequence.false in
+    let len = sym c.count.ensures ∙ c.in-1.is in
+    let only = plain_evaluates op n (g.N.NodeHandle.node c.child-argument.result) 0 (plain 0) c.child-argument.ensures c.in_err-value-in-1.ensures.all in
+    one_halts op n c.args.want.now len c.requires.ready only c.from_residual.ensures.1
 
 pub evaluate_each-returns-in_ok-value-in-1 : goal.evaluate_each-returns-in_ok-value-in-1
 evaluate_each-returns-in_ok-value-in-1 g t c =
     let n = g.N.NodeHandle.node c.args.tree in
     let bs = g.B.Bindings.listed c.args.around.now.bindings.now in
     let world = g.W.WorldView.world c.args.around.now.world.now in
-    let cs = children n in
-    one_evaluates c.args.op.now n c.args.want.now (sym c.count.ensures ∙ c.in-1.is) c.requires.ready c.in_ok-value-in-1.ensures c.node_value.ensures
+    let op = c.args.op.now in
+    let plain = c.has_sequence.ensures c.if-has_sequence.false in
+    let len = sym c.count.ensures ∙ c.in-1.is in
+    let only = plain_evaluates op n (g.N.NodeHandle.node c.child-argument.result) 0 (plain 0) c.child-argument.ensures c.in_ok-value-in-1.ensures.all in
+    one_evaluates op n c.args.want.now len c.requires.ready only c.node_value-in-1.ensures
 
 pub evaluate_each-returns-in_err-first-in-2 : goal.evaluate_each-returns-in_err-first-in-2
 evaluate_each-returns-in_err-first-in-2 g t c =
     let n = g.N.NodeHandle.node c.args.tree in
     let bs = g.B.Bindings.listed c.args.around.now.bindings.now in
     let world = g.W.WorldView.world c.args.around.now.world.now in
-    let cs = children n in
-    first_halts c.args.op.now n c.args.want.now (sym c.count.ensures ∙ c.in-2.is) c.requires.ready c.in_err-first-in-2.ensures c.from_residual-in_err-first-in-2.ensures.1
+    let op = c.args.op.now in
+    let plain = c.has_sequence.ensures c.if-has_sequence.false in
+    let len = sym c.count.ensures ∙ c.in-2.is in
+    let before = plain_evaluates op n (g.N.NodeHandle.node c.child-left.result) 0 (plain 0) c.child-left.ensures c.in_err-first-in-2.ensures.all in
+    first_halts op n c.args.want.now len c.requires.ready before c.from_residual-in_err-first-in-2.ensures.1
 
 pub evaluate_each-returns-in_err-second-in-2 : goal.evaluate_each-returns-in_err-second-in-2
 evaluate_each-returns-in_err-second-in-2 g t c =
     let n = g.N.NodeHandle.node c.args.tree in
     let bs = g.B.Bindings.listed c.args.around.now.bindings.now in
     let world = g.W.WorldView.world c.args.around.now.world.now in
-    let cs = children n in
-    second_halts c.args.op.now n c.args.want.now (sym c.count.ensures ∙ c.in-2.is) c.in_ok-first-in-2.ensures c.in_err-second-in-2.ensures c.from_residual-in_err-second-in-2.ensures.1
+    let op = c.args.op.now in
+    let plain = c.has_sequence.ensures c.if-has_sequence.false in
+    let len = sym c.count.ensures ∙ c.in-2.is in
+    let before = plain_evaluates op n (g.N.NodeHandle.node c.child-left.result) 0 (plain 0) c.child-left.ensures c.in_ok-first-in-2.ensures.all in
+    let later = plain_evaluates op n (g.N.NodeHandle.node c.child-right.result) 1 (plain 1) c.child-right.ensures c.in_err-second-in-2.ensures.all in
+    second_halts op n c.args.want.now len before later c.from_residual-in_err-second-in-2.ensures.1
 
 pub evaluate_each-returns-in_ok-second-in-2 : goal.evaluate_each-returns-in_ok-second-in-2
 evaluate_each-returns-in_ok-second-in-2 g t c =
     let n = g.N.NodeHandle.node c.args.tree in
     let bs = g.B.Bindings.listed c.args.around.now.bindings.now in
     let world = g.W.WorldView.world c.args.around.now.world.now in
-    let cs = children n in
-    two_evaluate c.args.op.now n c.args.want.now (sym c.count.ensures ∙ c.in-2.is) c.requires.ready c.in_ok-first-in-2.ensures c.in_ok-second-in-2.ensures c.node_value-in-2.ensures
+    let op = c.args.op.now in
+    let plain = c.has_sequence.ensures c.if-has_sequence.false in
+    let len = sym c.count.ensures ∙ c.in-2.is in
+    let before = plain_evaluates op n (g.N.NodeHandle.node c.child-left.result) 0 (plain 0) c.child-left.ensures c.in_ok-first-in-2.ensures.all in
+    let later = plain_evaluates op n (g.N.NodeHandle.node c.child-right.result) 1 (plain 1) c.child-right.ensures c.in_ok-second-in-2.ensures.all in
+    two_evaluate op n c.args.want.now len c.requires.ready before later c.pair_value.ensures
 
 pub evaluate_many-returns-in_err-evaluate_values : goal.evaluate_many-returns-in_err-evaluate_values
 evaluate_many-returns-in_err-evaluate_values g t c =
@@ -439,16 +476,25 @@ evaluate_argument-returns g t c =
 
 -- The first argument that decides.
 
-pub evaluate_deciding-loop-place-init : goal.evaluate_deciding-loop-place-init
-evaluate_deciding-loop-place-init g t c =
+pub evaluate_deciding-returns-in-Some : goal.evaluate_deciding-returns-in-Some
+evaluate_deciding-returns-in-Some g t c =
+    let n = g.N.NodeHandle.node c.args.tree in
+    let bs = g.B.Bindings.listed c.args.around.now.bindings.now in
+    let world = g.W.WorldView.world c.args.around.now.world.now in
+    let b = g.N.NodeHandle.node c.child-first.result in
+    let d = data_of c.in-Some.value.now in
+    deciding_borrows c.args.op.now n c.args.want.now d b c.child-first.ensures c.requires.ready (c.in-Some.ensures.value (promises bs world)) c.in-Some.ensures.asserted c.tick.ensures c.fitted_copy.ensures
+
+pub evaluate_until_decided-loop-place-init : goal.evaluate_until_decided-loop-place-init
+evaluate_until_decided-loop-place-init g t c =
     let n = g.N.NodeHandle.node c.args.tree in
     let bs = g.B.Bindings.listed c.args.around.now.bindings.now in
     let world = g.W.WorldView.world c.args.around.now.world.now in
     let cs = children n in
     record { same = refl; progress = begun c.requires.ready; ready = c.requires.ready; stands = refl }
 
-pub evaluate_deciding-evaluate_argument-requires : goal.evaluate_deciding-evaluate_argument-requires
-evaluate_deciding-evaluate_argument-requires g t c =
+pub evaluate_until_decided-evaluate_argument-requires : goal.evaluate_until_decided-evaluate_argument-requires
+evaluate_until_decided-evaluate_argument-requires g t c =
     let n = g.N.NodeHandle.node c.args.tree in
     let bs = g.B.Bindings.listed c.args.around.now.bindings.now in
     let world = g.W.WorldView.world c.args.around.now.world.now in
@@ -458,24 +504,24 @@ evaluate_deciding-evaluate_argument-requires g t c =
     let within : c.loop-place.place < length cs = omega (arith, c.loop-place-test.true, c.count-count.ensures) in
     search (rules, smaller, within, c.requires.below, c.loop-place.invariant.ready)
 
-pub evaluate_deciding-returns-in_err-value : goal.evaluate_deciding-returns-in_err-value
-evaluate_deciding-returns-in_err-value g t c =
+pub evaluate_until_decided-returns-in_err-value : goal.evaluate_until_decided-returns-in_err-value
+evaluate_until_decided-returns-in_err-value g t c =
     let n = g.N.NodeHandle.node c.args.tree in
     let bs = g.B.Bindings.listed c.args.around.now.bindings.now in
     let world = g.W.WorldView.world c.args.around.now.world.now in
     let cs = children n in
     deciding_halts c.args.op.now n c.args.want.now (omega (arith, c.loop-place-test.true, c.count-count.ensures)) c.loop-place.invariant.progress c.loop-place.invariant.same c.in_err-value.ensures c.from_residual.ensures.1
 
-pub evaluate_deciding-returns-in-Some : goal.evaluate_deciding-returns-in-Some
-evaluate_deciding-returns-in-Some g t c =
+pub evaluate_until_decided-returns-in-Some : goal.evaluate_until_decided-returns-in-Some
+evaluate_until_decided-returns-in-Some g t c =
     let n = g.N.NodeHandle.node c.args.tree in
     let bs = g.B.Bindings.listed c.args.around.now.bindings.now in
     let world = g.W.WorldView.world c.args.around.now.world.now in
     let cs = children n in
     deciding_evaluates c.in-Some.found c.args.op.now n c.args.want.now (omega (arith, c.loop-place-test.true, c.count-count.ensures)) c.requires.ready c.loop-place.invariant.progress c.loop-place.invariant.stands c.loop-place.invariant.same c.in_ok-value.ensures c.in-Some.ensures c.fitted.ensures
 
-pub evaluate_deciding-loop-place-preserved : goal.evaluate_deciding-loop-place-preserved
-evaluate_deciding-loop-place-preserved g t c =
+pub evaluate_until_decided-loop-place-preserved : goal.evaluate_until_decided-loop-place-preserved
+evaluate_until_decided-loop-place-preserved g t c =
     let n = g.N.NodeHandle.node c.args.tree in
     let bs = g.B.Bindings.listed c.args.around.now.bindings.now in
     let world = g.W.WorldView.world c.args.around.now.world.now in
@@ -490,8 +536,8 @@ evaluate_deciding-loop-place-preserved g t c =
       stands = here.stands ∙ before.stands;
     }
 
-pub evaluate_deciding-returns : goal.evaluate_deciding-returns
-evaluate_deciding-returns g t c =
+pub evaluate_until_decided-returns : goal.evaluate_until_decided-returns
+evaluate_until_decided-returns g t c =
     let n = g.N.NodeHandle.node c.args.tree in
     let bs = g.B.Bindings.listed c.args.around.now.bindings.now in
     let world = g.W.WorldView.world c.args.around.now.world.now in
@@ -624,6 +670,16 @@ evaluate_match-returns-then-count-eq0 g t c =
     let cs = children n in
     given 0 (total_size cs) c.requires.ready (begun c.requires.ready) (omega arith) (no_match c.args.labels.now (arguments_of n bs world) world (count_here n bs world ∙ (sym c.count-count.ensures ∙ c.if-count-eq0.true))) refl
 
+pub evaluate_match-output_there-requires : goal.evaluate_match-output_there-requires
+evaluate_match-output_there-requires g t c = omega (arith, c.if-count-eq0.false, c.count-count.ensures)
+
+pub evaluate_match-returns-in-Some : goal.evaluate_match-returns-in-Some
+evaluate_match-returns-in-Some g t c =
+    let n = g.N.NodeHandle.node c.args.tree in
+    let bs = g.B.Bindings.listed c.args.around.now.bindings.now in
+    let world = g.W.WorldView.world c.args.around.now.world.now in
+    output_alone n c.in-Some.place c.requires.ready (omega (arith, c.if-count-eq0.false, c.count-count.ensures)) c.tick.ensures c.evaluate_output.ensures (c.in-Some.ensures (promises bs world))
+
 pub evaluate_match-returns-in_err-value : goal.evaluate_match-returns-in_err-value
 evaluate_match-returns-in_err-value g t c =
     let n = g.N.NodeHandle.node c.args.tree in
@@ -650,7 +706,7 @@ evaluate_match-returns g t c =
     let d = data_of c.in_ok-value.value in
     let last = c.saturating_sub.ensures ∙ ap (λ (k : ℕ). k - 1 - 1) (c.count-count.ensures ∙ sym counted) in
     let place = c.output_of-place.ensures ∙ ap (output_of c.args.labels.now d) last in
-    output_follows n b c.output_of-place.result c.child.ensures j c.evaluate_output.ensures (match_with c.args.labels.now os world d c.output_of-place.result some (input_gives n b c.child.ensures j) place)
+    output_follows n b c.output_of-place.result c.child.ensures j c.evaluate_output-2.ensures (match_with c.args.labels.now os world d c.output_of-place.result some (input_gives n b c.child.ensures j) place)
 
 pub evaluate_step-evaluate_node-requires : goal.evaluate_step-evaluate_node-requires
 evaluate_step-evaluate_node-requires g t c =
@@ -809,6 +865,22 @@ evaluate_stop-returns-in-Last g t c =
     let last = ap (λ (xs : List ℤ). length xs - 1) same in
     stop_alone n (length c.inputs-inputs.result.now - 1) c.requires.ready c.evaluate_output-in-Last.ensures (ap (λ (k : ℕ). output_at outs k Any [] world) last ∙ m)
 
+pub evaluate_stop-returns-in-Some : goal.evaluate_stop-returns-in-Some
+evaluate_stop-returns-in-Some g t c =
+    let n = g.N.NodeHandle.node c.args.tree in
+    let bs = g.B.Bindings.listed c.args.around.now.bindings.now in
+    let world = g.W.WorldView.world c.args.around.now.world.now in
+    let ins = c.args.ramp.now.1 in
+    let at = c.args.at in
+    let os = arguments_of n bs world in
+    let outs = drop 1 (known_arguments n bs world) in
+    let same = c.inputs-inputs.ensures.inputs in
+    let p = sym (ap (λ x. place_of x at) (sym same) ∙ (sym c.stop_place.ensures.place ∙ c.in-Between.is)) in
+    let m = ap (λ x. ramp_at ins outs at x Any [] world) p in
+    let i = c.in-Between.i in
+    let G : List ℤ → Type 0 = λ xs. GivesValue c.in-Some.value (between_values at (input_at xs i) (input_at xs (i + 1)) (outcome_at os (i + 1)) (outcome_at os (i + 2))) in
+    both_there n i at (input_at ins i) (input_at ins (i + 1)) c.requires.ready c.tick.ensures c.tick-in-Some.ensures c.in-Some.ensures.within (subst G same (c.in-Some.ensures.given (promises bs world) world)) m
+
 pub evaluate_stop-returns-in_err-lower-in-Between : goal.evaluate_stop-returns-in_err-lower-in-Between
 evaluate_stop-returns-in_err-lower-in-Between g t c =
     let n = g.N.NodeHandle.node c.args.tree in
@@ -868,22 +940,35 @@ evaluate_output-evaluate_node-requires g t c =
     let world = g.W.WorldView.world c.args.around.now.world.now in
     let cs = children n in
     let k = c.args.place in
-    let b = g.N.NodeHandle.node c.child.result in
+    let b = g.N.NodeHandle.node c.child-output.result in
     let d = c.decreases in
-    let w = child_size cs (k + 1) b c.child.ensures in
+    let w = child_size cs (k + 1) b c.child-output.ensures in
     let smaller : 6 * size b + reach c.args.around.now.limit bs < t = omega arith in
-    search (rules, smaller, below_at c.args.around.now.limit cs (k + 1) b c.requires.below c.child.ensures, c.requires.ready)
+    search (rules, smaller, below_at c.args.around.now.limit cs (k + 1) b c.requires.below c.child-output.ensures, c.requires.ready)
 
-pub evaluate_output-returns-then-place-outputs : goal.evaluate_output-returns-then-place-outputs
-evaluate_output-returns-then-place-outputs g t c =
+pub evaluate_output-returns-in-Some : goal.evaluate_output-returns-in-Some
+evaluate_output-returns-in-Some g t c =
     let n = g.N.NodeHandle.node c.args.tree in
     let bs = g.B.Bindings.listed c.args.around.now.bindings.now in
     let world = g.W.WorldView.world c.args.around.now.world.now in
     let cs = children n in
     let k = c.args.place in
-    let b = g.N.NodeHandle.node c.child.result in
-    let w = size_at cs (k + 1) b c.child.ensures in
-    ended 0 (size b) (size_in cs (k + 1)) (begun c.requires.ready) c.evaluate_node.ensures.all (omega (arith, w)) (sym (outcome_here cs (k + 1) b (promises bs world) world c.child.ensures)) refl
+    let b = g.N.NodeHandle.node c.child-output.result in
+    let w = size_at cs (k + 1) b c.child-output.ensures in
+    let s = size_pos b in
+    let o = outcome_here cs (k + 1) b (promises bs world) world c.child-output.ensures ∙ c.in-Some.ensures (promises bs world) world in
+    given 1 (size_in cs (k + 1)) c.requires.ready (ticked c.requires.ready c.tick.ensures) (omega (arith, w, s)) (subst (GivesValue c.fitted_copy.result) (sym o) c.fitted_copy.ensures) refl
+
+pub evaluate_output-returns-in_default : goal.evaluate_output-returns-in_default
+evaluate_output-returns-in_default g t c =
+    let n = g.N.NodeHandle.node c.args.tree in
+    let bs = g.B.Bindings.listed c.args.around.now.bindings.now in
+    let world = g.W.WorldView.world c.args.around.now.world.now in
+    let cs = children n in
+    let k = c.args.place in
+    let b = g.N.NodeHandle.node c.child-output.result in
+    let w = size_at cs (k + 1) b c.child-output.ensures in
+    ended 0 (size b) (size_in cs (k + 1)) (begun c.requires.ready) c.evaluate_node.ensures.all (omega (arith, w)) (sym (outcome_here cs (k + 1) b (promises bs world) world c.child-output.ensures)) refl
 
 pub evaluate_output-returns-else-place-outputs : goal.evaluate_output-returns-else-place-outputs
 evaluate_output-returns-else-place-outputs g t c =

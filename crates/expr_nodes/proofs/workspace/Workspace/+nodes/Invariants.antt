@@ -34,6 +34,9 @@ decreases-evaluate_argument g l = 6 * total_size (children (g.N.NodeHandle.node 
 abbrev pub decreases-evaluate_deciding : goal.decreases-evaluate_deciding
 decreases-evaluate_deciding g l = 6 * total_size (children (g.N.NodeHandle.node l.tree)) + reach l.around.now.limit (g.B.Bindings.listed l.around.now.bindings.now) + 4
 
+abbrev pub decreases-evaluate_until_decided : goal.decreases-evaluate_until_decided
+decreases-evaluate_until_decided g l = 6 * total_size (children (g.N.NodeHandle.node l.tree)) + reach l.around.now.limit (g.B.Bindings.listed l.around.now.bindings.now) + 3
+
 abbrev pub decreases-evaluate_case : goal.decreases-evaluate_case
 decreases-evaluate_case g l = 6 * total_size (children (g.N.NodeHandle.node l.tree)) + reach l.around.now.limit (g.B.Bindings.listed l.around.now.bindings.now) + 4
 
@@ -66,8 +69,8 @@ invariant-evaluate_values-loop-place g l =
     }
 
 -- no argument so far decides
-abbrev pub invariant-evaluate_deciding-loop-place : goal.invariant-evaluate_deciding-loop-place
-invariant-evaluate_deciding-loop-place g l =
+abbrev pub invariant-evaluate_until_decided-loop-place : goal.invariant-evaluate_until_decided-loop-place
+invariant-evaluate_until_decided-loop-place g l =
     let world = g.W.WorldView.world l.around.world.now in
     let bs = g.B.Bindings.listed l.around.bindings.now in
     let n = g.N.NodeHandle.node l.tree in
