@@ -3,7 +3,7 @@ mod PromiseLaws
 mod ScopeLaws
 mod ResolveShape
 mod ResolveMeaning
-mod ResolveLaws
+pub mod ResolveLaws
 -- The evaluator.
 pub mod BindingPlaces
 pub mod SlotLaws

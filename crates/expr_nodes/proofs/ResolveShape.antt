@@ -1,6 +1,6 @@
 -- What is resolved comes after all bindings so far, asks for those before it alone, and has no more nodes than
 -- the expression.
-use Rattle.std.proofs.Common.{◌≡◌, ℕ, ◌+◌, ◌≤◌, List, [], ◌∷◌, ◌++◌, length, false, Option, Some, None, refl, arith, sym, ap, ◌∙◌}
+use Rattle.std.proofs.Common.{◌≡◌, ℕ, ◌+◌, ◌≤◌, List, [], ◌∷◌, ◌++◌, length, drop, Bool, false, Option, Some, None, refl, arith, sym, ap, ◌∙◌}
 use Rattle.std.proofs.lemmas.List.{append-nil, append_assoc}
 use Rattle.prop_values.specs.declared.kinds.Want.{Want}
 use Rattle.prop_values.specs.declared.kinds.Want.TheVariants as wants
@@ -11,7 +11,7 @@ use Rattle.expr_syntax.specs.declared.expression.Operator.{Operator}
 use Rattle.eval_face.specs.Rules.{Rule, each, deciding, cases, labels, stops, ramp, bindings, variable, rule_of}
 use Rattle.expr_nodes.specs.Limits.{has_names, AsksBelow, AllAskBelow, AskEarlier}
 use Rattle.expr_nodes.specs.Node.{Node, constant, property, inner, Children, child, size, children_size, total_size}
-use Rattle.expr_nodes.specs.Resolving.{NumberedNames, Numbered, number_of, variable_node, count_of, argument_want, key_of, by_key, by_rule, resolve, resolve_arguments, resolve_let}
+use Rattle.expr_nodes.specs.Resolving.{NumberedNames, Numbered, number_of, variable_node, count_of, argument_want, own_want, key_of, by_key, by_rule, resolve, resolve_arguments, resolve_let}
 use Rattle.expr_nodes.proofs.PromiseLaws.{length_last, longer, size_last, below_more, earlier_last}
 use Rattle.expr_nodes.proofs.ScopeLaws.{NamesBelow, ScopeBelow, names_more, scope_more, names_below_last, variable_below, variable_size}
 
@@ -157,53 +157,58 @@ one_before count counts so_far r a =
 -- ---- the induction
 
 mutual
-  pub adds : (t : Term) (want : Want) (scope : List NumberedNames) (so_far : List Node) →
+  pub adds : (t : Term) (want : Want) (marks : List Bool) (scope : List NumberedNames) (so_far : List Node) →
       ScopeBelow (length so_far) scope →
-      NodeAdds (nodes t) so_far (resolve t want scope so_far)
-  adds (literal d) want scope so_far h = alone 1 so_far (constant (fit want d)) tt (omega arith)
-  adds (node op ts) want scope so_far h =
-      let arguments = resolve_arguments ts op (count_of ts) 0 want scope so_far in
-      let as_let : List (List ℕ) → Numbered = λ names. resolve_let ts names want scope [] so_far in
-      key_adds (key_of op ts) want (terms_nodes ts) so_far
-      (by_rule (rule_of op) op want scope so_far arguments as_let)
-      (rule_adds (rule_of op) op refl want scope (terms_nodes ts) so_far arguments as_let h
-      (arguments_add ts op (count_of ts) 0 want scope so_far h)
-      (λ names. let_adds ts names want scope [] so_far h tt))
+      NodeAdds (nodes t) so_far (resolve t want marks scope so_far)
+  adds (literal d) want marks scope so_far h = alone 1 so_far (constant (fit want d)) tt (omega arith)
+  adds (node op ts) want marks scope so_far h =
+      let own = own_want op marks want in
+      let rest = drop 1 marks in
+      let arguments = resolve_arguments ts op (count_of ts) 0 own rest scope so_far in
+      let as_let : List (List ℕ) → Numbered = λ names. resolve_let ts names own rest scope [] so_far in
+      key_adds (key_of op ts) own (terms_nodes ts) so_far
+      (by_rule (rule_of op) op own scope so_far arguments as_let)
+      (rule_adds (rule_of op) op refl own scope (terms_nodes ts) so_far arguments as_let h
+      (arguments_add ts op (count_of ts) 0 own rest scope so_far h)
+      (λ names. let_adds ts names own rest scope [] so_far h tt))
 
-  pub arguments_add : (ts : Terms) (op : Operator) (m k : ℕ) (want : Want) (scope : List NumberedNames)
+  pub arguments_add : (ts : Terms) (op : Operator) (m k : ℕ) (want : Want) (marks : List Bool)
+      (scope : List NumberedNames)
       (so_far : List Node) →
       ScopeBelow (length so_far) scope →
-      ChildrenAdd (terms_nodes ts) so_far (resolve_arguments ts op m k want scope so_far)
-  arguments_add no_terms op m k want scope so_far h =
+      ChildrenAdd (terms_nodes ts) so_far (resolve_arguments ts op m k want marks scope so_far)
+  arguments_add no_terms op m k want marks scope so_far h =
       record { more = ([], sym (append-nil so_far)); below = tt; earlier = λ o. o; sized = omega arith }
-  arguments_add (term t ts) op m k want scope so_far h =
+  arguments_add (term t ts) op m k want marks scope so_far h =
       let w = argument_want op m k want in
-      let first = resolve t w scope so_far in
-      let a = adds t w scope so_far h in
+      let rest = drop (nodes t) marks in
+      let first = resolve t w marks scope so_far in
+      let a = adds t w marks scope so_far h in
       children_add (nodes t) (terms_nodes ts) so_far first
-      (resolve_arguments ts op m (k + 1) want scope first.1) a
-      (arguments_add ts op m (k + 1) want scope first.1
+      (resolve_arguments ts op m (k + 1) want rest scope first.1) a
+      (arguments_add ts op m (k + 1) want rest scope first.1
       (scope_below_later scope so_far a.more.0 first.1 a.more.1 h))
 
-  pub let_adds : (ts : Terms) (names : List (List ℕ)) (want : Want) (scope : List NumberedNames)
+  pub let_adds : (ts : Terms) (names : List (List ℕ)) (want : Want) (marks : List Bool) (scope : List NumberedNames)
       (earlier : NumberedNames)
       (so_far : List Node) → ScopeBelow (length so_far) scope → NamesBelow (length so_far) earlier →
-      NodeAdds (1 + terms_nodes ts) so_far (resolve_let ts names want scope earlier so_far)
-  let_adds no_terms names want scope earlier so_far h g =
-      alone 1 so_far (resolve_let no_terms names want scope earlier so_far).0 tt (omega arith)
-  let_adds (term t no_terms) [] want scope earlier so_far h g =
-      one_size (nodes t) so_far (resolve t want (earlier ∷ scope) so_far)
-      (adds t want (earlier ∷ scope) so_far (g, h))
-  let_adds (term t (term u us)) [] want scope earlier so_far h g =
+      NodeAdds (1 + terms_nodes ts) so_far (resolve_let ts names want marks scope earlier so_far)
+  let_adds no_terms names want marks scope earlier so_far h g =
+      alone 1 so_far (resolve_let no_terms names want marks scope earlier so_far).0 tt (omega arith)
+  let_adds (term t no_terms) [] want marks scope earlier so_far h g =
+      one_size (nodes t) so_far (resolve t want marks (earlier ∷ scope) so_far)
+      (adds t want marks (earlier ∷ scope) so_far (g, h))
+  let_adds (term t (term u us)) [] want marks scope earlier so_far h g =
       alone (1 + terms_nodes (term t (term u us))) so_far
-      (resolve_let (term t (term u us)) [] want scope earlier so_far).0 tt (omega arith)
-  let_adds (term t ts) (name ∷ names) want scope earlier so_far h g =
-      let binding = resolve t wants.Any scope so_far in
-      let a = adds t wants.Any scope so_far h in
+      (resolve_let (term t (term u us)) [] want marks scope earlier so_far).0 tt (omega arith)
+  let_adds (term t ts) (name ∷ names) want marks scope earlier so_far h g =
+      let binding = resolve t wants.Any marks scope so_far in
+      let a = adds t wants.Any marks scope so_far h in
       let all = binding.1 ++ binding.0 ∷ [] in
       let frame = earlier ++ (name, length binding.1) ∷ [] in
-      let rest = resolve_let ts names want scope frame all in
+      let others = drop (nodes t) marks in
+      let rest = resolve_let ts names want others scope frame all in
       one_before (nodes t) (terms_nodes ts) so_far rest
       (binding_adds (nodes t) (1 + terms_nodes ts) so_far binding rest a
-      (let_adds ts names want scope frame all (scope_below_new scope so_far binding a.more.0 a.more.1 h)
+      (let_adds ts names want others scope frame all (scope_below_new scope so_far binding a.more.0 a.more.1 h)
       (names_below_new earlier name so_far binding a.more.0 a.more.1 g)))

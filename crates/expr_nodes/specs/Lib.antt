@@ -3,6 +3,7 @@ pub mod Node
 pub mod Outcome
 pub mod Limits
 pub mod Resolving
+pub mod Marks
 pub mod Resolved
 pub mod Evaluators
 -- What only contracts of private functions, models and proofs use.

@@ -1,5 +1,5 @@
 -- What resolving promises.
-use Rattle.std.specs.Prelude.{◌≡◌, ◌+◌, ◌≤◌, List, [], length}
+use Rattle.std.specs.Prelude.{◌≡◌, ◌+◌, ◌≤◌, List, [], length, Bool}
 use Rattle.prop_values.specs.declared.kinds.Want.{Want}
 use Rattle.expr_syntax.specs.Term.{Term}
 use Rattle.expr_syntax.specs.TermSize.{nodes}
@@ -9,6 +9,7 @@ use Rattle.expr_nodes.specs.Node.{Node, size, total_size}
 use Rattle.expr_nodes.specs.Outcome.{outcome, promises}
 use Rattle.expr_nodes.specs.Limits.{AsksBelow, AskEarlier}
 use Rattle.expr_nodes.specs.Resolving.{resolve}
+use Rattle.expr_nodes.specs.Marks.{MarksHold}
 
 -- A node and its bindings represent an expression under a want: they give what the expression means in every world, they can be
 -- evaluated from the first binding to the last, and they have no more nodes. Own.
@@ -20,4 +21,10 @@ pub record Represents (t : Term) (want : Want) (root : Node) (bindings : List No
 
 abbrev pub ResolvedExpressionsMeanTheSame : Type 0
 ResolvedExpressionsMeanTheSame =
-    (t : Term) (want : Want) → Represents t want (resolve t want [] []).0 (resolve t want [] []).1
+    (t : Term) (want : Want) → Represents t want (resolve t want [] [] []).0 (resolve t want [] [] []).1
+
+-- The same where the tests of marked nodes are left out, if these change nothing in any world.
+abbrev pub MarkedExpressionsMeanTheSame : Type 0
+MarkedExpressionsMeanTheSame =
+    (t : Term) (want : Want) (marks : List Bool) → ((world : World) → MarksHold t want marks [] world) →
+    Represents t want (resolve t want marks [] []).0 (resolve t want marks [] []).1

@@ -1,5 +1,5 @@
 -- An expression with its bindings in a list, and their numbers in the place of names. A `let` and a `var` are nodes no more.
-use Rattle.std.specs.Prelude.{ℕ, ◌+◌, List, [], ◌∷◌, ◌++◌, length, Bool, true, false, Option, Some, None, Err, if◌then◌else◌}
+use Rattle.std.specs.Prelude.{ℕ, ◌+◌, List, [], ◌∷◌, ◌++◌, length, drop, Bool, ◌&&◌, true, false, Option, Some, None, Err, if◌then◌else◌}
 use Rattle.prop_values.specs.Data.{text}
 use Rattle.prop_values.specs.Equality.{same_text}
 use Rattle.prop_values.specs.declared.fault.EvalFault.TheVariants.{WrongType}
@@ -10,7 +10,8 @@ use Rattle.expr_syntax.specs.declared.expression.Operator.{Operator}
 use Rattle.expr_syntax.specs.declared.expression.Operator.TheVariants as operators
 use Rattle.expr_syntax.specs.Operators.{wanted_by, want_of, ramp_want}
 use Rattle.expr_syntax.specs.Term.{Term, literal, node, Terms, no_terms, term}
-use Rattle.eval_face.specs.Rules.{Rule, ramp, bindings, variable, rule_of}
+use Rattle.expr_syntax.specs.TermSize.{nodes}
+use Rattle.eval_face.specs.Rules.{Rule, each, deciding, ramp, bindings, variable, rule_of}
 use Rattle.expr_nodes.specs.Node.{Node, constant, asked, property, inner, Children, childless, child}
 
 -- the names of a `let`, each with the number of its binding
@@ -64,6 +65,28 @@ outputs_want _ want = want
 abbrev pub argument_want : Operator → ℕ → ℕ → Want → Want
 argument_want op m k want = want_of (wanted_by op m k) (outputs_want (rule_of op) want)
 
+-- ---- tests that are left out: a mark for each node in preorder, literals among them. Where marks are missing, no node is marked.
+
+-- the rules of which a node fits its own value; the others hand the want to their outputs
+abbrev pub has_fit : Rule → Bool
+has_fit (each apply) = true
+has_fit (deciding decides none) = true
+has_fit (variable name) = true
+has_fit _ = false
+
+abbrev pub is_marked : List Bool → Bool
+is_marked [] = false
+is_marked (mark ∷ marks) = mark
+
+-- a value that is shown becomes a text, so that this is no test
+abbrev pub untested : Want → Want
+untested wants.Shown = wants.Shown
+untested want = wants.Any
+
+-- what a node fits its value to
+abbrev pub own_want : Operator → List Bool → Want → Want
+own_want op marks want = if has_fit (rule_of op) && is_marked marks then untested want else want
+
 -- ---- `get` of a literal key alone
 
 abbrev pub is_get : Operator → Bool
@@ -99,27 +122,27 @@ let_by [] body bind = body
 let_by (name ∷ names) body bind = bind name names
 
 abbrev mutual
-  pub resolve : Term → Want → List NumberedNames → List Node → Numbered
-  resolve (literal d) = λ want scope so_far. (constant (fit want d), so_far)
-  resolve (node op ts) = λ want scope so_far.
-      by_key (key_of op ts) want so_far
-      (by_rule (rule_of op) op want scope so_far
-      (resolve_arguments ts op (count_of ts) 0 want scope so_far)
-      (λ names. resolve_let ts names want scope [] so_far))
+  pub resolve : Term → Want → List Bool → List NumberedNames → List Node → Numbered
+  resolve (literal d) = λ want marks scope so_far. (constant (fit want d), so_far)
+  resolve (node op ts) = λ want marks scope so_far.
+      by_key (key_of op ts) (own_want op marks want) so_far
+      (by_rule (rule_of op) op (own_want op marks want) scope so_far
+      (resolve_arguments ts op (count_of ts) 0 (own_want op marks want) (drop 1 marks) scope so_far)
+      (λ names. resolve_let ts names (own_want op marks want) (drop 1 marks) scope [] so_far))
 
   -- the arguments from that of place k on, of m
-  pub resolve_arguments : Terms → Operator → ℕ → ℕ → Want → List NumberedNames → List Node → Children × List Node
-  resolve_arguments no_terms = λ op m k want scope so_far. (childless, so_far)
-  resolve_arguments (term t ts) = λ op m k want scope so_far.
-      (child (resolve t (argument_want op m k want) scope so_far).0 (resolve_arguments ts op m (k + 1) want scope (resolve t (argument_want op m k want) scope so_far).1).0, (resolve_arguments ts op m (k + 1) want scope (resolve t (argument_want op m k want) scope so_far).1).1)
+  pub resolve_arguments : Terms → Operator → ℕ → ℕ → Want → List Bool → List NumberedNames → List Node → Children × List Node
+  resolve_arguments no_terms = λ op m k want marks scope so_far. (childless, so_far)
+  resolve_arguments (term t ts) = λ op m k want marks scope so_far.
+      (child (resolve t (argument_want op m k want) marks scope so_far).0 (resolve_arguments ts op m (k + 1) want (drop (nodes t) marks) scope (resolve t (argument_want op m k want) marks scope so_far).1).0, (resolve_arguments ts op m (k + 1) want (drop (nodes t) marks) scope (resolve t (argument_want op m k want) marks scope so_far).1).1)
 
   -- The bindings of these names and the body, where earlier names of the `let` have their numbers already. A binding is put
   -- after those that it asks for, and does not see the other names of its own `let`.
-  pub resolve_let : Terms → List (List ℕ) → Want → List NumberedNames → NumberedNames → List Node → Numbered
-  resolve_let no_terms = λ names want scope earlier so_far. misfit so_far
-  resolve_let (term t ts) = λ names want scope earlier so_far.
+  pub resolve_let : Terms → List (List ℕ) → Want → List Bool → List NumberedNames → NumberedNames → List Node → Numbered
+  resolve_let no_terms = λ names want marks scope earlier so_far. misfit so_far
+  resolve_let (term t ts) = λ names want marks scope earlier so_far.
       let_by names
-      (body_or_misfit ts (resolve t want (earlier ∷ scope) so_far) so_far)
-      (λ name later. resolve_let ts later want scope
-      (earlier ++ (name, length (resolve t wants.Any scope so_far).1) ∷ [])
-      ((resolve t wants.Any scope so_far).1 ++ (resolve t wants.Any scope so_far).0 ∷ []))
+      (body_or_misfit ts (resolve t want marks (earlier ∷ scope) so_far) so_far)
+      (λ name later. resolve_let ts later want (drop (nodes t) marks) scope
+      (earlier ++ (name, length (resolve t wants.Any marks scope so_far).1) ∷ [])
+      ((resolve t wants.Any marks scope so_far).1 ++ (resolve t wants.Any marks scope so_far).0 ∷ []))

@@ -16,7 +16,8 @@
 //! nodes own their arguments. A resolved expression (`resolve`) gives in every world what the expression means,
 //! faults included; its bindings can be evaluated in their order; and it has no more nodes
 //! (`resolved_expressions_mean_the_same`). `Represents` says when a node and its bindings represent an expression
-//! under a want.
+//! under a want. Nodes can be marked: the test of a marked node is left out, and the same holds where each marked node
+//! gives under its want what it gives where anything is wanted (`marked_expressions_mean_the_same`).
 //!
 //! A [`Workspace`] is the memory of evaluations, made once. What it holds before an evaluation does not matter.
 //!
@@ -30,7 +31,7 @@
 //! wanted as it is, is read where it is (`borrowed.rt`): as the first argument of an assertion, the input of a `match`
 //! and an output of an `interpolate`.
 //!
-//! The text to believe is in `specs/`: `Node`, `Outcome`, `Limits`, `Resolving`, `Resolved`, `Evaluators`.
+//! The text to believe is in `specs/`: `Node`, `Outcome`, `Limits`, `Resolving`, `Marks`, `Resolved`, `Evaluators`.
 #![tactic(auto)]
 
 mod access;
@@ -52,5 +53,5 @@ pub use boxed_expression::BoxedExpression;
 pub use boxed_node::{BoxedBindings, BoxedNode};
 pub use evaluation::evaluate;
 pub use evaluator::CountedEvaluator;
-pub use laws::resolved_expressions_mean_the_same;
+pub use laws::{marked_expressions_mean_the_same, resolved_expressions_mean_the_same};
 pub use workspace::Workspace;

@@ -1,3 +1,4 @@
+mod MarkLaws
 mod ResolvingLaws
 mod BoxingLaws
 mod CountLaws

@@ -1,5 +1,5 @@
 -- What the loops of resolving keep.
-use Rattle.std.proofs.Common.{◌≡◌, ℕ, ◌+◌, ◌<◌, ◌≤◌, zero, suc, List, [], ◌∷◌, ◌++◌, length, drop, false, Option, Some, None, option_map, unwrap_or, refl, arith, sym, ap, ◌∙◌, inl, inr, slice_index}
+use Rattle.std.proofs.Common.{◌≡◌, ℕ, ◌+◌, ◌<◌, ◌≤◌, zero, suc, List, [], ◌∷◌, ◌++◌, length, drop, Bool, false, Option, Some, None, option_map, unwrap_or, refl, arith, sym, ap, ◌∙◌, inl, inr, slice_index}
 use Rattle.std.specs.Prelude.{IfOk, Result, Ok, Err}
 use Rattle.std.specs.declared.alloc.AllocError.{AllocError}
 use Rattle.std.specs.declared.alloc.Global.{Global}
@@ -11,7 +11,8 @@ use Rattle.prop_values.specs.declared.fault.EvalFault.TheVariants.{WrongType}
 use Rattle.prop_values.specs.declared.kinds.Want.{Want}
 use Rattle.prop_values.specs.declared.kinds.Want.TheVariants as wants
 use Rattle.expr_syntax.specs.NameIndex.{last_place}
-use Rattle.expr_syntax.specs.Term.{Term, literal, node, Terms, no_terms, term}
+use Rattle.expr_syntax.specs.Term.{Term, literal, Terms, no_terms, term}
+use Rattle.expr_syntax.specs.TermSize.{nodes}
 use Rattle.expr_syntax.specs.TermView.{term_of, terms}
 use Rattle.expr_syntax.specs.declared.expression.Expr.{Expr}
 use Rattle.expr_syntax.specs.declared.expression.Operator.{Operator}
@@ -21,7 +22,7 @@ use Rattle.expr_nodes.specs.Boxed.{boxed_step, boxed_node, boxed_nodes}
 use Rattle.expr_nodes.specs.Limits.{has_names}
 use Rattle.expr_nodes.specs.Node.{Node, constant, property, inner, Children, childless, child, children_of}
 use Rattle.expr_resolving.specs.NumberScopes.{numbered, numbered_scope}
-use Rattle.expr_resolving.specs.ResolvedParts.{text_in, inner_node, inner_of, before, inner_after, let_after}
+use Rattle.expr_resolving.specs.ResolvedParts.{text_in, inner_node, inner_of, resolved_node, before, inner_after, let_after}
 use Rattle.expr_nodes.specs.Resolving.{NumberedNames, Numbered, number_of, last_number, or_outer_number, misfit, count_of, argument_want, key_of, literal_key, by_key, by_rule, resolve, resolve_arguments, resolve_let}
 use Rattle.expr_nodes.specs.declared.boxed_node.BoxedNode.{BoxedNode}
 use Rattle.expr_nodes.specs.declared.boxed_node.BoxedNode.TheVariants.{Faulty, rolls-Faulty}
@@ -98,17 +99,18 @@ not_sole (e ∷ f ∷ es) h = by_first (term_of e)
 
 -- a node without a key, by its rule
 
-abbrev pub ruled : Rule → Operator → Want → List NumberedNames → Terms → List Node → Numbered
-ruled rule op want scope ts so_far =
-    by_rule rule op want scope so_far (resolve_arguments ts op (count_of ts) 0 want scope so_far)
-    (λ names. resolve_let ts names want scope [] so_far)
+abbrev pub ruled : Rule → Operator → Want → List Bool → List NumberedNames → Terms → List Node → Numbered
+ruled rule op want left scope ts so_far =
+    by_rule rule op want scope so_far (resolve_arguments ts op (count_of ts) 0 want left scope so_far)
+    (λ names. resolve_let ts names want left scope [] so_far)
 
 pub property_found : (op : Operator) (ts : Terms) (want : Want) (n : Node) →
-    Some n ≡ option_map (λ key. property key want) (key_of op ts) → (scope : List NumberedNames) (so_far : List Node) →
-    (n, so_far) ≡ resolve (node op ts) want scope so_far
-property_found op ts want n e scope so_far = by_found (key_of op ts) e
+    Some n ≡ option_map (λ key. property key want) (key_of op ts) →
+    (left : List Bool) (scope : List NumberedNames) (so_far : List Node) →
+    (n, so_far) ≡ resolved_node op ts want left scope so_far
+property_found op ts want n e left scope so_far = by_found (key_of op ts) e
   where
-    by_found : (k : Option (List ℕ)) → Some n ≡ option_map (λ key. property key want) k → (n, so_far) ≡ by_key k want so_far (ruled (rule_of op) op want scope ts so_far)
+    by_found : (k : Option (List ℕ)) → Some n ≡ option_map (λ key. property key want) k → (n, so_far) ≡ by_key k want so_far (ruled (rule_of op) op want left scope ts so_far)
     by_found None e = absurd (cc)
     by_found (Some key) e = ap (λ o. (unwrap_or o n, so_far)) e
 
@@ -129,26 +131,26 @@ keyless op es slice want found same none e =
 
 -- ---- a node without a key
 
-pub resolve_ruled : (op : Operator) (ts : Terms) → key_of op ts ≡ None → (rule : Rule) → rule_of op ≡ rule → (want : Want)
-    (scope : List NumberedNames) (so_far : List Node) → ruled rule op want scope ts so_far ≡ resolve (node op ts) want scope so_far
-resolve_ruled op ts e rule r want scope so_far =
-    ap (λ q. ruled q op want scope ts so_far) (sym r) ∙ ap (λ k. by_key k want so_far (ruled (rule_of op) op want scope ts so_far)) (sym e)
+pub resolve_ruled : (op : Operator) (ts : Terms) → key_of op ts ≡ None → (rule : Rule) → rule_of op ≡ rule → (want : Want) (left : List Bool)
+    (scope : List NumberedNames) (so_far : List Node) → ruled rule op want left scope ts so_far ≡ resolved_node op ts want left scope so_far
+resolve_ruled op ts e rule r want left scope so_far =
+    ap (λ q. ruled q op want left scope ts so_far) (sym r) ∙ ap (λ k. by_key k want so_far (ruled (rule_of op) op want left scope ts so_far)) (sym e)
 
-pub ruled_inner : (rule : Rule) → has_names rule ≡ false → (op : Operator) (want : Want) (scope : List NumberedNames) (ts : Terms)
-    (so_far : List Node) → inner_of op want ts scope so_far ≡ ruled rule op want scope ts so_far
-ruled_inner (each apply) h op want scope ts so_far = refl
-ruled_inner (deciding decides none) h op want scope ts so_far = refl
-ruled_inner cases h op want scope ts so_far = refl
-ruled_inner (labels ls) h op want scope ts so_far = refl
-ruled_inner (stops inputs) h op want scope ts so_far = refl
-ruled_inner (ramp curve inputs) h op want scope ts so_far = refl
-ruled_inner (bindings names) h op want scope ts so_far = absurd (cc)
-ruled_inner (variable name) h op want scope ts so_far = absurd (cc)
+pub ruled_inner : (rule : Rule) → has_names rule ≡ false → (op : Operator) (want : Want) (left : List Bool) (scope : List NumberedNames) (ts : Terms)
+    (so_far : List Node) → inner_of op want left ts scope so_far ≡ ruled rule op want left scope ts so_far
+ruled_inner (each apply) h op want left scope ts so_far = refl
+ruled_inner (deciding decides none) h op want left scope ts so_far = refl
+ruled_inner cases h op want left scope ts so_far = refl
+ruled_inner (labels ls) h op want left scope ts so_far = refl
+ruled_inner (stops inputs) h op want left scope ts so_far = refl
+ruled_inner (ramp curve inputs) h op want left scope ts so_far = refl
+ruled_inner (bindings names) h op want left scope ts so_far = absurd (cc)
+ruled_inner (variable name) h op want left scope ts so_far = absurd (cc)
 
-pub resolve_inner : (op : Operator) (ts : Terms) → key_of op ts ≡ None → has_names (rule_of op) ≡ false → (want : Want)
-    (scope : List NumberedNames) (so_far : List Node) → inner_of op want ts scope so_far ≡ resolve (node op ts) want scope so_far
-resolve_inner op ts e h want scope so_far =
-    ruled_inner (rule_of op) h op want scope ts so_far ∙ resolve_ruled op ts e (rule_of op) refl want scope so_far
+pub resolve_inner : (op : Operator) (ts : Terms) → key_of op ts ≡ None → has_names (rule_of op) ≡ false → (want : Want) (left : List Bool)
+    (scope : List NumberedNames) (so_far : List Node) → inner_of op want left ts scope so_far ≡ resolved_node op ts want left scope so_far
+resolve_inner op ts e h want left scope so_far =
+    ruled_inner (rule_of op) h op want left scope ts so_far ∙ resolve_ruled op ts e (rule_of op) refl want left scope so_far
 
 -- ---- arguments one after another
 
@@ -164,21 +166,22 @@ done_last : (done : List Node) (n : Node) → length (done ++ n ∷ []) ≡ leng
 done_last [] n = refl
 done_last (d ∷ done) n = let r = done_last done n in omega arith
 
-pub inner_step : (op : Operator) (m : ℕ) (want : Want) (scope : List NumberedNames) (done : List Node) (t : Term) (ts : Terms)
-    (so_far : List Node) (made : Numbered) → made ≡ resolve t (argument_want op m (length done) want) scope so_far →
-    inner_after op m want scope (done ++ made.0 ∷ []) ts made.1 ≡ inner_after op m want scope done (term t ts) so_far
-inner_step op m want scope done t ts so_far made e =
-    let rest : ℕ → Children × List Node = λ k. resolve_arguments ts op m k want scope made.1 in
+pub inner_step : (op : Operator) (m : ℕ) (want : Want) (left : List Bool) (scope : List NumberedNames) (done : List Node) (t : Term) (ts : Terms)
+    (so_far : List Node) (made : Numbered) → made ≡ resolve t (argument_want op m (length done) want) left scope so_far →
+    inner_after op m want (drop (nodes t) left) scope (done ++ made.0 ∷ []) ts made.1 ≡ inner_after op m want left scope done (term t ts) so_far
+inner_step op m want left scope done t ts so_far made e =
+    let later = drop (nodes t) left in
+    let rest : ℕ → Children × List Node = λ k. resolve_arguments ts op m k want later scope made.1 in
     ap (λ k. inner_node op want (before (done ++ made.0 ∷ []) (rest k).0, (rest k).1)) (done_last done made.0)
     ∙ (ap (λ ns. inner_node op want (ns, (rest (length done + 1)).1)) (before_last done made.0 (rest (length done + 1)).0)
     ∙ ap (λ (r : Numbered). inner_node op want (
-      before done (child r.0 (resolve_arguments ts op m (length done + 1) want scope r.1).0),
-      (resolve_arguments ts op m (length done + 1) want scope r.1).1,
+      before done (child r.0 (resolve_arguments ts op m (length done + 1) want later scope r.1).0),
+      (resolve_arguments ts op m (length done + 1) want later scope r.1).1,
     )) e)
 
-pub inner_end : (op : Operator) (m : ℕ) (want : Want) (scope : List NumberedNames) (done so_far : List Node) →
-    (inner op want (children_of done), so_far) ≡ inner_after op m want scope done no_terms so_far
-inner_end op m want scope done so_far = ap (λ ns. inner_node op want (ns, so_far)) (sym (before_none done))
+pub inner_end : (op : Operator) (m : ℕ) (want : Want) (left : List Bool) (scope : List NumberedNames) (done so_far : List Node) →
+    (inner op want (children_of done), so_far) ≡ inner_after op m want left scope done no_terms so_far
+inner_end op m want left scope done so_far = ap (λ ns. inner_node op want (ns, so_far)) (sym (before_none done))
 
 pub count_terms : (es : List Expr) → count_of (terms es) ≡ length es
 count_terms [] = refl
@@ -201,21 +204,22 @@ pub number_last : (numbers : List ℕ) (x : ℕ) → length (numbers ++ x ∷ []
 number_last [] x = refl
 number_last (j ∷ numbers) x = let r = number_last numbers x in omega arith
 
-pub let_step : (names : List (List ℕ)) (want : Want) (scope : List NumberedNames) (numbers : List ℕ) (t : Term) (ts : Terms)
+pub let_step : (names : List (List ℕ)) (want : Want) (left : List Bool) (scope : List NumberedNames) (numbers : List ℕ) (t : Term) (ts : Terms)
     (so_far : List Node) (binding : Numbered) → length numbers < length names →
-    binding ≡ resolve t wants.Any scope so_far →
-    let_after names want scope (numbers ++ length binding.1 ∷ []) ts (binding.1 ++ binding.0 ∷ [])
-    ≡ let_after names want scope numbers (term t ts) so_far
-let_step names want scope numbers t ts so_far binding h e =
+    binding ≡ resolve t wants.Any left scope so_far →
+    let_after names want (drop (nodes t) left) scope (numbers ++ length binding.1 ∷ []) ts (binding.1 ++ binding.0 ∷ [])
+    ≡ let_after names want left scope numbers (term t ts) so_far
+let_step names want left scope numbers t ts so_far binding h e =
     let next = next_name names numbers h in
     let later = drop (length numbers + 1) names in
+    let others = drop (nodes t) left in
     let frame = numbered names numbers in
     let all = binding.1 ++ binding.0 ∷ [] in
     let x = length binding.1 in
-    ap (λ k. resolve_let ts (drop k names) want scope (numbered names (numbers ++ x ∷ [])) all) (number_last numbers x)
-    ∙ (ap (λ f. resolve_let ts later want scope f all) (next.2 x)
-    ∙ (ap (λ (r : Numbered). resolve_let ts later want scope (frame ++ (next.0, length r.1) ∷ []) (r.1 ++ r.0 ∷ [])) e
-    ∙ ap (λ ns. resolve_let (term t ts) ns want scope frame so_far) (sym next.1)))
+    ap (λ k. resolve_let ts (drop k names) want others scope (numbered names (numbers ++ x ∷ [])) all) (number_last numbers x)
+    ∙ (ap (λ f. resolve_let ts later want others scope f all) (next.2 x)
+    ∙ (ap (λ (r : Numbered). resolve_let ts later want others scope (frame ++ (next.0, length r.1) ∷ []) (r.1 ++ r.0 ∷ [])) e
+    ∙ ap (λ ns. resolve_let (term t ts) ns want left scope frame so_far) (sym next.1)))
 
 all_named : (names : List (List ℕ)) (numbers : List ℕ) → length names ≤ length numbers → drop (length numbers) names ≡ []
 all_named [] [] h = refl
@@ -223,68 +227,68 @@ all_named [] (j ∷ numbers) h = refl
 all_named (n ∷ names) [] h = absurd (omega arith)
 all_named (n ∷ names) (j ∷ numbers) h = all_named names numbers (omega arith)
 
-pub let_body : (names : List (List ℕ)) (want : Want) (scope : List NumberedNames) (numbers : List ℕ) (t : Term)
+pub let_body : (names : List (List ℕ)) (want : Want) (left : List Bool) (scope : List NumberedNames) (numbers : List ℕ) (t : Term)
     (so_far : List Node) → length names ≤ length numbers →
-    resolve t want (numbered names numbers ∷ scope) so_far ≡ let_after names want scope numbers (term t no_terms) so_far
-let_body names want scope numbers t so_far h =
-    ap (λ ns. resolve_let (term t no_terms) ns want scope (numbered names numbers) so_far) (sym (all_named names numbers h))
+    resolve t want left (numbered names numbers ∷ scope) so_far ≡ let_after names want left scope numbers (term t no_terms) so_far
+let_body names want left scope numbers t so_far h =
+    ap (λ ns. resolve_let (term t no_terms) ns want left scope (numbered names numbers) so_far) (sym (all_named names numbers h))
 
-pub let_many : (names : List (List ℕ)) (want : Want) (scope : List NumberedNames) (numbers : List ℕ) (t u : Term) (ts : Terms)
+pub let_many : (names : List (List ℕ)) (want : Want) (left : List Bool) (scope : List NumberedNames) (numbers : List ℕ) (t u : Term) (ts : Terms)
     (so_far : List Node) → length names ≤ length numbers →
-    misfit so_far ≡ let_after names want scope numbers (term t (term u ts)) so_far
-let_many names want scope numbers t u ts so_far h =
-    ap (λ ns. resolve_let (term t (term u ts)) ns want scope (numbered names numbers) so_far) (sym (all_named names numbers h))
+    misfit so_far ≡ let_after names want left scope numbers (term t (term u ts)) so_far
+let_many names want left scope numbers t u ts so_far h =
+    ap (λ ns. resolve_let (term t (term u ts)) ns want left scope (numbered names numbers) so_far) (sym (all_named names numbers h))
 
-pub let_start : (names : List (List ℕ)) (want : Want) (scope : List NumberedNames) (ts : Terms) (so_far : List Node) →
-    let_after names want scope [] ts so_far ≡ resolve_let ts names want scope [] so_far
-let_start [] want scope ts so_far = refl
-let_start (name ∷ names) want scope ts so_far = refl
+pub let_start : (names : List (List ℕ)) (want : Want) (left : List Bool) (scope : List NumberedNames) (ts : Terms) (so_far : List Node) →
+    let_after names want left scope [] ts so_far ≡ resolve_let ts names want left scope [] so_far
+let_start [] want left scope ts so_far = refl
+let_start (name ∷ names) want left scope ts so_far = refl
 
 -- ---- of boxed nodes
 
-pub nodes_last : (nodes : List BoxedNode) (made : BoxedNode) →
-    boxed_nodes (nodes ++ made ∷ []) ≡ boxed_nodes nodes ++ boxed_node made ∷ []
+pub nodes_last : (ns : List BoxedNode) (made : BoxedNode) →
+    boxed_nodes (ns ++ made ∷ []) ≡ boxed_nodes ns ++ boxed_node made ∷ []
 nodes_last [] made = refl
-nodes_last (n ∷ nodes) made = ap (λ ns. boxed_node n ∷ ns) (nodes_last nodes made)
+nodes_last (n ∷ ns) made = ap (λ ms. boxed_node n ∷ ms) (nodes_last ns made)
 
-pub nodes_count : (nodes : List BoxedNode) → length (boxed_nodes nodes) ≡ length nodes
+pub nodes_count : (ns : List BoxedNode) → length (boxed_nodes ns) ≡ length ns
 nodes_count [] = refl
-nodes_count (n ∷ nodes) = ap suc (nodes_count nodes)
+nodes_count (n ∷ ns) = ap suc (nodes_count ns)
 
-pub inner_start : (op : Operator) (m : ℕ) (want : Want) (scope : List NumberedNames) (es : List Expr) (so_far : List Node) →
-    m ≡ length es → inner_after op m want scope [] (terms es) so_far ≡ inner_of op want (terms es) scope so_far
-inner_start op m want scope es so_far e =
-    ap (λ n. inner_node op want (resolve_arguments (terms es) op n 0 want scope so_far)) (e ∙ sym (count_terms es))
+pub inner_start : (op : Operator) (m : ℕ) (want : Want) (left : List Bool) (scope : List NumberedNames) (es : List Expr) (so_far : List Node) →
+    m ≡ length es → inner_after op m want left scope [] (terms es) so_far ≡ inner_of op want left (terms es) scope so_far
+inner_start op m want left scope es so_far e =
+    ap (λ n. inner_node op want (resolve_arguments (terms es) op n 0 want left scope so_far)) (e ∙ sym (count_terms es))
 
-pub inner_next : (op : Operator) (m : ℕ) (want : Want) (scope : List NumberedNames) (nodes : List BoxedNode) (e : Expr)
+pub inner_next : (op : Operator) (m : ℕ) (want : Want) (left : List Bool) (scope : List NumberedNames) (done : List BoxedNode) (e : Expr)
     (es : List Expr) (so_far all : List BoxedNode) (made : BoxedNode) →
-    (boxed_node made, boxed_nodes all) ≡ resolve (term_of e) (argument_want op m (length nodes) want) scope (boxed_nodes so_far) →
-    inner_after op m want scope (boxed_nodes (nodes ++ made ∷ [])) (terms es) (boxed_nodes all)
-    ≡ inner_after op m want scope (boxed_nodes nodes) (terms (e ∷ es)) (boxed_nodes so_far)
-inner_next op m want scope nodes e es so_far all made h =
-    ap (λ done. inner_after op m want scope done (terms es) (boxed_nodes all)) (nodes_last nodes made)
-    ∙ inner_step op m want scope (boxed_nodes nodes) (term_of e) (terms es) (boxed_nodes so_far) (boxed_node made, boxed_nodes all)
-    (h ∙ ap (λ k. resolve (term_of e) (argument_want op m k want) scope (boxed_nodes so_far)) (sym (nodes_count nodes)))
+    (boxed_node made, boxed_nodes all) ≡ resolve (term_of e) (argument_want op m (length done) want) left scope (boxed_nodes so_far) →
+    inner_after op m want (drop (nodes (term_of e)) left) scope (boxed_nodes (done ++ made ∷ [])) (terms es) (boxed_nodes all)
+    ≡ inner_after op m want left scope (boxed_nodes done) (terms (e ∷ es)) (boxed_nodes so_far)
+inner_next op m want left scope done e es so_far all made h =
+    ap (λ ns. inner_after op m want (drop (nodes (term_of e)) left) scope ns (terms es) (boxed_nodes all)) (nodes_last done made)
+    ∙ inner_step op m want left scope (boxed_nodes done) (term_of e) (terms es) (boxed_nodes so_far) (boxed_node made, boxed_nodes all)
+    (h ∙ ap (λ k. resolve (term_of e) (argument_want op m k want) left scope (boxed_nodes so_far)) (sym (nodes_count done)))
 
-pub let_next : (names : List (List ℕ)) (want : Want) (scope : List NumberedNames) (numbers : List ℕ) (e : Expr)
+pub let_next : (names : List (List ℕ)) (want : Want) (left : List Bool) (scope : List NumberedNames) (numbers : List ℕ) (e : Expr)
     (es : List Expr) (so_far all : List BoxedNode) (made : BoxedNode) → length numbers < length names →
-    (boxed_node made, boxed_nodes all) ≡ resolve (term_of e) wants.Any scope (boxed_nodes so_far) →
-    let_after names want scope (numbers ++ length all ∷ []) (terms es) (boxed_nodes (all ++ made ∷ []))
-    ≡ let_after names want scope numbers (terms (e ∷ es)) (boxed_nodes so_far)
-let_next names want scope numbers e es so_far all made h g =
-    (λ i. let_after names want scope (numbers ++ sym (nodes_count all) i ∷ []) (terms es) (nodes_last all made i))
-    ∙ let_step names want scope numbers (term_of e) (terms es) (boxed_nodes so_far) (boxed_node made, boxed_nodes all) h g
+    (boxed_node made, boxed_nodes all) ≡ resolve (term_of e) wants.Any left scope (boxed_nodes so_far) →
+    let_after names want (drop (nodes (term_of e)) left) scope (numbers ++ length all ∷ []) (terms es) (boxed_nodes (all ++ made ∷ []))
+    ≡ let_after names want left scope numbers (terms (e ∷ es)) (boxed_nodes so_far)
+let_next names want left scope numbers e es so_far all made h g =
+    (λ i. let_after names want (drop (nodes (term_of e)) left) scope (numbers ++ sym (nodes_count all) i ∷ []) (terms es) (nodes_last all made i))
+    ∙ let_step names want left scope numbers (term_of e) (terms es) (boxed_nodes so_far) (boxed_node made, boxed_nodes all) h g
 
-pub let_extra : (names : List (List ℕ)) (want : Want) (scope : List NumberedNames) (numbers : List ℕ) (e : Expr) (es : List Expr)
+pub let_extra : (names : List (List ℕ)) (want : Want) (left : List Bool) (scope : List NumberedNames) (numbers : List ℕ) (e : Expr) (es : List Expr)
     (so_far : List Node) → length names ≤ length numbers → 0 < length es →
-    misfit so_far ≡ let_after names want scope numbers (terms (e ∷ es)) so_far
-let_extra names want scope numbers e [] so_far h more = absurd (omega (arith, more))
-let_extra names want scope numbers e (f ∷ fs) so_far h more =
-    let_many names want scope numbers (term_of e) (term_of f) (terms fs) so_far h
+    misfit so_far ≡ let_after names want left scope numbers (terms (e ∷ es)) so_far
+let_extra names want left scope numbers e [] so_far h more = absurd (omega (arith, more))
+let_extra names want left scope numbers e (f ∷ fs) so_far h more =
+    let_many names want left scope numbers (term_of e) (term_of f) (terms fs) so_far h
 
-pub let_none : (names : List (List ℕ)) (want : Want) (scope : List NumberedNames) (numbers : List ℕ) (so_far : List Node) →
-    misfit so_far ≡ let_after names want scope numbers no_terms so_far
-let_none names want scope numbers so_far = refl
+pub let_none : (names : List (List ℕ)) (want : Want) (left : List Bool) (scope : List NumberedNames) (numbers : List ℕ) (so_far : List Node) →
+    misfit so_far ≡ let_after names want left scope numbers no_terms so_far
+let_none names want left scope numbers so_far = refl
 
 pub faulty_misfit : (so_far : List Node) → ◌≡◌ {A = Numbered} (boxed_node (Faulty WrongType), so_far) (misfit so_far)
 faulty_misfit so_far =

@@ -11,6 +11,10 @@
 //! means, faults included, with how many nodes the expression has, unless an allocation fails. An expression of 2^64
 //! nodes or more, and no other, is refused by `boxed` as a failed allocation is.
 //!
+//! [`boxed_checked`] does the same and leaves out the tests that always succeed, by what a check of `expr_types` gives
+//! up of the nodes. The law of `fit_laws` says that these nodes give the same without their tests. To find the marks of
+//! an argument, the nodes of those before it are counted, once for each level of the expression.
+//!
 //! An expression is taken by value: its operators are moved into the nodes. What is copied is the key of a property,
 //! which is shared.
 //!
@@ -18,11 +22,12 @@
 #![tactic(auto)]
 
 mod boxing;
+mod marks;
 mod name_role;
 mod node_count;
 mod number_scope;
 mod property_key;
 mod resolving;
 
-pub use boxing::boxed;
+pub use boxing::{boxed, boxed_checked};
 pub use resolving::resolve;

@@ -3,15 +3,15 @@
 ghost use Rattle.std.specs.Prelude.{◌≡◌, ◌<◌, ◌^◌, [], ◌∷◌, length, IfOk};
 ghost use Rattle.prop_values.specs.View.{data_of};
 ghost use Rattle.property_tables.specs.Fitting.{fit};
-ghost use Rattle.expr_syntax.specs.Term.{node};
 ghost use Rattle.expr_syntax.specs.TermView.{term_of, terms};
 ghost use Rattle.eval_face.specs.Rules.{rule_of};
 ghost use Rattle.expr_nodes.specs.Boxed.{boxed_node, boxed_nodes};
 ghost use Rattle.expr_nodes.specs.Node.{constant};
 ghost use Rattle.expr_resolving.specs.NumberScopes.{HasNumbers, numbered, numbered_scope};
 ghost use Rattle.expr_nodes.specs.Resolving.{resolve, resolve_let, argument_want, number_of, outputs_want, variable_node};
-ghost use Rattle.expr_resolving.specs.ResolvedParts.{inner_of};
+ghost use Rattle.expr_resolving.specs.ResolvedParts.{inner_of, resolved_node};
 
+use crate::marks::{after, below, own_want};
 use crate::name_role::{NameRole, name_role};
 use crate::number_scope::{NumberScope, number_of};
 use crate::property_key::property_node;
@@ -30,13 +30,27 @@ pub fn resolve(
     want: Want,
 ) -> Result<(BoxedNode, Vec<BoxedNode>), AllocError>
     ensures { IfOk result (λ made. (boxed_node made.0, boxed_nodes made.1.items)
-        ≡ resolve (term_of expression) want [] []) }
+        ≡ resolve (term_of expression) want [] [] []) }
+{
+    resolve_marked(alloc, expression, want, &[])
+}
+
+/// The same, where the tests of marked nodes are left out. The marks are in preorder, literals have theirs, and where
+/// they are missing no node is marked.
+pub(crate) fn resolve_marked(
+    alloc: Global,
+    expression: Expr,
+    want: Want,
+    marks: &[bool],
+) -> Result<(BoxedNode, Vec<BoxedNode>), AllocError>
+    ensures { IfOk result (λ made. (boxed_node made.0, boxed_nodes made.1.items)
+        ≡ resolve (term_of expression) want marks.now [] []) }
 {
     let mut resolver = Resolver {
         alloc,
         bindings: Vec::new(alloc),
     };
-    let root = resolver.resolve(expression, want, &NumberScope::Empty)?;
+    let root = resolver.resolve(expression, want, marks, &NumberScope::Empty)?;
     Ok((root, resolver.bindings))
 }
 
@@ -47,44 +61,57 @@ struct Resolver {
     bindings: Vec<BoxedNode>,
 }
 
+// An expression with the marks of its nodes.
+#[derive(Drop)]
+struct MarkedExpr<'m> {
+    expression: Expr,
+    marks: &'m [bool],
+}
+
 impl Resolver {
     #[cycle(resolving)]
     fn resolve<'x>(
         &mut self,
         expression: Expr,
         want: Want,
+        marks: &[bool],
         scope: &'x NumberScope<'x>,
     ) -> Result<BoxedNode, AllocError>
         requires { HasNumbers scope.now }
         ensures { IfOk result (λ made. (boxed_node made, boxed_nodes self.new.bindings.items)
-            ≡ resolve (term_of expression) want (numbered_scope scope.now) (boxed_nodes self.old.bindings.items)) }
+            ≡ resolve (term_of expression) want marks.now (numbered_scope scope.now) (boxed_nodes self.old.bindings.items)) }
     {
         match expression {
             Expr::Literal(value) => fitted_constant(self.alloc, value, &want),
-            Expr::Node(op, arguments) => self.resolve_node(op, arguments.into_vec(), want, &*scope),
+            Expr::Node(op, arguments) => {
+                let own = own_want(&op, marks, want);
+                self.resolve_node(op, arguments.into_vec(), own, below(marks), &*scope)
+            }
         }
     }
 
+    // A node by its operator, with its own want and the marks of the nodes below it.
     #[cycle(resolving)]
     fn resolve_node<'x>(
         &mut self,
         op: Operator,
         arguments: Vec<Expr>,
         want: Want,
+        marks: &[bool],
         scope: &'x NumberScope<'x>,
     ) -> Result<BoxedNode, AllocError>
         requires { HasNumbers scope.now }
         ensures { IfOk result (λ made. (boxed_node made, boxed_nodes self.new.bindings.items)
-            ≡ resolve (node op (terms arguments.items)) want (numbered_scope scope.now)
+            ≡ resolved_node op (terms arguments.items) want marks.now (numbered_scope scope.now)
             (boxed_nodes self.old.bindings.items)) }
     {
         if let Some(node) = property_node(&op, arguments.as_slice(), want)? {
             return Ok(node);
         }
         match name_role(op) {
-            NameRole::Binds(names) => self.resolve_let(names, arguments, want, &*scope),
+            NameRole::Binds(names) => self.resolve_let(names, arguments, want, marks, &*scope),
             NameRole::Asks(name) => Ok(variable_of(&name, &*scope, want)),
-            NameRole::Neither(op) => self.resolve_inner(op, arguments, want, &*scope),
+            NameRole::Neither(op) => self.resolve_inner(op, arguments, want, marks, &*scope),
         }
     }
 
@@ -94,18 +121,22 @@ impl Resolver {
         op: Operator,
         arguments: Vec<Expr>,
         want: Want,
+        marks: &[bool],
         scope: &'x NumberScope<'x>,
     ) -> Result<BoxedNode, AllocError>
         requires { HasNumbers scope.now }
         ensures { IfOk result (λ made. (boxed_node made, boxed_nodes self.new.bindings.items)
-            ≡ inner_of op want (terms arguments.items) (numbered_scope scope.now)
+            ≡ inner_of op want marks.now (terms arguments.items) (numbered_scope scope.now)
             (boxed_nodes self.old.bindings.items)) }
     {
         let count = arguments.len();
         let mut nodes = Vec::new(self.alloc);
+        let mut left = marks;
         for argument in arguments {
             let wanted = argument_want(&op, count, nodes.len(), want);
-            nodes.push(self.resolve(argument, wanted, &*scope)?)?;
+            let later = after(left, &argument);
+            nodes.push(self.resolve(argument, wanted, left, &*scope)?)?;
+            left = later;
         }
         Ok(BoxedNode::Inner(op, want, nodes))
     }
@@ -116,21 +147,25 @@ impl Resolver {
         names: Names,
         arguments: Vec<Expr>,
         want: Want,
+        marks: &[bool],
         scope: &'x NumberScope<'x>,
     ) -> Result<BoxedNode, AllocError>
         requires { HasNumbers scope.now }
         ensures { IfOk result (λ made. (boxed_node made, boxed_nodes self.new.bindings.items)
-            ≡ resolve_let (terms arguments.items) names want (numbered_scope scope.now) []
+            ≡ resolve_let (terms arguments.items) names want marks.now (numbered_scope scope.now) []
             (boxed_nodes self.old.bindings.items)) }
     {
         let count = names.len();
         let mut numbers = Vec::new(self.alloc);
         let mut rest = arguments.into_iter();
+        let mut left = marks;
         for _place in 0..count {
             let Some(argument) = rest.next() else {
                 return Ok(BoxedNode::Faulty(EvalFault::WrongType));
             };
-            let binding = self.resolve(argument, Want::Any, &*scope)?;
+            let later = after(left, &argument);
+            let binding = self.resolve(argument, Want::Any, left, &*scope)?;
+            left = later;
             numbers.push(self.bindings.len())?;
             self.bindings.push(binding)?;
         }
@@ -140,6 +175,10 @@ impl Resolver {
         if rest.len() > 0 {
             return Ok(BoxedNode::Faulty(EvalFault::WrongType));
         }
+        let body = MarkedExpr {
+            expression: body,
+            marks: left,
+        };
         self.resolve_body(&names, numbers.as_slice(), body, want, &*scope)
     }
 
@@ -149,18 +188,20 @@ impl Resolver {
         &mut self,
         names: &'x Names,
         numbers: &'x [usize],
-        body: Expr,
+        body: MarkedExpr<'x>,
         want: Want,
         scope: &'x NumberScope<'x>,
     ) -> Result<BoxedNode, AllocError>
         requires numbers { length names.now ≡ length numbers.now }
         requires scope { HasNumbers scope.now }
         ensures { IfOk result (λ made. (boxed_node made, boxed_nodes self.new.bindings.items)
-            ≡ resolve (term_of body) want (numbered names.now numbers.now ∷ numbered_scope scope.now)
+            ≡ resolve (term_of body.entry.expression) want body.entry.marks.now
+            (numbered names.now numbers.now ∷ numbered_scope scope.now)
             (boxed_nodes self.old.bindings.items)) }
     {
+        let MarkedExpr { expression, marks } = body;
         let inside = NumberScope::Frame(names, numbers, &*scope);
-        self.resolve(body, want, &inside)
+        self.resolve(expression, want, marks, &inside)
     }
 }
 

@@ -1,14 +1,17 @@
 //! What an expression gives by its tree, by nodes of its own and by nodes of a pool.
 
-ghost use Rattle.std.specs.Prelude.{◌≡◌, ◌+◌, ◌<◌, length, IfOk, OnOk};
+ghost use Rattle.std.specs.Prelude.{◌≡◌, ◌+◌, ◌<◌, length, IfOk, IfSome, OnOk};
+ghost use Rattle.expr_syntax.specs.TermView.{term_of};
+ghost use Rattle.expr_types.specs.JudgedFacts.{places_in};
 
 use anyhow::{Result, bail};
 use decimal_json::parse;
 use eval_face::Context;
-use expr_nodes::{Boxed, CountedEvaluator, Workspace};
+use expr_nodes::{Boxed, BoxedExpression, CountedEvaluator, Workspace};
 use expr_plain::eval_plain;
-use expr_resolving::boxed;
-use expr_syntax::{Expr, Reading, read_expr};
+use expr_resolving::{boxed, boxed_checked};
+use expr_syntax::{Expr, Reading, read_expr, read_terms_are_sound};
+use expr_types::{Placed, check};
 use fixed_num::Fixed;
 use host_ops::{HostOp, ImageSet, ScriptTest};
 use node_pool::Pool;
@@ -37,8 +40,8 @@ fn want_of(place: u8) -> Want {
     }
 }
 
-/// How many nodes the expression of a line has, where its tree, its nodes and those in a pool give one answer under
-/// each want.
+/// How many nodes the expression of a line has, where its tree, its nodes, those in a pool and those without the tests
+/// that always succeed give one answer under each want.
 pub fn agreed_nodes(alloc: Global, line: &str) -> Result<Option<u64>> {
     let mut workspace = Workspace::new(alloc);
     let mut nodes = None;
@@ -89,11 +92,49 @@ fn node_count(
     let by_boxes = answer::<Brand, _, _>(&boxes, 0, workspace, &world, Blank::new(1))?;
     let pool = filled_pool(alloc, line, want)?;
     let by_pool = answer::<Brand, _, _>(&pool, 1, workspace, &world, Blank::new(1))?;
+    let mut untested = Boxed::new(alloc);
+    untested.put(without_tests(alloc, line, want)?)?;
+    let by_untested = answer::<Brand, _, _>(&untested, 0, workspace, &world, Blank::new(1))?;
     let nodes = boxes.nodes(0);
-    if are_same(&given, &by_boxes) && are_same(&given, &by_pool) && pool.nodes(1) == nodes {
+    let agree = are_same(&given, &by_boxes)
+        && are_same(&given, &by_pool)
+        && are_same(&given, &by_untested);
+    if agree && pool.nodes(1) == nodes && untested.nodes(0) == nodes {
         Ok(Some(nodes))
     } else {
         Ok(None)
+    }
+}
+
+// The expression of a line without the tests that always succeed, or with all tests where a check refuses it.
+#[tactic(auto, using(crate::proofs::CheckLaws::is_read))]
+fn without_tests(alloc: Global, line: &str, want: Want) -> Result<BoxedExpression> {
+    read_terms_are_sound();
+    let Ok(json) = parse(alloc, line.as_bytes())? else {
+        bail!("no JSON text: {line}");
+    };
+    let Ok(Reading::Inside(expression)) = read_expr(alloc, &json)? else {
+        bail!("no expression: {line}");
+    };
+    match checked_places(alloc, &expression, &want)? {
+        Some(places) => Ok(boxed_checked(alloc, expression, want, places.as_slice())?),
+        None => Ok(boxed(alloc, expression, want)?),
+    }
+}
+
+// What a check finds of the nodes of an expression, or none where it refuses it.
+#[tactic(auto, using(crate::proofs::CheckLaws::own_places))]
+fn checked_places(
+    alloc: Global,
+    expression: &Expr,
+    want: &Want,
+) -> Result<Option<Vec<Placed>>, AllocError>
+    ensures { IfOk result (λ found. IfSome found
+        (λ places. places.items ≡ places_in (term_of expression.now, want.now))) }
+{
+    match check(alloc, expression, want, None)? {
+        Ok(typed) => Ok(Some(typed.into_places())),
+        Err(_) => Ok(None),
     }
 }
 

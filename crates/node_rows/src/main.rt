@@ -1,4 +1,5 @@
-//! Expressions, each evaluated by its tree, by nodes of its own and by those of a pool.
+//! Expressions, each evaluated by its tree, by nodes of its own, by those of a pool and by nodes without the tests that
+//! always succeed.
 //!
 //! Standard input holds one expression a line, as JSON. For each `ok NODES` is printed, where NODES says how many
 //! nodes it has, or `FAILED EXPRESSION` where these give two answers under some want; the exit status is 0 where none

@@ -1,7 +1,7 @@
-mod Sets
-mod KindLaws
-mod Outcomes
-mod Arguments
+pub mod Sets
+pub mod KindLaws
+pub mod Outcomes
+pub mod Arguments
 mod Nodes
 mod Shapes
 mod ValueLaws
@@ -9,11 +9,11 @@ mod NumberLaws
 mod SequenceLaws
 mod SectionLaws
 mod DecidingLaws
-mod BranchLaws
+pub mod BranchLaws
 mod WarpLaws
 mod BetweenLaws
 mod RampLaws
-mod NameLaws
-mod TermLaws
-mod PlaceLaws
+pub mod NameLaws
+pub mod TermLaws
+pub mod PlaceLaws
 mod CheckLaws

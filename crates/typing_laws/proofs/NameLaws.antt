@@ -24,7 +24,7 @@ use Rattle.typing_laws.proofs.Outcomes.{OutcomeOf, NodeOf, ResultOf, OwnIn, bran
 use Rattle.typing_laws.proofs.Arguments.{FrameOf, NamesOf, Agree, AllAgree, LiteralsOf, ArgumentOf, LookedIn, AreGiven, argument_ok, founds_ok, within_all, then_ok}
 use Rattle.typing_laws.proofs.BranchLaws.{want_if_node, want_if_own, outcome_of}
 
-take_within : (n : ℕ) (xs : List Meaning) → length (take n xs) ≤ n
+pub take_within : (n : ℕ) (xs : List Meaning) → length (take n xs) ≤ n
 take_within zero [] = omega arith
 take_within zero (x ∷ xs) = omega arith
 take_within (suc n) [] = omega arith
@@ -93,7 +93,7 @@ module _ (S : FaultSet) where
       (λ x. ArgumentOf S x false l j (me x names world)) (want_if_own (is_last m k) wants.Any v q) h)
 
   -- names that are bound, with kinds and with outcomes
-  frame_ok : (bs : List (List ℕ)) (xs : List (List ℕ)) (m k : ℕ) (v : Want) (names : BoundOutcomes) (world : World)
+  pub frame_ok : (bs : List (List ℕ)) (xs : List (List ℕ)) (m k : ℕ) (v : Want) (names : BoundOutcomes) (world : World)
       (ls : List (Option Data)) (js : List Kind) (ms : List Meaning) → k + length ms < m →
       AreGiven S (ops.Let bs) m k v names world ls js ms →
       FrameOf S (frame xs js) (bound xs (outcomes_of ms names world))
@@ -154,7 +154,7 @@ module _ (S : FaultSet) where
   body_ok bs (t ∷ []) [] h founds outcomes w scope path names world n frames = absurd h
   body_ok bs (t ∷ []) (me ∷ me' ∷ ms) h founds outcomes w scope path names world n frames = absurd h.1
 
-  take_agree : (n : ℕ) (ts : List Typing) (ms : List Meaning) → AllAgree S ts ms →
+  pub take_agree : (n : ℕ) (ts : List Typing) (ms : List Meaning) → AllAgree S ts ms →
       AllAgree S (take n ts) (take n ms)
   take_agree zero [] [] h = tt
   take_agree zero (t ∷ ts) (me ∷ ms) h = tt
@@ -172,7 +172,7 @@ module _ (S : FaultSet) where
   drop_agree n [] (me ∷ ms) h = absurd h
   drop_agree n (t ∷ ts) [] h = absurd h
 
-  take_literals : (n : ℕ) (ls : List (Option Data)) (ms : List Meaning) → LiteralsOf ls ms →
+  pub take_literals : (n : ℕ) (ls : List (Option Data)) (ms : List Meaning) → LiteralsOf ls ms →
       LiteralsOf (take n ls) (take n ms)
   take_literals zero [] [] h = tt
   take_literals zero (l ∷ ls) (me ∷ ms) h = tt

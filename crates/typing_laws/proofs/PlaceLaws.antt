@@ -19,7 +19,7 @@ use Rattle.expr_types.specs.declared.placed.Placed.{Placed}
 use Rattle.typing_laws.specs.TypingLaws.{EachNodeHasAPlace}
 
 -- so many places, where there is a kind
-abbrev HasPlaces : Typed → ℕ → Type 0
+abbrev pub HasPlaces : Typed → ℕ → Type 0
 HasPlaces (Ok found) n = length (places_of found) ≡ n
 HasPlaces (Err f) n = Unit {0}
 
@@ -190,7 +190,7 @@ counts_total no_terms = refl
 counts_total (term t ts) = ap (λ n. nodes t + n) (counts_total ts)
 
 mutual
-  typed_places : (bound : List (List ℕ)) (t : Term) → IsRead bound t → Counts (typed_as t) (nodes t)
+  pub typed_places : (bound : List (List ℕ)) (t : Term) → IsRead bound t → Counts (typed_as t) (nodes t)
   typed_places bound (literal d) read = λ asked w scope path. below_places [] (literal_node d w path) 1 refl
   typed_places bound (node op ts) read =
       subst (λ (n : ℕ). Counts (typed_as (node op ts)) (1 + n)) (counts_total ts)

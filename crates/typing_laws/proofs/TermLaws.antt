@@ -182,12 +182,12 @@ module _ (S : FaultSet) where
   literal_means (literal d) = λ w names world. refl
   literal_means (node op ts) = λ w names world. tt
 
-  literals_ok : (ts : Terms) → LiteralsOf (literals ts) (means ts)
+  pub literals_ok : (ts : Terms) → LiteralsOf (literals ts) (means ts)
   literals_ok no_terms = tt
   literals_ok (term t ts) = (literal_means t, literals_ok ts)
 
   mutual
-    mean_ok : (bound : List (List ℕ)) (t : Term) → IsRead bound t → Agree S (typed_as t) (mean t)
+    pub mean_ok : (bound : List (List ℕ)) (t : Term) → IsRead bound t → Agree S (typed_as t) (mean t)
     mean_ok bound (literal d) read = λ asked w scope path names world n. below_ok S w [] (literal_node d w path)
         (fit w d) (literal_ok S w d path)
     mean_ok bound (node op ts) read =
@@ -196,7 +196,7 @@ module _ (S : FaultSet) where
         (record { arity = read.0; parts = read.1 }))
         (literals_ok ts) (means_ok bound (names_within op bound) ts read.2)
 
-    means_ok : (bound inner : List (List ℕ)) (ts : Terms) → AreRead bound inner ts →
+    pub means_ok : (bound inner : List (List ℕ)) (ts : Terms) → AreRead bound inner ts →
         AllAgree S (typings ts) (means ts)
     means_ok bound inner no_terms read = tt
     means_ok bound inner (term t no_terms) read = (mean_ok inner t read, tt)

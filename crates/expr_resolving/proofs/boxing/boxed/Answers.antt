@@ -1,4 +1,4 @@
-use Rattle.std.proofs.Common.{◌∙◌, ap}
+use Rattle.std.proofs.Common.{◌∙◌, [], ap}
 use Rattle.expr_syntax.specs.TermView.{term_of}
 use Rattle.expr_nodes.specs.Boxed.{boxed_node, boxed_nodes}
 use Rattle.expr_nodes.specs.Evaluators.{sized_node}
@@ -7,11 +7,11 @@ use Rattle.expr_resolving.proofs.boxing.boxed.Goals as goal
 
 pub new-requires : goal.new-requires
 new-requires c =
-    evaluable c.resolved_expressions_mean_the_same.ensures (term_of c.args.expression) c.args.want (boxed_node c.in_ok-root.root)
-    (boxed_nodes c.in_ok-root.bindings.items) c.in-Some.nodes c.in_ok-root.ensures c.in-Some.ensures.some
+    evaluable (term_of c.args.expression) c.args.want [] (boxed_node c.in_ok-root.root)
+    (boxed_nodes c.in_ok-root.bindings.items) c.in-Some.nodes (c.resolved_expressions_mean_the_same.ensures (term_of c.args.expression) c.args.want) c.in_ok-root.ensures c.in-Some.ensures.some
 
 pub returns : goal.returns
 returns c =
     ap sized_node c.new.ensures
-    ∙ means_term c.resolved_expressions_mean_the_same.ensures (term_of c.args.expression) c.args.want (boxed_node c.in_ok-root.root)
-    (boxed_nodes c.in_ok-root.bindings.items) c.in-Some.nodes c.in_ok-root.ensures c.in-Some.ensures.some
+    ∙ means_term (term_of c.args.expression) c.args.want [] (boxed_node c.in_ok-root.root)
+    (boxed_nodes c.in_ok-root.bindings.items) c.in-Some.nodes (c.resolved_expressions_mean_the_same.ensures (term_of c.args.expression) c.args.want) c.in_ok-root.ensures c.in-Some.ensures.some

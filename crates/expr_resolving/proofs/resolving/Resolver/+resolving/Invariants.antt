@@ -23,22 +23,22 @@ abbrev pub decreases-resolve_let : goal.decreases-resolve_let
 decreases-resolve_let l = 4 * weight l.arguments.items + 2
 
 abbrev pub decreases-resolve_body : goal.decreases-resolve_body
-decreases-resolve_body l = 4 * nodes (term_of l.body) + 1
+decreases-resolve_body l = 4 * nodes (term_of l.body.expression) + 1
 
 -- the nodes so far and those to come are those of all arguments
 abbrev pub invariant-resolve_inner-loop-argument : goal.invariant-resolve_inner-loop-argument
 invariant-resolve_inner-loop-argument l =
-    (inner_after l.fn.op l.count l.fn.want (numbered_scope l.fn.scope) (boxed_nodes l.nodes.items)
+    (inner_after l.fn.op l.count l.fn.want l.left (numbered_scope l.fn.scope) (boxed_nodes l.nodes.items)
     (terms (into_iter_items l.argument-iterator)) (boxed_nodes l.self.bindings.items)
-    ≡ inner_of l.fn.op l.fn.want (terms l.fn.arguments.items) (numbered_scope l.fn.scope) (boxed_nodes l.fn.self.bindings.items))
+    ≡ inner_of l.fn.op l.fn.want l.fn.marks (terms l.fn.arguments.items) (numbered_scope l.fn.scope) (boxed_nodes l.fn.self.bindings.items))
     × (weight (into_iter_items l.argument-iterator) ≤ weight l.fn.arguments.items)
     × (l.op ≡ l.fn.op)
 
 -- so many names have numbers, and what is left of the arguments makes all of the `let`
 abbrev pub invariant-resolve_let-loop-place : goal.invariant-resolve_let-loop-place
 invariant-resolve_let-loop-place l =
-    (let_after l.fn.names l.fn.want (numbered_scope l.fn.scope) l.numbers.items
+    (let_after l.fn.names l.fn.want l.left (numbered_scope l.fn.scope) l.numbers.items
     (terms (into_iter_items l.rest)) (boxed_nodes l.self.bindings.items)
-    ≡ resolve_let (terms l.fn.arguments.items) l.fn.names l.fn.want (numbered_scope l.fn.scope) [] (boxed_nodes l.fn.self.bindings.items))
+    ≡ resolve_let (terms l.fn.arguments.items) l.fn.names l.fn.want l.fn.marks (numbered_scope l.fn.scope) [] (boxed_nodes l.fn.self.bindings.items))
     × (weight (into_iter_items l.rest) ≤ weight l.fn.arguments.items)
     × (length l.numbers.items ≡ l._place)

@@ -1,0 +1,4 @@
+mod FitLaws
+mod MarkLaws
+mod MarkedTermLaws
+mod CheckedLaws
