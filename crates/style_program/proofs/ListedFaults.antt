@@ -58,6 +58,7 @@ module _ (law : EveryFaultIsListed) (files : List ℕ → Option (List ℕ)) (im
   found_asked (words.Value expression) before after o (inr (kind, at, none, place, cause, is, same)) ends = absurd (let refused = ap (λ p. status_of p.ending) is in cc)
   found_asked (words.Validate style) before after o defined ends = tt
   found_asked (words.Migrate style) before after o defined ends = tt
+  found_asked (words.Simplify style) before after o defined ends = tt
   found_asked (words.Eval w) before after o defined ends = tt
   found_asked (words.Replay w) before after o defined ends = tt
   found_asked (words.Tile tile) before after o defined ends = tt

@@ -8,6 +8,7 @@ use Rattle.style_program.specs.GenerateRun.{generate_run}
 use Rattle.style_program.specs.ReplayRun.{replay_run}
 use Rattle.style_program.specs.TileRun.{tile_run}
 use Rattle.style_program.specs.MigrateRun.{migrate_run}
+use Rattle.style_program.specs.SimplifyRun.{simplify_run}
 use Rattle.style_program.specs.ValidateRun.{validate_run}
 use Rattle.style_program.specs.ValueRun.{value_run}
 use Rattle.style_program.specs.Words as words
@@ -20,6 +21,7 @@ help_text =
     line (codes "usage: pirgesh value EXPR") ++
     line (codes "       pirgesh validate STYLE") ++
     line (codes "       pirgesh migrate STYLE") ++
+    line (codes "       pirgesh simplify STYLE") ++
     line (codes "       pirgesh eval STYLE ZOOM [SOURCE=TILE ..]") ++
     line (codes "       pirgesh replay STYLE SCRIPT ZOOM [SOURCE=TILE ..]") ++
     line (codes "       pirgesh tile TILE") ++
@@ -30,6 +32,7 @@ help_text =
     line (codes "  value     the value of an expression as JSON, or error and the fault's name") ++
     line (codes "  validate  the rules that a style breaks and invalid, or what may fail and valid") ++
     line (codes "  migrate   a style with its legacy forms as expressions, or the rules that it breaks and invalid") ++
+    line (codes "  simplify  a style with the same meaning and less in it, and the filters that no feature passes") ++
     line (codes "  eval      what a style shows at a zoom over tiles of its sources") ++
     line (codes "  replay    the answer to each line of a script, which edits the style and asks for listings") ++
     line (codes "  tile      the layers of a vector tile, their features, and the properties of each feature") ++
@@ -66,6 +69,7 @@ module _ (images scripts : List ℕ → Bool) (can_change : Bool) where
   asked_run (words.Value expression) = value_run images scripts expression
   asked_run (words.Validate style) = validate_run style
   asked_run (words.Migrate style) = migrate_run style
+  asked_run (words.Simplify style) = simplify_run style
   asked_run (words.Eval w) = eval_run w images scripts
   asked_run (words.Replay w) = replay_run w images scripts can_change
   asked_run (words.Tile tile) = tile_run tile

@@ -5,6 +5,7 @@ pub mod ValueRun
 pub mod StyleFile
 pub mod ValidateRun
 pub mod MigrateRun
+pub mod SimplifyRun
 pub mod ShownRun
 pub mod EvalRun
 pub mod ReplayRun

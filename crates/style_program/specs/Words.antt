@@ -28,6 +28,8 @@ pub data Asked : Type 0 where
   Validate : (style : List ℕ) → Asked
   -- a style in expressions
   Migrate : (style : List ℕ) → Asked
+  -- a style with the same meaning and less in it
+  Simplify : (style : List ℕ) → Asked
   -- what a style shows
   Eval : EvalWords → Asked
   -- what it shows while it is edited by a script
@@ -139,12 +141,13 @@ abbrev pub asked_generate : Option ℕ → Asked
 asked_generate (Some features) = Generate features
 asked_generate None = Wrong
 
--- `value`, `validate`, `migrate`, `tile` and `generate` have one word more
+-- `value`, `validate`, `migrate`, `simplify`, `tile` and `generate` have one word more
 abbrev pub asked_of_one : (command word : List ℕ) → Asked
 asked_of_one command word =
     if bytes_eq command (codes "value") then Value word else
     if bytes_eq command (codes "validate") then Validate word else
     if bytes_eq command (codes "migrate") then Migrate word else
+    if bytes_eq command (codes "simplify") then Simplify word else
     if bytes_eq command (codes "tile") then Tile word else
     if bytes_eq command (codes "generate") then asked_generate (features_named word) else
     Wrong

@@ -8,7 +8,7 @@ use Rattle.style_program.specs.declared.words.Request.{Request}
 use Rattle.style_program.specs.declared.words.Request.TheVariants as request
 use Rattle.style_program.specs.declared.words.TileWord.{TileWord}
 use Rattle.style_program.specs.Words as words
-use Rattle.style_program.specs.Words.{EvalWords, ReplayWords, Asked, Value, Validate, Migrate, Eval, Replay, Tile, Generate, Help, Version, Wrong}
+use Rattle.style_program.specs.Words.{EvalWords, ReplayWords, Asked, Value, Validate, Migrate, Simplify, Eval, Replay, Tile, Generate, Help, Version, Wrong}
 
 abbrev pub tile_word : TileWord → words.TileWord
 tile_word t = (t.source.now, t.tile.now)
@@ -23,6 +23,7 @@ abbrev pub answer_asked : AnswerRequest → Asked
 answer_asked (code.Value expression) = Value expression.now
 answer_asked (code.Validate style) = Validate style.now
 answer_asked (code.Migrate style) = Migrate style.now
+answer_asked (code.Simplify style) = Simplify style.now
 answer_asked (code.Eval r) = Eval (eval_words r)
 answer_asked (code.Tile tile) = Tile tile.now
 answer_asked (code.Generate features) = Generate features

@@ -12,8 +12,8 @@
 //! that says which file could not be read; and each status has its cause.
 //!
 //! The text to believe is in `specs/`: `Words`, `Refusals`, `ValueRun`, `StyleFile`, `ValidateRun`,
-//! `MigrateRun`, `ShownRun`, `EvalRun`, `ReplayRun`, `TileRun`, `GenerateRun`, `Commands`, `Promises`, `ListedFaults`. Law
-//! of it: `OneOutcome`.
+//! `MigrateRun`, `SimplifyRun`, `ShownRun`, `EvalRun`, `ReplayRun`, `TileRun`, `GenerateRun`, `Commands`, `Promises`,
+//! `ListedFaults`. Law of it: `OneOutcome`.
 #![tactic(auto)]
 
 mod eval_command;
@@ -24,6 +24,7 @@ mod migrate_command;
 mod refusals;
 mod replay_command;
 mod reply;
+mod simplify_command;
 mod style_file;
 mod tile_command;
 mod top;

@@ -11,6 +11,7 @@ use crate::eval_command::answer_eval;
 use crate::generate_command::answer_generate;
 use crate::migrate_command::answer_migrate;
 use crate::replay_command::{OpenedScript, open_script};
+use crate::simplify_command::answer_simplify;
 use crate::tile_command::answer_tile;
 use crate::validate_command::answer_validate;
 use crate::value_command::answer_value;
@@ -26,6 +27,7 @@ const HELP: &[u8] =
 usage: pirgesh value EXPR
        pirgesh validate STYLE
        pirgesh migrate STYLE
+       pirgesh simplify STYLE
        pirgesh eval STYLE ZOOM [SOURCE=TILE ..]
        pirgesh replay STYLE SCRIPT ZOOM [SOURCE=TILE ..]
        pirgesh tile TILE
@@ -36,6 +38,7 @@ usage: pirgesh value EXPR
   value     the value of an expression as JSON, or error and the fault's name
   validate  the rules that a style breaks and invalid, or what may fail and valid
   migrate   a style with its legacy forms as expressions, or the rules that it breaks and invalid
+  simplify  a style with the same meaning and less in it, and the filters that no feature passes
   eval      what a style shows at a zoom over tiles of its sources
   replay    the answer to each line of a script, which edits the style and asks for listings
   tile      the layers of a vector tile, their features, and the properties of each feature
@@ -142,6 +145,7 @@ fn answer_to<'a, F: Files>(
         AnswerRequest::Value(expression) => answer_value(alloc, expression, images, scripts),
         AnswerRequest::Validate(style) => answer_validate(alloc, style, files),
         AnswerRequest::Migrate(style) => answer_migrate(alloc, style, files),
+        AnswerRequest::Simplify(style) => answer_simplify(alloc, style, files),
         AnswerRequest::Eval(request) => answer_eval(alloc, request, files, images, scripts),
         AnswerRequest::Tile(tile) => answer_tile(alloc, tile, files),
         AnswerRequest::Generate(features) => answer_generate(alloc, *features, images, scripts),

@@ -46,6 +46,8 @@ pub enum AnswerRequest<'a> {
     Validate(&'a str),
     /// A style in expressions.
     Migrate(&'a str),
+    /// A style with the same meaning and less in it.
+    Simplify(&'a str),
     /// What a style shows.
     Eval(EvalRequest<'a>),
     /// What a tile holds.
@@ -95,6 +97,7 @@ fn request_of_one<'a>(command: &str, word: &'a str) -> AnswerRequest<'a>
         "value" => AnswerRequest::Value(word),
         "validate" => AnswerRequest::Validate(word),
         "migrate" => AnswerRequest::Migrate(word),
+        "simplify" => AnswerRequest::Simplify(word),
         "tile" => AnswerRequest::Tile(word),
         "generate" => match features_named(word) {
             Some(features) => AnswerRequest::Generate(features),
