@@ -1,0 +1,2 @@
+pub mod NeverPassed
+pub mod TwiceSimplified

@@ -1,0 +1,3 @@
+-- Laws. The statements are to be believed; their proofs are in proofs/.
+pub mod NeverLaw
+pub mod TwiceLaw
