@@ -23,5 +23,5 @@ mod starts;
 mod text_place;
 
 pub use laws::places_spell_their_values;
-pub use place::TextPlace;
+pub use place::{TextPlace, byte_place};
 pub use text_place::text_places;

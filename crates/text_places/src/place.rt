@@ -1,6 +1,6 @@
 //! Lines and columns.
 
-ghost use Rattle.std.specs.Prelude.{◌≡◌, ◌+◌, ◌-◌, ◌<◌, ◌≤◌, ◌^◌, length, map, IfOk};
+ghost use Rattle.std.specs.Prelude.{◌≡◌, ◌+◌, ◌-◌, ◌<◌, ◌≤◌, ◌^◌, length, map, take, IfOk};
 ghost use Rattle.text_places.specs.Counting.{IsCounted};
 ghost use Rattle.text_places.specs.LineColumn.{after_byte, after_bytes, first_place, goes_on};
 ghost use Rattle.text_places.specs.TextPlace.{place_before};
@@ -19,6 +19,15 @@ pub struct TextPlace {
 pub(crate) struct CountedPlace {
     at: usize,
     place: TextPlace,
+}
+
+/// The line and column of the byte at a place of a text, or of the end of the text. Time is linear in the bytes before it. Source: own.
+pub fn byte_place(text: &[u8], at: usize) -> TextPlace
+    requires { at ≤ length text.now }
+    ensures { result ≡ after_bytes first_place (take at text.now) }
+{
+    let counted = counted_to(text, first_byte(), at);
+    counted.place
 }
 
 /// The places where these counts of bytes are left of a text.

@@ -1,0 +1,4 @@
+pub mod Appending
+pub mod TreeLaws
+pub mod PairLaws
+pub mod TypingLaws
