@@ -65,27 +65,30 @@ mutual
       let left = drop 1 marks in
       let none = no_more 1 marks e in
       let inside : List (List ℕ) → BoundOutcomes =
-      λ bs. bound bs (outcomes_of (take (length bs) (means ts)) names world) ∷ names in
-      (ap (λ w. mean (node op ts) w names world) (same_want op marks want e),
-      holds_by (rule_of op) (ArgumentMarksHold ts op (count_of ts) 0 own left names world)
-      (λ bs. LetMarksHold ts bs own left names (inside bs) world)
-      (no_argument ts op (count_of ts) 0 own left none names world)
-      (λ bs. none_in_let ts bs own left none names (inside bs) world))
+      λ bs. bound bs (outcomes_of (take (length bs) (means ts)) names world) ∷ names in (
+        ap (λ w. mean (node op ts) w names world) (same_want op marks want e),
+        holds_by (rule_of op) (ArgumentMarksHold ts op (count_of ts) 0 own left names world)
+            (λ bs. LetMarksHold ts bs own left names (inside bs) world)
+            (no_argument ts op (count_of ts) 0 own left none names world)
+            (λ bs. none_in_let ts bs own left none names (inside bs) world),
+      )
 
   no_argument : (ts : Terms) (op : Operator) (m k : ℕ) (want : Want) (marks : List Bool) → marks ≡ [] →
       (names : BoundOutcomes) (world : World) → ArgumentMarksHold ts op m k want marks names world
   no_argument no_terms op m k want marks e names world = tt
-  no_argument (term t ts) op m k want marks e names world =
-      (none_marked t (argument_want op m k want) marks e names world,
-      no_argument ts op m (k + 1) want (drop (nodes t) marks) (no_more (nodes t) marks e) names world)
+  no_argument (term t ts) op m k want marks e names world = (
+    none_marked t (argument_want op m k want) marks e names world,
+    no_argument ts op m (k + 1) want (drop (nodes t) marks) (no_more (nodes t) marks e) names world,
+  )
 
   none_in_let : (ts : Terms) (bs : List (List ℕ)) (want : Want) (marks : List Bool) → marks ≡ [] →
       (names inside : BoundOutcomes) (world : World) → LetMarksHold ts bs want marks names inside world
   none_in_let no_terms bs want marks e names inside world = tt
   none_in_let (term t ts) [] want marks e names inside world = none_marked t want marks e inside world
-  none_in_let (term t ts) (name ∷ bs) want marks e names inside world =
-      (none_marked t wants.Any marks e names world,
-      none_in_let ts bs want (drop (nodes t) marks) (no_more (nodes t) marks e) names inside world)
+  none_in_let (term t ts) (name ∷ bs) want marks e names inside world = (
+    none_marked t wants.Any marks e names world,
+    none_in_let ts bs want (drop (nodes t) marks) (no_more (nodes t) marks e) names inside world,
+  )
 
 pub resolved_expressions : ResolvedExpressionsMeanTheSame
 resolved_expressions t want = marked_expressions t want [] (λ world. none_marked t want [] refl [] world)

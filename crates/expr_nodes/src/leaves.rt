@@ -20,7 +20,9 @@ use crate::borrowed::property_at;
 use decimal_json::Text;
 use expr_syntax::{Operator, Ramp};
 use fixed_num::Fixed;
-use operator_rules::{WorldView, as_sequence, fitted, fitted_copy, node_value, number_of, undecided, warped};
+use operator_rules::{
+    WorldView, as_sequence, fitted, fitted_copy, node_value, number_of, undecided, warped,
+};
 use operator_values::Halt;
 use prop_values::{EvalFault, Value, Want};
 use std::alloc::Global;

@@ -23,7 +23,7 @@ item_missing [] i h = refl
 item_missing (x ∷ js) zero h = absurd (omega (arith, h))
 item_missing (x ∷ js) (suc i) h = item_missing js i (omega (arith, h))
 
--- what a slice lends at a place
+-- what is borrowed of a slice at a place
 pub item_lent : (js : List Json) (i : ℕ) (r : Option (Bor Json))
     → MatchOption r (length js ≤ i) (λ (x : Bor Json). (i < length js) × HoldsAt (λ (y : Json). x.now ≡ y) js i)
     → tree_at r ≡ layer_at i (trees js)

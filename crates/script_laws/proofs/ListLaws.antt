@@ -23,11 +23,12 @@ use Rattle.program_runs.specs.declared.status.Ending.TheVariants.{Fine}
 use Rattle.program_runs.specs.Runs.{Run, HasOutcome, ends, reads, parses, after_text}
 use Rattle.script_runs.specs.ScriptRun.{script_run, line_out, line_command, ending_by}
 use Rattle.style_program.specs.EvalRun.{opened_or_refused, shown_at_first, listed_outcome, listed_run}
-use Rattle.style_program.specs.ReplayRun.{edited_run, script_part, script_limit}
+use Rattle.style_program.specs.ReplayRun.{answered_by, edited_run, script_part, script_limit}
 use Rattle.program_runs.specs.Refusals.{too_long}
 use Rattle.style_program.specs.ShownRun.{LoadedStyle, load_part, sound_or_broken, tiles_after, tiles_part, tiles_limit, tile_or}
 use Rattle.style_program.specs.StyleFile.{style_limit}
-use Rattle.style_program.specs.Words.{EvalWords, ReplayWords, TileWord, count_of}
+use Rattle.style_program.specs.Words.{EvalWords, ScriptWords, TileWord, count_of}
+use Rattle.style_program.specs.declared.words.ScriptKind.TheVariants.{Replay}
 use Rattle.script_laws.specs.EvalLaw.{list_script, PerhapsMore, EvalIsReplayOfList}
 
 -- ---- the line
@@ -115,7 +116,7 @@ too_short (Some bytes) e k =
     let short : script_limit < length list_script = subst (λ b. script_limit < length b) is k in
     absurd (omega (arith, short))
 
-module _ (files : List ℕ → Option (List ℕ)) (o : RunOutcome) (w : ReplayWords) (images scripts : List ℕ → Bool) (can_change : Bool) (shown : LoadedStyle)
+module _ (files : List ℕ → Option (List ℕ)) (o : RunOutcome) (w : ScriptWords) (images scripts : List ℕ → Bool) (can_change : Bool) (shown : LoadedStyle)
     (is : files w.script ≡ Some list_script) where
   abbrev script : List ℕ → Run
   script bytes = script_run shown.1 scripts can_change (shown_at_first w.shown images scripts shown) bytes
@@ -159,18 +160,18 @@ module _ (files : List ℕ → Option (List ℕ)) (o : RunOutcome) (w : ReplayWo
   abbrev fault : Option Fault
   fault = tiles_fault cell_limit shown.0 shown.1 w.shown.zoom
 
-  read_script : (asked all : Names) → HasOutcome files (script_part w.script (edited_run w images scripts can_change shown)) asked all o →
+  read_script : (asked all : Names) → HasOutcome files (script_part w.script (edited_run cell_limit w images (answered_by Replay scripts can_change) shown)) asked all o →
       (names : Names) × HasOutcome files (listed_run w.shown images scripts shown) asked names o × PerhapsMore w.script names all
   read_script asked all (inl (longer, h, names)) = absurd (too_short (files w.script) is longer)
   read_script asked all (inr (bytes, (content, within), h)) =
       let line : bytes ≡ list_script = subst (λ c. IsContent c bytes) is content in
       let k = opened_lists fault (asked ++ w.script ∷ []) all
-      (subst (λ b. HasOutcome files (edited_run w images scripts can_change shown b) (asked ++ w.script ∷ []) all o) line h) in
+      (subst (λ b. HasOutcome files (edited_run cell_limit w images (answered_by Replay scripts can_change) shown b) (asked ++ w.script ∷ []) all o) line h) in
       let (names, listed) = listed_from fault (asked ++ w.script ∷ []) all asked k in
       (asked, listed, inr names)
 
   list_read : (asked all : Names) → HasOutcome files (listed_run w.shown images scripts shown) asked all o →
-      (more : Names) × HasOutcome files (script_part w.script (edited_run w images scripts can_change shown)) asked more o × PerhapsMore w.script all more
+      (more : Names) × HasOutcome files (script_part w.script (edited_run cell_limit w images (answered_by Replay scripts can_change) shown)) asked more o × PerhapsMore w.script all more
   list_read asked all h =
       let longer = asked ++ w.script ∷ [] in
       let (names, listed) = listed_from fault asked all longer h in (
@@ -182,9 +183,9 @@ module _ (files : List ℕ → Option (List ℕ)) (o : RunOutcome) (w : ReplayWo
 pub eval_is_replay_of_list : EvalIsReplayOfList
 eval_is_replay_of_list files w images scripts can_change o is = (
   (λ more h. load_on files o (λ all names. PerhapsMore w.script names all) (λ names. inl refl) w.shown
-      (λ shown. script_part w.script (edited_run w images scripts can_change shown)) (listed_run w.shown images scripts)
+      (λ shown. script_part w.script (edited_run cell_limit w images (answered_by Replay scripts can_change) shown)) (listed_run w.shown images scripts)
       (λ shown. read_script files o w images scripts can_change shown is) [] more h),
   (λ names h. load_on files o (λ all more. PerhapsMore w.script all more) (λ names. inl refl) w.shown
-      (listed_run w.shown images scripts) (λ shown. script_part w.script (edited_run w images scripts can_change shown))
+      (listed_run w.shown images scripts) (λ shown. script_part w.script (edited_run cell_limit w images (answered_by Replay scripts can_change) shown))
       (λ shown. list_read files o w images scripts can_change shown is) [] names h),
 )

@@ -4,7 +4,7 @@ use Rattle.program_runs.specs.Outcome.{RunOutcome}
 use Rattle.program_runs.specs.Runs.{Run, HasOutcome}
 use Rattle.style_program.specs.EvalRun.{eval_run}
 use Rattle.style_program.specs.ReplayRun.{replay_run}
-use Rattle.style_program.specs.Words.{ReplayWords}
+use Rattle.style_program.specs.Words.{ScriptWords}
 
 abbrev pub list_script : List ℕ
 list_script = codes "[\"list\"]"
@@ -21,7 +21,7 @@ PerhapsMore name names more = (more ≡ names) ⊎ (more ≡ names ++ name ∷ [
 -- and each of `eval` is one of `replay`. `replay` reads the files that `eval` reads, and then the script unless it has ended.
 abbrev pub EvalIsReplayOfList : Type 0
 EvalIsReplayOfList =
-    (files : List ℕ → Option (List ℕ)) (w : ReplayWords) (images scripts : List ℕ → Bool) (can_change : Bool) (o : RunOutcome) →
+    (files : List ℕ → Option (List ℕ)) (w : ScriptWords) (images scripts : List ℕ → Bool) (can_change : Bool) (o : RunOutcome) →
     files w.script ≡ Some list_script →
     ((more : List (List ℕ)) → Comes files (replay_run w images scripts can_change) more o →
     (names : List (List ℕ)) × Comes files (eval_run w.shown images scripts) names o × PerhapsMore w.script names more)

@@ -60,7 +60,7 @@ module _ (law : EveryFaultIsListed) (files : List ℕ → Option (List ℕ)) (im
   found_asked (words.Migrate style) before after o defined ends = tt
   found_asked (words.Simplify style) before after o defined ends = tt
   found_asked (words.Eval w) before after o defined ends = tt
-  found_asked (words.Replay w) before after o defined ends = tt
+  found_asked (words.Script kind w) before after o defined ends = tt
   found_asked (words.Tile tile) before after o defined ends = tt
   found_asked (words.Generate features) before after o defined ends = tt
   found_asked words.Help before after o defined ends = tt

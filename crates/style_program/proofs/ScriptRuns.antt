@@ -1,8 +1,8 @@
--- The run of `replay`: how it comes to its script, and how the answers to that keep what is promised.
+-- The runs of scripts: how they come to a script, and how the answers to that keep what is promised.
 use Rattle.std.proofs.Common.{◌≡◌, ◌∙◌, ℕ, List, [], length, refl, sym, subst, inl, inr}
 use Rattle.std.proofs.Math.Seq.{take-length}
 use Rattle.std.specs.Prelude.{Option, None, Bool, ◌⊎◌}
-use Rattle.edit_session.specs.Opening.{cell_limit, Fault, tiles_fault}
+use Rattle.edit_session.specs.Opening.{Fault, tiles_fault}
 use Rattle.edit_session.specs.SessionState.{SessionState, opened}
 use Rattle.outside_io.specs.Writing.{Gains, GainsPrefix}
 use Rattle.outside_io.specs.WritingLaws.{front_of_nothing, gains_nothing}
@@ -20,52 +20,51 @@ use Rattle.program_runs.specs.declared.halt.RunHalt.{RunHalt}
 use Rattle.program_runs.proofs.Asked.{none_asked}
 use Rattle.program_runs.proofs.Going.{leads_on, halts_on}
 use Rattle.program_runs.proofs.Saying.{said_is_prefix}
-use Rattle.script_runs.specs.ScriptRun.{script_run}
 use Rattle.style_layout.specs.Shown.{SourceTile}
 use Rattle.style_program.specs.EvalRun.{opened_or_refused}
 use Rattle.style_program.specs.Promises.{KeepsPromises, outside}
-use Rattle.style_program.specs.ReplayRun.{replay_run, script_part, edited_run}
+use Rattle.style_program.specs.ReplayRun.{Answered, scripted_run, script_part, edited_run}
 use Rattle.style_program.specs.ShownRun.{LoadedStyle, load_part}
-use Rattle.style_program.specs.Words.{ReplayWords}
+use Rattle.style_program.specs.Words.{ScriptWords}
 use Rattle.style_program.proofs.Kept.{written, lacks_memory, cut_short}
 
-module _ (files : List ℕ → Option (List ℕ)) (w : ReplayWords) (images scripts : List ℕ → Bool) (can_change : Bool) (shown : LoadedStyle) (asked_old asked_mid : List (List ℕ)) (goes : GoesOn files (load_part w.shown) asked_old asked_mid shown) where
+module _ (files : List ℕ → Option (List ℕ)) (limit : ℕ) (w : ScriptWords) (images : List ℕ → Bool) (answered : Answered) (shown : LoadedStyle) (asked_old asked_mid : List (List ℕ)) (goes : GoesOn files (load_part w.shown) asked_old asked_mid shown) where
   abbrev behind_shown : LoadedStyle → Run
-  behind_shown s = script_part w.script (edited_run w images scripts can_change s)
+  behind_shown s = script_part w.script (edited_run limit w images answered s)
 
   module _ (then_files : List ℕ → Option (List ℕ)) (same : then_files ≡ files) where
     -- once the script was read
     pub script_read : (asked_new : List (List ℕ)) (script : List ℕ) → GoesOn then_files (script_part w.script) asked_mid asked_new script
-        → ComesTo files (replay_run w images scripts can_change) (edited_run w images scripts can_change shown script) asked_old asked_new
+        → ComesTo files (scripted_run limit w images answered) (edited_run limit w images answered shown script) asked_old asked_new
     script_read asked_new script read =
-        let next : ComesTo files (behind_shown shown) (edited_run w images scripts can_change shown script) asked_mid asked_new =
-        (subst (λ f. ComesTo f (behind_shown shown) (edited_run w images scripts can_change shown script) asked_mid asked_new) same (read (edited_run w images scripts can_change shown))) in
-        leads_on files (replay_run w images scripts can_change) (behind_shown shown) (edited_run w images scripts can_change shown script) asked_old asked_mid asked_new (goes behind_shown) next
+        let next : ComesTo files (behind_shown shown) (edited_run limit w images answered shown script) asked_mid asked_new =
+        (subst (λ f. ComesTo f (behind_shown shown) (edited_run limit w images answered shown script) asked_mid asked_new) same (read (edited_run limit w images answered shown))) in
+        leads_on files (scripted_run limit w images answered) (behind_shown shown) (edited_run limit w images answered shown script) asked_old asked_mid asked_new (goes behind_shown) next
 
     -- and the style was opened, which the code has by other names
     pub script_comes : (asked_new : List (List ℕ)) (script : List ℕ) → GoesOn then_files (script_part w.script) asked_mid asked_new script
-        → (p : SessionState) (tiles : List SourceTile) → None ≡ tiles_fault cell_limit shown.0 shown.1 w.shown.zoom → p ≡ opened cell_limit shown.0 w.shown.zoom images → tiles ≡ shown.1
-        → ComesTo files (replay_run w images scripts can_change) (script_run tiles scripts can_change p script) asked_old asked_new
+        → (p : SessionState) (tiles : List SourceTile) → None ≡ tiles_fault limit shown.0 shown.1 w.shown.zoom → p ≡ opened limit shown.0 w.shown.zoom images → tiles ≡ shown.1
+        → ComesTo files (scripted_run limit w images answered) (answered tiles p script) asked_old asked_new
     script_comes asked_new script read p tiles none first over =
-        subst (λ (ts : List SourceTile). ComesTo files (replay_run w images scripts can_change) (script_run ts scripts can_change p script) asked_old asked_new) (sym over)
-        (subst (λ (q : SessionState). ComesTo files (replay_run w images scripts can_change) (script_run shown.1 scripts can_change q script) asked_old asked_new) (sym first)
-        (subst (λ (f : Option Fault). ComesTo files (replay_run w images scripts can_change) (opened_or_refused f (script_run shown.1 scripts can_change (opened cell_limit shown.0 w.shown.zoom images) script)) asked_old asked_new)
+        subst (λ (ts : List SourceTile). ComesTo files (scripted_run limit w images answered) (answered ts p script) asked_old asked_new) (sym over)
+        (subst (λ (q : SessionState). ComesTo files (scripted_run limit w images answered) (answered shown.1 q script) asked_old asked_new) (sym first)
+        (subst (λ (f : Option Fault). ComesTo files (scripted_run limit w images answered) (opened_or_refused f (answered shown.1 (opened limit shown.0 w.shown.zoom images) script)) asked_old asked_new)
         (sym none) (script_read asked_new script read)))
 
     pub script_halts : (old mid new : ℕ) (failed_old failed_mid failed_new : Option (List ℕ)) (asked_new : List (List ℕ)) (h : RunHalt) → NoneFailed old mid failed_old failed_mid
         → Halts then_files (script_part w.script) mid new failed_mid failed_new asked_mid asked_new h
-        → HaltsAt files (replay_run w images scripts can_change) old new failed_old failed_new asked_old asked_new h
+        → HaltsAt files (scripted_run limit w images answered) old new failed_old failed_new asked_old asked_new h
     script_halts old mid new failed_old failed_mid failed_new asked_new h before halts =
-        halts_on files (replay_run w images scripts can_change) (behind_shown shown) old mid new failed_old failed_mid failed_new asked_old asked_mid asked_new h (goes behind_shown) before
-        (subst (λ f. HaltsAt f (behind_shown shown) mid new failed_mid failed_new asked_mid asked_new h) same (halts (edited_run w images scripts can_change shown)))
+        halts_on files (scripted_run limit w images answered) (behind_shown shown) old mid new failed_old failed_mid failed_new asked_old asked_mid asked_new h (goes behind_shown) before
+        (subst (λ f. HaltsAt f (behind_shown shown) mid new failed_mid failed_new asked_mid asked_new h) same (halts (edited_run limit w images answered shown)))
 
     -- the style could not be opened
     pub opening_halts : (old mid new : ℕ) (failed_old failed_mid failed_new : Option (List ℕ)) (asked_new : List (List ℕ)) (script : List ℕ) (h : RunHalt)
         → NoneFailed old mid failed_old failed_mid → NoneFailed mid new failed_mid failed_new → GoesOn then_files (script_part w.script) asked_mid asked_new script
-        → HaltsAt files (edited_run w images scripts can_change shown script) new new failed_new failed_new asked_new asked_new h
-        → HaltsAt files (replay_run w images scripts can_change) old new failed_old failed_new asked_old asked_new h
+        → HaltsAt files (edited_run limit w images answered shown script) new new failed_new failed_new asked_new asked_new h
+        → HaltsAt files (scripted_run limit w images answered) old new failed_old failed_new asked_old asked_new h
     opening_halts old mid new failed_old failed_mid failed_new asked_new script h before after read halts =
-        halts_on files (replay_run w images scripts can_change) (edited_run w images scripts can_change shown script) old new new failed_old failed_new failed_new asked_old asked_new asked_new h
+        halts_on files (scripted_run limit w images answered) (edited_run limit w images answered shown script) old new new failed_old failed_new failed_new asked_old asked_new asked_new h
         (script_read asked_new script read) (after.0 ∙ before.0, after.1 ∙ before.1) halts
 
 -- A run that comes to a script, of whose answers some were written.

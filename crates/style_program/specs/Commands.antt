@@ -5,7 +5,7 @@ use Rattle.program_runs.specs.Outcome.{line, said, told}
 use Rattle.program_runs.specs.Runs.{Run, ends}
 use Rattle.style_program.specs.EvalRun.{eval_run}
 use Rattle.style_program.specs.GenerateRun.{generate_run}
-use Rattle.style_program.specs.ReplayRun.{replay_run}
+use Rattle.style_program.specs.ReplayRun.{script_kind_run}
 use Rattle.style_program.specs.TileRun.{tile_run}
 use Rattle.style_program.specs.MigrateRun.{migrate_run}
 use Rattle.style_program.specs.SimplifyRun.{simplify_run}
@@ -24,6 +24,7 @@ help_text =
     line (codes "       pirgesh simplify STYLE") ++
     line (codes "       pirgesh eval STYLE ZOOM [SOURCE=TILE ..]") ++
     line (codes "       pirgesh replay STYLE SCRIPT ZOOM [SOURCE=TILE ..]") ++
+    line (codes "       pirgesh desk STYLE SCRIPT [SOURCE=TILE ..]") ++
     line (codes "       pirgesh tile TILE") ++
     line (codes "       pirgesh generate N") ++
     line (codes "       pirgesh --help") ++
@@ -35,6 +36,7 @@ help_text =
     line (codes "  simplify  a style with the same meaning and less in it, and the filters that no feature passes") ++
     line (codes "  eval      what a style shows at a zoom over tiles of its sources") ++
     line (codes "  replay    the answer to each line of a script, which edits the style and asks for listings") ++
+    line (codes "  desk      as replay, for several views of one style, each with a zoom and states of its own") ++
     line (codes "  tile      the layers of a vector tile, their features, and the properties of each feature") ++
     line (codes "  generate  how many lines and bytes replay writes of a style over N features that are made; no file is read") ++
     line [] ++
@@ -71,7 +73,7 @@ module _ (images scripts : List ℕ → Bool) (can_change : Bool) where
   asked_run (words.Migrate style) = migrate_run style
   asked_run (words.Simplify style) = simplify_run style
   asked_run (words.Eval w) = eval_run w images scripts
-  asked_run (words.Replay w) = replay_run w images scripts can_change
+  asked_run (words.Script kind w) = script_kind_run kind w images scripts can_change
   asked_run (words.Tile tile) = tile_run tile
   asked_run (words.Generate features) = generate_run features images scripts can_change
   asked_run words.Help = ends (said help_text Fine)

@@ -3,7 +3,7 @@ use Rattle.std.specs.Prelude.{ℕ, List, Bool, Option}
 use Rattle.edit_session.specs.View.{session_state, tiles_of, IsSoundSession}
 use Rattle.program_runs.specs.Progress.{outcome_of, ComesTo}
 use Rattle.program_runs.specs.Runs.{Run, HasOutcome}
-use Rattle.script_runs.specs.ScriptRun.{script_run}
+use Rattle.style_program.specs.ReplayRun.{answered_by}
 use Rattle.style_program.specs.declared.replay_command.OpenedScript.{OpenedScript}
 use Rattle.style_program.specs.declared.reply.PreparedRun.{PreparedRun}
 use Rattle.style_program.specs.declared.reply.PreparedRun.TheVariants.{Ended, Script}
@@ -12,7 +12,8 @@ use Rattle.style_program.specs.declared.reply.PreparedRun.TheVariants.{Ended, Sc
 module _ (images scripts : List ℕ → Bool) (can_change : Bool) where
   -- the run of a script that is to be answered
   abbrev pub opened_script_run : OpenedScript → Run
-  opened_script_run opened = script_run (tiles_of opened.session) scripts can_change (session_state opened.session images) opened.script.items
+  opened_script_run opened =
+      answered_by opened.kind scripts can_change (tiles_of opened.session) (session_state opened.session images) opened.script.items
 
   -- the run has this outcome, or it comes to the run of this script
   abbrev pub IsPrepared : (files : List ℕ → Option (List ℕ)) (run : Run) (asked_old asked_new : List (List ℕ)) → PreparedRun → Type 0

@@ -1,9 +1,11 @@
 -- What the words of a command line ask for.
-use Rattle.std.specs.Prelude.{ℕ, ℤ, ◌+◌, ◌-◌, ◌*◌, List, [], ◌∷◌, length, filter, codes, nat_eq, nat_le, Bool, not, ◌&&◌, Option, Some, None, option_map, Result, Ok, Err, if◌then◌else◌}
+use Rattle.std.specs.Prelude.{ℕ, ℤ, pos, ◌+◌, ◌-◌, ◌*◌, List, [], ◌∷◌, length, filter, codes, nat_eq, nat_le, Bool, not, ◌&&◌, Option, Some, None, option_map, Result, Ok, Err, if◌then◌else◌}
 use Rattle.std.specs.List.{before_first, after_first, list_all}
 use Rattle.std.specs.Str.{bytes_eq}
 use Rattle.fixed_num.specs.Decimal.{read_text}
 use Rattle.fixed_num.specs.declared.decimal.NumFault.{NumFault}
+use Rattle.style_program.specs.declared.words.ScriptKind.{ScriptKind}
+use Rattle.style_program.specs.declared.words.ScriptKind.TheVariants.{Replay, Desk}
 
 -- a source, and the name of the file of a tile of it
 abbrev pub TileWord : Type 0
@@ -16,8 +18,8 @@ pub record EvalWords : Type 0 where
   pub zoom : ℤ
   pub tiles : List TileWord
 
--- what `replay` is given beside: the name of the file of a script
-pub record ReplayWords : Type 0 where
+-- what `replay` and `desk` are given beside: the name of the file of a script
+pub record ScriptWords : Type 0 where
   pub script : List ℕ
   pub shown : EvalWords
 
@@ -32,8 +34,8 @@ pub data Asked : Type 0 where
   Simplify : (style : List ℕ) → Asked
   -- what a style shows
   Eval : EvalWords → Asked
-  -- what it shows while it is edited by a script
-  Replay : ReplayWords → Asked
+  -- what it shows while it is edited by a script, alone or in several views
+  Script : ScriptKind → ScriptWords → Asked
   -- what a tile holds: the name of its file
   Tile : (tile : List ℕ) → Asked
   -- how much it shows of so many features that are made
@@ -100,7 +102,7 @@ asked_eval (Some w) = Eval w
 asked_eval None = Wrong
 
 abbrev pub asked_replay : List ℕ → Option EvalWords → Asked
-asked_replay script (Some w) = Replay (record { script = script; shown = w })
+asked_replay script (Some w) = Script Replay (record { script = script; shown = w })
 asked_replay script None = Wrong
 
 -- the script is before the zoom
@@ -108,10 +110,15 @@ abbrev pub asked_with_script : (style script : List ℕ) → List (List ℕ) →
 asked_with_script style script (zoom ∷ tiles) = asked_replay script (shown_words style (read_text zoom) tiles)
 asked_with_script style script [] = Wrong
 
--- `eval` has two words more and its tiles, and `replay` three and its tiles
+abbrev pub asked_desk : List ℕ → Option EvalWords → Asked
+asked_desk script (Some w) = Script Desk (record { script = script; shown = w })
+asked_desk script None = Wrong
+
+-- `eval` and `desk` have two words more and their tiles, and `replay` three and its tiles
 abbrev pub asked_of_more : (command style word : List ℕ) → List (List ℕ) → Asked
 asked_of_more command style word words =
     if bytes_eq command (codes "eval") then asked_eval (shown_words style (read_text word) words) else
+    if bytes_eq command (codes "desk") then asked_desk word (shown_words style (Ok (pos 0)) words) else
     if bytes_eq command (codes "replay") then asked_with_script style word words else
     Wrong
 

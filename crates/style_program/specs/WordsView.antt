@@ -3,12 +3,12 @@ use Rattle.std.specs.Prelude.{map}
 use Rattle.style_program.specs.declared.words.AnswerRequest.{AnswerRequest}
 use Rattle.style_program.specs.declared.words.AnswerRequest.TheVariants as code
 use Rattle.style_program.specs.declared.words.EvalRequest.{EvalRequest}
-use Rattle.style_program.specs.declared.words.ReplayRequest.{ReplayRequest}
+use Rattle.style_program.specs.declared.words.ScriptRequest.{ScriptRequest}
 use Rattle.style_program.specs.declared.words.Request.{Request}
 use Rattle.style_program.specs.declared.words.Request.TheVariants as request
 use Rattle.style_program.specs.declared.words.TileWord.{TileWord}
 use Rattle.style_program.specs.Words as words
-use Rattle.style_program.specs.Words.{EvalWords, ReplayWords, Asked, Value, Validate, Migrate, Simplify, Eval, Replay, Tile, Generate, Help, Version, Wrong}
+use Rattle.style_program.specs.Words.{EvalWords, ScriptWords, Asked, Value, Validate, Migrate, Simplify, Eval, Script, Tile, Generate, Help, Version, Wrong}
 
 abbrev pub tile_word : TileWord → words.TileWord
 tile_word t = (t.source.now, t.tile.now)
@@ -16,8 +16,8 @@ tile_word t = (t.source.now, t.tile.now)
 abbrev pub eval_words : EvalRequest → EvalWords
 eval_words r = record { style = r.style.now; zoom = r.zoom; tiles = map tile_word r.tiles.items }
 
-abbrev pub replay_words : ReplayRequest → ReplayWords
-replay_words r = record { script = r.script.now; shown = eval_words r.shown }
+abbrev pub script_words : ScriptRequest → ScriptWords
+script_words r = record { script = r.script.now; shown = eval_words r.shown }
 
 abbrev pub answer_asked : AnswerRequest → Asked
 answer_asked (code.Value expression) = Value expression.now
@@ -33,4 +33,4 @@ answer_asked code.Wrong = Wrong
 
 abbrev pub asked_by : Request → Asked
 asked_by (request.Answer r) = answer_asked r
-asked_by (request.Replay r) = Replay (replay_words r)
+asked_by (request.Script r) = Script r.kind (script_words r)

@@ -1,28 +1,31 @@
-//! `replay`: what a style shows over tiles while a script edits it.
+//! `replay` and `desk`: what a style shows over tiles while a script edits it.
 
-ghost use Rattle.std.specs.Prelude.{◌≡◌, ℕ, List, [], Bool, None, Option, OnOk, IfOk, IfErr};
+ghost use Rattle.std.specs.Prelude.{◌≡◌, ◌≤◌, ℕ, List, [], Bool, None, Option, OnOk, IfOk, IfErr};
 ghost use Rattle.decimal_json.specs.View.{tree_of};
 ghost use Rattle.edit_session.specs.Opening.{cell_limit, tiles_fault};
 ghost use Rattle.edit_session.specs.SessionState.{opened};
 ghost use Rattle.edit_session.specs.View.{session_state, tiles_of, IsSoundSession};
 ghost use Rattle.program_runs.specs.FailedReads.{NoneFailed};
-ghost use Rattle.program_runs.specs.Progress.{ComesTo, HaltsAt};
+ghost use Rattle.program_runs.specs.Progress.{ComesTo, HaltsAt, IsCut, IsWritten};
 ghost use Rattle.program_runs.specs.Runs.{Run};
 ghost use Rattle.style_program.specs.EvalRun.{opened_or_refused};
 ghost use Rattle.style_program.specs.PreparedRun.{opened_script_run};
-ghost use Rattle.style_program.specs.ReplayRun.{replay_run};
+ghost use Rattle.style_program.specs.ReplayRun.{limit_of, script_kind_run};
 ghost use Rattle.style_program.specs.TileRunView.{shown_seen};
-ghost use Rattle.style_program.specs.WordsView.{replay_words};
+ghost use Rattle.style_program.specs.WordsView.{script_words};
 ghost use Rattle.style_rules.specs.Findings.{findings};
 
 use crate::loading::{LoadedStyle, read_shown};
 use crate::refusals::not_opened;
-use crate::words::ReplayRequest;
+use crate::words::{ScriptKind, ScriptRequest};
 use edit_session::{CELL_LIMIT, Session};
 use fixed_num::Fixed;
-use outside_io::Files;
-use program_runs::{RunHalt, Subject, read_file};
+use host_ops::HostOp;
+use outside_io::{Files, Sink};
+use program_runs::{Ending, RunHalt, Subject, WriteStop, read_file};
+use script_runs::answer_script;
 use std::alloc::Global;
+use view_desk::{DESK_LIMIT, Desk, answer_desk};
 
 /// The longest script, in bytes.
 const SCRIPT_LIMIT: usize = 16_777_216;
@@ -30,30 +33,80 @@ const SCRIPT_LIMIT: usize = 16_777_216;
 /// A style that was opened over tiles, and the lines of a script that are to be answered.
 #[derive(Drop)]
 pub struct OpenedScript<'a> {
+    pub kind: ScriptKind,
     pub session: Session<'a>,
     pub script: Vec<u8>,
 }
 
-/// The style and the script of `replay`. The script is read after the tiles, and the style is opened after that.
+/// The style and the script of `replay` or `desk`. The script is read after the tiles, and the style is opened after that.
 pub fn open_script<'a, F: Files>(
     alloc: Global,
-    request: &ReplayRequest<'a>,
+    request: &ScriptRequest<'a>,
     files: &mut F,
 ) -> Result<OpenedScript<'a>, RunHalt<'a>>
     ensures told { F.told files.new ≡ F.told files.old }
     ensures failed { OnOk result (NoneFailed (F.faults files.old) (F.faults files.new) (F.failed files.old) (F.failed files.new)) }
     ensures sound { IfOk result (λ opened. IsSoundSession opened.session) }
     ensures on { (images scripts : List ℕ → Bool) (can_change : Bool) → IfOk result (λ opened. ComesTo (F.told files.old)
-        (replay_run (replay_words request.now) images scripts can_change) (opened_script_run images scripts can_change opened)
+        (script_kind_run request.now.kind (script_words request.now) images scripts can_change) (opened_script_run images scripts can_change opened)
         (F.asked files.old) (F.asked files.new)) }
     ensures halt { (images scripts : List ℕ → Bool) (can_change : Bool) → IfErr result (λ halt. HaltsAt (F.told files.old)
-        (replay_run (replay_words request.now) images scripts can_change)
+        (script_kind_run request.now.kind (script_words request.now) images scripts can_change)
         (F.faults files.old) (F.faults files.new) (F.failed files.old) (F.failed files.new) (F.asked files.old) (F.asked files.new) halt) }
 {
+    let kind = request.kind;
     let shown = read_shown(alloc, &request.shown, files)?;
     let script = read_file(alloc, &Subject::Script, request.script, SCRIPT_LIMIT, files)?;
-    let session = open_shown(alloc, shown, request.shown.zoom)?;
-    Ok(OpenedScript { session, script })
+    let session = open_shown(alloc, shown, request.shown.zoom, limit_of(kind))?;
+    Ok(OpenedScript {
+        kind,
+        session,
+        script,
+    })
+}
+
+// The most cells that the style may have.
+fn limit_of(kind: ScriptKind) -> u64
+    ensures limit { result ≡ limit_of kind }
+    ensures few { result ≤ cell_limit }
+{
+    match kind {
+        ScriptKind::Replay => CELL_LIMIT,
+        ScriptKind::Desk => DESK_LIMIT,
+    }
+}
+
+/// Writes what each line of the script is answered, before the next line is looked at.
+pub fn answer_lines<O: Sink>(
+    alloc: Global,
+    opened: OpenedScript<'_>,
+    images: &mut dyn HostOp,
+    scripts: &dyn HostOp,
+    out: &mut O,
+) -> Result<Ending, WriteStop>
+    requires { IsSoundSession opened.session }
+    ensures written { (files : List ℕ → Option (List ℕ)) (asked : List (List ℕ)) → IfOk result (IsWritten files
+        (opened_script_run (test images.old) (test scripts.now) (changes images.old) opened.entry) asked
+        (O.held out.old) (O.held out.new)) }
+    ensures none_failed { OnOk result (O.faults out.new ≡ O.faults out.old) }
+    ensures stop { (files : List ℕ → Option (List ℕ)) (asked : List (List ℕ)) → IfErr result (IsCut files
+        (opened_script_run (test images.old) (test scripts.now) (changes images.old) opened.entry) asked
+        (O.held out.old) (O.held out.new) (O.faults out.old) (O.faults out.new)) }
+{
+    let OpenedScript {
+        kind,
+        session,
+        script,
+    } = opened;
+    match kind {
+        ScriptKind::Replay => {
+            answer_script(alloc, session, script.as_slice(), images, scripts, out)
+        }
+        ScriptKind::Desk => {
+            let desk = Desk::new(alloc, session);
+            answer_desk(alloc, desk, script.as_slice(), images, scripts, out)
+        }
+    }
 }
 
 // A style without findings, opened over its tiles.
@@ -61,17 +114,19 @@ fn open_shown<'a>(
     alloc: Global,
     shown: LoadedStyle<'a>,
     zoom: Fixed,
+    limit: u64,
 ) -> Result<Session<'a>, RunHalt<'a>>
-    requires { findings (tree_of shown.style) ≡ [] }
+    requires sound { findings (tree_of shown.style) ≡ [] }
+    requires few { limit ≤ cell_limit }
     ensures sound { IfOk result IsSoundSession }
     ensures tiles { IfOk result (λ session. tiles_of session ≡ (shown_seen shown.entry).1) }
     ensures opened { IfOk result (λ session. (has_image : List ℕ → Bool)
-        → session_state session has_image ≡ opened cell_limit (shown_seen shown.entry).0 zoom has_image) }
-    ensures none { OnOk result (None ≡ tiles_fault cell_limit (shown_seen shown.entry).0 (shown_seen shown.entry).1 zoom) }
+        → session_state session has_image ≡ opened limit (shown_seen shown.entry).0 zoom has_image) }
+    ensures none { OnOk result (None ≡ tiles_fault limit (shown_seen shown.entry).0 (shown_seen shown.entry).1 zoom) }
     ensures halt { (files : List ℕ → Option (List ℕ)) (count : ℕ) (failed : Option (List ℕ)) (asked : List (List ℕ)) (next : Run) → IfErr result (λ halt. HaltsAt files
-        (opened_or_refused (tiles_fault cell_limit (shown_seen shown.entry).0 (shown_seen shown.entry).1 zoom) next) count count failed failed asked asked halt) }
+        (opened_or_refused (tiles_fault limit (shown_seen shown.entry).0 (shown_seen shown.entry).1 zoom) next) count count failed failed asked asked halt) }
 {
-    match Session::open_sound(alloc, shown.style, shown.tiles, zoom, CELL_LIMIT)? {
+    match Session::open_sound(alloc, shown.style, shown.tiles, zoom, limit)? {
         Ok(session) => Ok(session),
         Err(fault) => Err(RunHalt::Refused(not_opened(alloc, &fault)?)),
     }

@@ -4,8 +4,8 @@ ghost use Rattle.program_runs.specs.Progress.{outcome_of, HaltsAt, IsStop};
 ghost use Rattle.program_runs.specs.Runs.{HasOutcome, IsFileless};
 ghost use Rattle.style_program.specs.Commands.{asked_run};
 ghost use Rattle.style_program.specs.PreparedRun.{IsPrepared};
-ghost use Rattle.style_program.specs.ReplayRun.{replay_run};
-ghost use Rattle.style_program.specs.WordsView.{answer_asked, asked_by, replay_words};
+ghost use Rattle.style_program.specs.ReplayRun.{script_kind_run};
+ghost use Rattle.style_program.specs.WordsView.{answer_asked, asked_by, script_words};
 
 use crate::eval_command::answer_eval;
 use crate::generate_command::answer_generate;
@@ -15,7 +15,7 @@ use crate::simplify_command::answer_simplify;
 use crate::tile_command::answer_tile;
 use crate::validate_command::answer_validate;
 use crate::value_command::answer_value;
-use crate::words::{AnswerRequest, ReplayRequest, Request};
+use crate::words::{AnswerRequest, Request, ScriptRequest};
 use host_ops::HostOp;
 use outside_io::Files;
 use program_runs::{RunHalt, RunOutput, RunStop, answer_said, answer_usage};
@@ -30,6 +30,7 @@ usage: pirgesh value EXPR
        pirgesh simplify STYLE
        pirgesh eval STYLE ZOOM [SOURCE=TILE ..]
        pirgesh replay STYLE SCRIPT ZOOM [SOURCE=TILE ..]
+       pirgesh desk STYLE SCRIPT [SOURCE=TILE ..]
        pirgesh tile TILE
        pirgesh generate N
        pirgesh --help
@@ -41,6 +42,7 @@ usage: pirgesh value EXPR
   simplify  a style with the same meaning and less in it, and the filters that no feature passes
   eval      what a style shows at a zoom over tiles of its sources
   replay    the answer to each line of a script, which edits the style and asks for listings
+  desk      as replay, for several views of one style, each with a zoom and states of its own
   tile      the layers of a vector tile, their features, and the properties of each feature
   generate  how many lines and bytes replay writes of a style over N features that are made; no file is read
 
@@ -96,7 +98,7 @@ pub fn prepare_run<'a, F: Files>(
 {
     match request {
         Request::Answer(answer) => prepare_answer(alloc, answer, files, images, scripts),
-        Request::Replay(replay) => prepare_script(alloc, replay, files),
+        Request::Script(script) => prepare_script(alloc, script, files),
     }
 }
 
@@ -157,15 +159,15 @@ fn answer_to<'a, F: Files>(
 
 fn prepare_script<'a, F: Files>(
     alloc: Global,
-    request: &ReplayRequest<'a>,
+    request: &ScriptRequest<'a>,
     files: &mut F,
 ) -> Result<PreparedRun<'a>, RunStop<'a>>
     ensures told { F.told files.new ≡ F.told files.old }
     ensures failed { OnOk result (NoneFailed (F.faults files.old) (F.faults files.new) (F.failed files.old) (F.failed files.new)) }
     ensures run { (images scripts : List ℕ → Bool) (can_change : Bool) → IfOk result (IsPrepared images scripts can_change (F.told files.old)
-        (replay_run (replay_words request.now) images scripts can_change) (F.asked files.old) (F.asked files.new)) }
+        (script_kind_run request.now.kind (script_words request.now) images scripts can_change) (F.asked files.old) (F.asked files.new)) }
     ensures stop { (images scripts : List ℕ → Bool) (can_change : Bool) → IfErr result (λ stop. IsStop (F.told files.old)
-        (replay_run (replay_words request.now) images scripts can_change)
+        (script_kind_run request.now.kind (script_words request.now) images scripts can_change)
         (F.faults files.old) (F.faults files.new) (F.failed files.old) (F.failed files.new) (F.asked files.old) (F.asked files.new) stop) }
 {
     match open_script(alloc, request, files) {

@@ -8,13 +8,12 @@ ghost use Rattle.style_program.specs.PreparedRun.{IsPrepared};
 ghost use Rattle.style_program.specs.Promises.{KeepsPromises, outside};
 ghost use Rattle.style_program.specs.Words.{asked};
 
-use crate::replay_command::OpenedScript;
+use crate::replay_command::answer_lines;
 use crate::reply::{PreparedRun, prepare_run};
 use crate::words::request_of;
 use host_ops::HostOp;
 use outside_io::{Files, Sink, Steps};
 use program_runs::{RunStop, Status, WriteStop, write_answer, write_unread};
-use script_runs::answer_script;
 use std::alloc::Global;
 use std::sync::ledger::Ledger;
 use typing_laws::faults_are_listed;
@@ -85,8 +84,7 @@ fn run_words<F: Files, O: Sink, E: Sink>(
             Err(_) => Status::WriteFault,
         },
         Ok(PreparedRun::Script(opened)) => {
-            let OpenedScript { session, script } = opened;
-            match answer_script(alloc, session, script.as_slice(), images, scripts, out) {
+            match answer_lines(alloc, opened, images, scripts, out) {
                 Ok(ending) => ending.status(),
                 Err(WriteStop::NoMemory) => Status::NoMemory,
                 Err(WriteStop::Unwritten) => Status::WriteFault,

@@ -1,8 +1,9 @@
-ghost use Rattle.std.specs.Prelude.{◌≡◌, ◌≤◌, length, map, string_bytes, option_map, IfOk, nat_eq, if◌then◌else◌};
+ghost use Rattle.std.specs.Prelude.{◌≡◌, ◌≤◌, length, map, string_bytes, option_map, Ok, IfOk, nat_eq, if◌then◌else◌};
 ghost use Rattle.fixed_num.specs.Decimal.{read_text};
 ghost use Rattle.style_program.specs.Words.{asked, asked_alone, asked_of_one, asked_of_more, asked_with_script, features_named, shown_words, source_and_tile, tiles_named, are_allowed, count_of};
 ghost use Rattle.style_program.specs.WordsView.{answer_asked, asked_by, eval_words, tile_word};
 
+use crate::value_command::zero;
 use fixed_num::{Fixed, read_decimal};
 use std::alloc::{AllocError, Global};
 
@@ -21,9 +22,19 @@ pub struct EvalRequest<'a> {
     pub tiles: Vec<TileWord<'a>>,
 }
 
-/// What `replay` is given: the name of the file of a script, and what `eval` is given.
+/// What answers a script.
+#[derive(Clone, Copy, Debug, PartialEq, Eq)]
+pub enum ScriptKind {
+    /// `replay`: a style that is shown alone.
+    Replay,
+    /// `desk`: one that is shown in several views.
+    Desk,
+}
+
+/// What `replay` or `desk` is given: the name of the file of a script, and what `eval` is given.
 #[derive(Debug, Drop)]
-pub struct ReplayRequest<'a> {
+pub struct ScriptRequest<'a> {
+    pub kind: ScriptKind,
     pub script: &'a str,
     pub shown: EvalRequest<'a>,
 }
@@ -34,7 +45,7 @@ pub enum Request<'a> {
     /// One answer, once all is read.
     Answer(AnswerRequest<'a>),
     /// The answers to a script: what a style shows while it is edited.
-    Replay(ReplayRequest<'a>),
+    Script(ScriptRequest<'a>),
 }
 
 /// What is asked for where one answer is given.
@@ -144,6 +155,14 @@ fn request_of_more<'a>(
             Some(request) => Ok(Request::Answer(AnswerRequest::Eval(request))),
             None => Ok(Request::Answer(AnswerRequest::Wrong)),
         },
+        "desk" => match shown_at(alloc, style, zero(), words)? {
+            Some(shown) => Ok(Request::Script(ScriptRequest {
+                kind: ScriptKind::Desk,
+                script: word,
+                shown,
+            })),
+            None => Ok(Request::Answer(AnswerRequest::Wrong)),
+        },
         "replay" => request_replay(alloc, style, word, words),
         _ => Ok(Request::Answer(AnswerRequest::Wrong)),
     }
@@ -162,7 +181,11 @@ fn request_replay<'a>(
         return Ok(Request::Answer(AnswerRequest::Wrong));
     };
     match shown_request(alloc, style, zoom.as_str(), tiles)? {
-        Some(shown) => Ok(Request::Replay(ReplayRequest { script, shown })),
+        Some(shown) => Ok(Request::Script(ScriptRequest {
+            kind: ScriptKind::Replay,
+            script,
+            shown,
+        })),
         None => Ok(Request::Answer(AnswerRequest::Wrong)),
     }
 }
@@ -176,9 +199,21 @@ fn shown_request<'a>(
     ensures { IfOk result (λ request. option_map eval_words request
         ≡ shown_words style.now (read_text zoom.now) (map string_bytes words.now)) }
 {
-    let Ok(zoom) = read_decimal(zoom.as_bytes()) else {
-        return Ok(None);
-    };
+    match read_decimal(zoom.as_bytes()) {
+        Ok(zoom) => shown_at(alloc, style, zoom, words),
+        Err(_) => Ok(None),
+    }
+}
+
+fn shown_at<'a>(
+    alloc: Global,
+    style: &'a str,
+    zoom: Fixed,
+    words: &'a [String],
+) -> Result<Option<EvalRequest<'a>>, AllocError>
+    ensures { IfOk result (λ request. option_map eval_words request
+        ≡ shown_words style.now (Ok zoom) (map string_bytes words.now)) }
+{
     match tiles_named(alloc, words)? {
         Some(tiles) if are_allowed(tiles.as_slice()) => Ok(Some(EvalRequest {
             style,

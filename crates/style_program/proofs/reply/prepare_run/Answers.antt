@@ -16,21 +16,21 @@ returns-in-Answer-clause-run g c =
     (g.F.Files.asked c.args.files.now) (g.F.Files.asked c.prepare_answer.new.files)))
     (sym c.in-Answer.is) (c.prepare_answer.ensures.run then_images then_changes)
 
-pub returns-in-Replay-clause-run : goal.returns-in-Replay-clause-run
-returns-in-Replay-clause-run g c =
+pub returns-in-Script-clause-run : goal.returns-in-Script-clause-run
+returns-in-Script-clause-run g c =
     let files = g.F.Files.told c.args.files.now in
     let images = (goal.HostOp-dyn g c.args.images.now).test c.args.images.now.1 in let scripts = (goal.HostOp-dyn g c.args.scripts.now).test c.args.scripts.now.1 in
     let can_change = (goal.HostOp-dyn g c.args.images.now).changes c.args.images.now.1 in
     subst (λ r. IfOk c.prepare_script.result (IsPrepared images scripts can_change files (asked_run images scripts can_change (asked_by r))
     (g.F.Files.asked c.args.files.now) (g.F.Files.asked c.prepare_script.new.files)))
-    (sym c.in-Replay.is) (c.prepare_script.ensures.run images scripts can_change)
+    (sym c.in-Script.is) (c.prepare_script.ensures.run images scripts can_change)
 
-pub returns-in-Replay-clause-stop : goal.returns-in-Replay-clause-stop
-returns-in-Replay-clause-stop g c =
+pub returns-in-Script-clause-stop : goal.returns-in-Script-clause-stop
+returns-in-Script-clause-stop g c =
     let files = g.F.Files.told c.args.files.now in
     let images = (goal.HostOp-dyn g c.args.images.now).test c.args.images.now.1 in let scripts = (goal.HostOp-dyn g c.args.scripts.now).test c.args.scripts.now.1 in
     let can_change = (goal.HostOp-dyn g c.args.images.now).changes c.args.images.now.1 in
     subst (λ r. IfErr c.prepare_script.result (λ stop. IsStop files (asked_run images scripts can_change (asked_by r))
     (g.F.Files.faults c.args.files.now) (g.F.Files.faults c.prepare_script.new.files) (g.F.Files.failed c.args.files.now) (g.F.Files.failed c.prepare_script.new.files)
     (g.F.Files.asked c.args.files.now) (g.F.Files.asked c.prepare_script.new.files) stop))
-    (sym c.in-Replay.is) (c.prepare_script.ensures.stop images scripts can_change)
+    (sym c.in-Script.is) (c.prepare_script.ensures.stop images scripts can_change)

@@ -1,11 +1,7 @@
-use Rattle.std.proofs.Common.{List, ℕ, sym, subst, refl, map, string_bytes}
-use Rattle.edit_session.specs.View.{session_state, tiles_of}
+use Rattle.std.proofs.Common.{refl, map, string_bytes}
 use Rattle.outside_io.specs.WritingLaws.{front_of_nothing}
 use Rattle.program_runs.specs.Outcome.{said}
-use Rattle.program_runs.specs.Progress.{ComesTo, outcome_of}
-use Rattle.program_runs.specs.Runs.{Run}
-use Rattle.script_runs.specs.ScriptRun.{script_run}
-use Rattle.style_program.specs.Commands.{run_of}
+use Rattle.program_runs.specs.Progress.{outcome_of}
 use Rattle.style_program.specs.Words.{asked}
 use Rattle.style_program.proofs.Kept.{written, not_written, lacks_memory, stops_unread}
 use Rattle.style_program.proofs.ListedFaults.{found_is_listed}
@@ -32,75 +28,42 @@ returns-in-Ok-clause-listed g c = λ is.
 
 -- ---- it came to a script, whose lines are answered
 
-pub answer_script-requires : goal.answer_script-requires
-answer_script-requires g c = (rw c.in-Ok-Script.field-0-is at c.in-Ok-Script.ensures.run).0
+pub answer_lines-requires : goal.answer_lines-requires
+answer_lines-requires g c = (rw c.in-Ok-Script.field-0-is at c.in-Ok-Script.ensures.run).0
 
-pub returns-in-Ok-answer_script-clause-promises : goal.returns-in-Ok-answer_script-clause-promises
-returns-in-Ok-answer_script-clause-promises g c =
+pub returns-in-Ok-answer_lines-clause-promises : goal.returns-in-Ok-answer_lines-clause-promises
+returns-in-Ok-answer_lines-clause-promises g c =
     let files = g.F.Files.told c.args.files.now in
-    let images = (goal.HostOp-dyn g c.args.images.now).test c.prepared.new.images in
-    let can_change = (goal.HostOp-dyn g c.args.images.now).changes c.prepared.new.images in
-    let scripts = (goal.HostOp-dyn g c.args.scripts.now).test c.args.scripts.now.1 in
-    let opened = c.in-Ok-Script.opened in
-    let answered : List ℕ → Run = λ script. script_run (tiles_of opened.session) scripts can_change (session_state opened.session images) script in
-    let run = run_of ((goal.HostOp-dyn g c.args.images.now).test c.args.images.now.1) scripts ((goal.HostOp-dyn g c.args.images.now).changes c.args.images.now.1) (map string_bytes c.args.call.words.now) in
-    let asked_old = g.F.Files.asked c.args.files.now in
     let asked_new = g.F.Files.asked c.prepared.new.files in
-    let script = c.as_slice.result.now in
-    let comes : ComesTo files run (answered script) asked_old asked_new =
-    subst (λ (text : List ℕ). ComesTo files run (answered text) asked_old asked_new) (sym c.as_slice.ensures.value) (rw c.in-Ok-Script.field-0-is at c.in-Ok-Script.ensures.run).1 in
-    all_answered files run (answered script) asked_old asked_new comes _ c.prepared.ensures.fileless _ _ _ _ _ _ _ _ _ _ c.in-Ok-Script.ensures.failed
-    c.in-Ok-answer_script.ending c.status-in-Ok-answer_script.result (c.in-Ok-answer_script.ensures.written files asked_new) c.in-Ok-answer_script.ensures.none_failed c.status-in-Ok-answer_script.ensures
+    let comes = (rw c.in-Ok-Script.field-0-is at c.in-Ok-Script.ensures.run).1 in
+    all_answered files _ _ (g.F.Files.asked c.args.files.now) asked_new comes _ c.prepared.ensures.fileless _ _ _ _ _ _ _ _ _ _ c.in-Ok-Script.ensures.failed
+    c.in-Ok-answer_lines.ending c.status-in-Ok-answer_lines.result (c.in-Ok-answer_lines.ensures.written files asked_new) c.in-Ok-answer_lines.ensures.none_failed c.status-in-Ok-answer_lines.ensures
 
-pub returns-in-Ok-answer_script-clause-listed : goal.returns-in-Ok-answer_script-clause-listed
-returns-in-Ok-answer_script-clause-listed g c = λ is.
+pub returns-in-Ok-answer_lines-clause-listed : goal.returns-in-Ok-answer_lines-clause-listed
+returns-in-Ok-answer_lines-clause-listed g c = λ is.
     let files = g.F.Files.told c.args.files.now in
-    let images = (goal.HostOp-dyn g c.args.images.now).test c.prepared.new.images in
-    let can_change = (goal.HostOp-dyn g c.args.images.now).changes c.prepared.new.images in
-    let scripts = (goal.HostOp-dyn g c.args.scripts.now).test c.args.scripts.now.1 in
-    let opened = c.in-Ok-Script.opened in
-    let answered : List ℕ → Run = λ script. script_run (tiles_of opened.session) scripts can_change (session_state opened.session images) script in
-    let run = run_of ((goal.HostOp-dyn g c.args.images.now).test c.args.images.now.1) scripts ((goal.HostOp-dyn g c.args.images.now).changes c.args.images.now.1) (map string_bytes c.args.call.words.now) in
-    let asked_old = g.F.Files.asked c.args.files.now in
     let asked_new = g.F.Files.asked c.prepared.new.files in
-    let script = c.as_slice.result.now in
-    let comes : ComesTo files run (answered script) asked_old asked_new =
-    subst (λ (text : List ℕ). ComesTo files run (answered text) asked_old asked_new) (sym c.as_slice.ensures.value) (rw c.in-Ok-Script.field-0-is at c.in-Ok-Script.ensures.run).1 in
-    let ended = c.in-Ok-answer_script.ensures.written files asked_new in
+    let comes = (rw c.in-Ok-Script.field-0-is at c.in-Ok-Script.ensures.run).1 in
+    let ended = c.in-Ok-answer_lines.ensures.written files asked_new in
     found_is_listed c.faults_are_listed.ensures files _ _ _ (map string_bytes c.args.call.words.now)
-    (asked (map string_bytes c.args.call.words.now)) _ _ (said ended.0 c.in-Ok-answer_script.ending) _ refl (comes.outcomes asked_new (said ended.0 c.in-Ok-answer_script.ending) ended.1) c.status-in-Ok-answer_script.ensures is
+    (asked (map string_bytes c.args.call.words.now)) _ _ (said ended.0 c.in-Ok-answer_lines.ending) _ refl
+    (comes.outcomes asked_new (said ended.0 c.in-Ok-answer_lines.ending) ended.1) c.status-in-Ok-answer_lines.ensures is
 
-pub returns-in-Err-NoMemory-answer_script-clause-promises : goal.returns-in-Err-NoMemory-answer_script-clause-promises
-returns-in-Err-NoMemory-answer_script-clause-promises g c =
+pub returns-in-Err-NoMemory-answer_lines-clause-promises : goal.returns-in-Err-NoMemory-answer_lines-clause-promises
+returns-in-Err-NoMemory-answer_lines-clause-promises g c =
     let files = g.F.Files.told c.args.files.now in
-    let images = (goal.HostOp-dyn g c.args.images.now).test c.prepared.new.images in
-    let can_change = (goal.HostOp-dyn g c.args.images.now).changes c.prepared.new.images in
-    let scripts = (goal.HostOp-dyn g c.args.scripts.now).test c.args.scripts.now.1 in
-    let opened = c.in-Ok-Script.opened in
-    let answered : List ℕ → Run = λ script. script_run (tiles_of opened.session) scripts can_change (session_state opened.session images) script in
-    let run = run_of ((goal.HostOp-dyn g c.args.images.now).test c.args.images.now.1) scripts ((goal.HostOp-dyn g c.args.images.now).changes c.args.images.now.1) (map string_bytes c.args.call.words.now) in
-    let asked_old = g.F.Files.asked c.args.files.now in
     let asked_new = g.F.Files.asked c.prepared.new.files in
-    let script = c.as_slice.result.now in
-    let comes : ComesTo files run (answered script) asked_old asked_new =
-    subst (λ (text : List ℕ). ComesTo files run (answered text) asked_old asked_new) (sym c.as_slice.ensures.value) (rw c.in-Ok-Script.field-0-is at c.in-Ok-Script.ensures.run).1 in
-    memory_lacked files run (answered script) asked_old asked_new comes _ c.prepared.ensures.fileless _ _ _ _ _ _ _ _ _ _ c.in-Ok-Script.ensures.failed (rw c.in-Err-NoMemory-answer_script.field-0-is at c.in-Err-NoMemory-answer_script.ensures.stop files asked_new)
+    let comes = (rw c.in-Ok-Script.field-0-is at c.in-Ok-Script.ensures.run).1 in
+    memory_lacked files _ _ (g.F.Files.asked c.args.files.now) asked_new comes _ c.prepared.ensures.fileless _ _ _ _ _ _ _ _ _ _ c.in-Ok-Script.ensures.failed
+    (rw c.in-Err-NoMemory-answer_lines.field-0-is at c.in-Err-NoMemory-answer_lines.ensures.stop files asked_new)
 
 pub returns-in-Ok-Script-clause-promises : goal.returns-in-Ok-Script-clause-promises
 returns-in-Ok-Script-clause-promises g c =
     let files = g.F.Files.told c.args.files.now in
-    let images = (goal.HostOp-dyn g c.args.images.now).test c.prepared.new.images in
-    let can_change = (goal.HostOp-dyn g c.args.images.now).changes c.prepared.new.images in
-    let scripts = (goal.HostOp-dyn g c.args.scripts.now).test c.args.scripts.now.1 in
-    let opened = c.in-Ok-Script.opened in
-    let answered : List ℕ → Run = λ script. script_run (tiles_of opened.session) scripts can_change (session_state opened.session images) script in
-    let run = run_of ((goal.HostOp-dyn g c.args.images.now).test c.args.images.now.1) scripts ((goal.HostOp-dyn g c.args.images.now).changes c.args.images.now.1) (map string_bytes c.args.call.words.now) in
-    let asked_old = g.F.Files.asked c.args.files.now in
     let asked_new = g.F.Files.asked c.prepared.new.files in
-    let script = c.as_slice.result.now in
-    let comes : ComesTo files run (answered script) asked_old asked_new =
-    subst (λ (text : List ℕ). ComesTo files run (answered text) asked_old asked_new) (sym c.as_slice.ensures.value) (rw c.in-Ok-Script.field-0-is at c.in-Ok-Script.ensures.run).1 in
-    write_failed files run (answered script) asked_old asked_new comes _ c.prepared.ensures.fileless _ _ _ _ _ _ _ _ _ _ c.in-Ok-Script.ensures.failed (rw c.in-Err-Unwritten.field-0-is at c.in-Err-Unwritten.ensures.stop files asked_new)
+    let comes = (rw c.in-Ok-Script.field-0-is at c.in-Ok-Script.ensures.run).1 in
+    write_failed files _ _ (g.F.Files.asked c.args.files.now) asked_new comes _ c.prepared.ensures.fileless _ _ _ _ _ _ _ _ _ _ c.in-Ok-Script.ensures.failed
+    (rw c.in-Err-Unwritten.field-0-is at c.in-Err-Unwritten.ensures.stop files asked_new)
 
 -- ---- the run has no answer
 

@@ -1,0 +1,26 @@
+use Rattle.std.proofs.Common.{◌≡◌, ap, sym, subst}
+use Rattle.std.specs.Prelude.{IfOk}
+use Rattle.view_desk.specs.DeskLines.{DeskEdit}
+use Rattle.view_desk.specs.DeskState.{desk_applied}
+use Rattle.view_desk.specs.View.{answer_seen, desk_command_seen, desk_state, desk_tiles}
+use Rattle.view_desk.proofs.desk.Desk.obey.Goals as goal
+
+pub returns-in-OpenView-clause-answer : goal.returns-in-OpenView-clause-answer
+returns-in-OpenView-clause-answer g c =
+    let images = goal.HostOp-dyn g c.args.images.now in
+    let has_image = images.test c.args.images.now.1 in
+    let scripts = (goal.HostOp-dyn g c.args.scripts.now).test c.args.scripts.now.1 in
+    let can_change = images.changes c.args.images.now.1 in
+    let s = c.args.self.now in
+    subst (λ (e : DeskEdit). IfOk c.open_view.result (λ answer. (desk_state c.open_view.new.self has_image, answer_seen answer) ≡ desk_applied (desk_tiles s) scripts can_change (desk_state s has_image) e))
+    (sym (ap desk_command_seen c.in-OpenView.is)) (c.open_view.ensures.answer has_image scripts can_change)
+
+pub returns-in-CloseView-clause-answer : goal.returns-in-CloseView-clause-answer
+returns-in-CloseView-clause-answer g c =
+    let images = goal.HostOp-dyn g c.args.images.now in
+    let has_image = images.test c.args.images.now.1 in
+    let scripts = (goal.HostOp-dyn g c.args.scripts.now).test c.args.scripts.now.1 in
+    let can_change = images.changes c.args.images.now.1 in
+    let s = c.args.self.now in
+    subst (λ (e : DeskEdit). (desk_state c.close_view.new.self has_image, answer_seen c.close_view.result) ≡ desk_applied (desk_tiles s) scripts can_change (desk_state s has_image) e)
+    (sym (ap desk_command_seen c.in-CloseView.is)) (rw c.as_str.ensures at c.close_view.ensures.answer has_image scripts can_change)

@@ -1,0 +1,5 @@
+-- To be believed.
+pub mod DeskLines
+pub mod DeskState
+pub mod DeskRun
+pub mod View

@@ -1,0 +1,99 @@
+//! The run of a script of a desk.
+
+ghost use Rattle.std.specs.Prelude.{◌≡◌, ◌<◌, ℕ, List, ◌++◌, length, Option, OnErr, OnOk, IfOk, IfErr};
+ghost use Rattle.outside_io.specs.Counts.{raised};
+ghost use Rattle.outside_io.specs.Writing.{Gains, GainsPrefix};
+ghost use Rattle.program_runs.specs.Progress.{IsCut, IsWritten};
+ghost use Rattle.view_desk.specs.DeskRun.{desk_script_run};
+ghost use Rattle.view_desk.specs.View.{desk_line_seen, desk_state, desk_tiles, DeskLineGives, IsSoundDesk};
+
+use crate::answers::line_answer;
+use crate::desk::Desk;
+use host_ops::HostOp;
+use outside_io::{Sink, SinkFailed};
+use program_runs::{Ending, WriteStop, write_piece};
+use script_runs::{ScriptLine, ending_by, next_line};
+use std::alloc::{AllocError, Global};
+
+/// What a line of a desk is answered.
+#[derive(Drop)]
+pub struct DeskLineAnswer {
+    /// The line that says of which view the answer is; empty where it is of none.
+    pub view: Vec<u8>,
+    /// What is written after it.
+    pub text: Vec<u8>,
+    pub is_refused: bool,
+}
+
+/// Writes what each line of a script is answered, before the next line is looked at, over a desk that was just opened or is
+/// sound. The text of one answer is in memory at a time.
+pub fn answer_desk<O: Sink>(
+    alloc: Global,
+    desk: Desk<'_>,
+    script: &[u8],
+    images: &mut dyn HostOp,
+    scripts: &dyn HostOp,
+    out: &mut O,
+) -> Result<Ending, WriteStop>
+    requires { IsSoundDesk desk }
+    ensures written { (files : List ℕ → Option (List ℕ)) (asked : List (List ℕ)) → IfOk result (IsWritten files
+        (desk_script_run (desk_tiles desk.entry) (test scripts.now) (changes images.old) (desk_state desk.entry (test images.old)) script.now) asked
+        (O.held out.old) (O.held out.new)) }
+    ensures none_failed { OnOk result (O.faults out.new ≡ O.faults out.old) }
+    ensures stop { (files : List ℕ → Option (List ℕ)) (asked : List (List ℕ)) → IfErr result (IsCut files
+        (desk_script_run (desk_tiles desk.entry) (test scripts.now) (changes images.old) (desk_state desk.entry (test images.old)) script.now) asked
+        (O.held out.old) (O.held out.new) (O.faults out.old) (O.faults out.new)) }
+{
+    let mut desk = desk;
+    let mut any = false;
+    let mut number: usize = 1;
+    let mut rest = script;
+    while let Some((line, behind)) = next_line(rest) {
+        let line = ScriptLine {
+            number,
+            bytes: line,
+        };
+        let Ok(answer) = answer_line(alloc, &mut desk, &line, images, scripts) else {
+            return Err(WriteStop::NoMemory);
+        };
+        match write_pieces(answer.view.as_slice(), answer.text.as_slice(), out) {
+            Ok(()) => {}
+            Err(_) => return Err(WriteStop::Unwritten),
+        }
+        any = any || answer.is_refused;
+        number += 1;
+        rest = behind;
+    }
+    Ok(ending_by(any))
+}
+
+// Writes a piece of what standard output is to hold, and another one after it.
+fn write_pieces<O: Sink>(first: &[u8], second: &[u8], out: &mut O) -> Result<(), SinkFailed>
+    ensures ok { OnOk result (Gains (O.held out.old) (O.held out.new) (first.now ++ second.now)) }
+    ensures none_failed { OnOk result (O.faults out.new ≡ O.faults out.old) }
+    ensures err { OnErr result (GainsPrefix (O.held out.old) (O.held out.new) (first.now ++ second.now)) }
+    ensures one_failed { OnErr result ((0 < length (first.now ++ second.now)) × (O.faults out.new ≡ raised (O.faults out.old))) }
+{
+    write_piece(first, out)?;
+    write_piece(second, out)
+}
+
+// The answer to the line of this number.
+fn answer_line(
+    alloc: Global,
+    desk: &mut Desk<'_>,
+    line: &ScriptLine<'_>,
+    images: &mut dyn HostOp,
+    scripts: &dyn HostOp,
+) -> Result<DeskLineAnswer, AllocError>
+    requires { IsSoundDesk desk.old }
+    ensures sound { IsSoundDesk desk.new }
+    ensures tiles { desk_tiles desk.new ≡ desk_tiles desk.old }
+    ensures changes { changes images.new ≡ changes images.old }
+    ensures gives { IfOk result (λ answer. DeskLineGives (desk_tiles desk.old) (test scripts.now) (changes images.old) line.now.number
+        (desk_state desk.old (test images.old)) line.now.bytes.now
+        (desk_line_seen (desk_state desk.new (test images.new)) answer)) }
+{
+    let answer = desk.line(line.bytes, images, scripts)?;
+    line_answer(alloc, line.number, answer)
+}
