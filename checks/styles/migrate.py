@@ -7,16 +7,15 @@ changes nothing, and at a random zoom it shows over random tiles what the style 
 
 import argparse
 import json
-import os
 import pathlib
 import random
-import subprocess
 import sys
 import tempfile
 
 TOP = pathlib.Path(__file__).resolve().parents[2]
 sys.path += [str(TOP / "checks" / "shared"), str(TOP / "checks" / "tiles")]
 
+from commands import ran, two_tiles
 from makes import bytes_field, number_field, varint
 
 KEYS = ["a", "class", "$type", "$id", "name with {brace", "rank"]
@@ -154,25 +153,11 @@ class Maker:
         return "%d%s" % (self.random.randint(0, 23), self.one(["", ".5", ".123456"]))
 
 
-def ran(program, command, text, folder, *more):
-    """The status and the output of a command on a style."""
-    path = os.path.join(folder, "style")
-    with open(path, "w", encoding="utf-8") as file:
-        file.write(text)
-    done = subprocess.run([program, command, path, *more], capture_output=True, text=True, check=False)
-    return done.returncode, done.stdout
-
-
 def shows_the_same(program, maker, old, new, folder):
     """Whether two styles have one listing over two tiles of their source."""
-    words = [maker.zoom()]
-    for name in ["first", "second"]:
-        path = os.path.join(folder, name)
-        with open(path, "wb") as file:
-            file.write(maker.tile())
-        words.append("t=" + path)
-    status, listing = ran(program, "eval", old, folder, *words)
-    return status == 0 and ran(program, "eval", new, folder, *words) == (0, listing)
+    words = [maker.zoom(), *two_tiles(folder, maker)]
+    status, listing = ran(program, folder, "eval", old, *words)
+    return status == 0 and ran(program, folder, "eval", new, *words) == (0, listing)
 
 
 def main():
@@ -186,14 +171,14 @@ def main():
         for number in range(given.count):
             maker = Maker(given.seed * 1_000_000 + number)
             text = written(maker.style())
-            status, out = ran(given.program, "validate", text, folder)
+            status, out = ran(given.program, folder, "validate", text)
             if status == 1:
                 broken += 1
-                faults = ran(given.program, "migrate", text, folder) != (1, out)
+                faults = ran(given.program, folder, "migrate", text) != (1, out)
             else:
-                code, once = ran(given.program, "migrate", text, folder)
-                faults = code != 0 or ran(given.program, "migrate", once, folder) != (0, once)
-                faults = faults or ran(given.program, "validate", once, folder)[0] != 0
+                code, once = ran(given.program, folder, "migrate", text)
+                faults = code != 0 or ran(given.program, folder, "migrate", once) != (0, once)
+                faults = faults or ran(given.program, folder, "validate", once)[0] != 0
                 faults = faults or not shows_the_same(given.program, maker, text, once, folder)
                 changed += once.rstrip("\n") != text
             if faults:

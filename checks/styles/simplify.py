@@ -11,24 +11,15 @@ import json
 import os
 import pathlib
 import random
-import subprocess
 import sys
 import tempfile
 
 TOP = pathlib.Path(__file__).resolve().parents[2]
-sys.path.append(str(TOP / "checks" / "manual"))
+sys.path += [str(TOP / "checks" / "shared"), str(TOP / "checks" / "manual")]
 
 import make_styles
 import trees
-
-
-def ran(program, folder, command, text, *more):
-    """The status and the output of a command on a style."""
-    path = os.path.join(folder, "style")
-    with open(path, "w", encoding="utf-8") as file:
-        file.write(text)
-    done = subprocess.run([program, command, path, *more], capture_output=True, text=True, check=False)
-    return done.returncode, done.stdout
+from commands import ran, two_tiles
 
 
 def shown(listing):
@@ -93,12 +84,7 @@ def faults(program, folder, maker, text):
     simplified, _, rest = out.partition("\n")
     never = [line.removeprefix("never ") for line in rest.splitlines()]
     wrong = code != 0 or ran(program, folder, "validate", simplified)[0] != 0 or has_more_nodes(text, simplified)
-    words = [maker.one(make_styles.ZOOMS)]
-    for name in ["first", "second"]:
-        path = os.path.join(folder, name)
-        with open(path, "wb") as file:
-            file.write(maker.tile())
-        words.append("t=" + path)
+    words = [maker.one(make_styles.ZOOMS), *two_tiles(folder, maker)]
     script = os.path.join(folder, "script")
     with open(script, "w", encoding="utf-8") as file:
         file.writelines(trees.written(line) + "\n" for line in maker.script())
