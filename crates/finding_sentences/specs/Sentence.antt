@@ -95,7 +95,9 @@ layer_sentence rule t =
 -- ---- members of a layer
 
 abbrev pub layer_types : List (List ℕ)
-layer_types = codes "background" ∷ codes "fill" ∷ codes "line" ∷ codes "symbol" ∷ codes "circle" ∷ codes "heatmap" ∷ codes "fill-extrusion" ∷ codes "raster" ∷ codes "hillshade" ∷ codes "color-relief" ∷ []
+layer_types =
+    codes "background" ∷ codes "fill" ∷ codes "line" ∷ codes "symbol" ∷ codes "circle" ∷ codes "heatmap" ∷
+    codes "fill-extrusion" ∷ codes "raster" ∷ codes "hillshade" ∷ codes "color-relief" ∷ []
 
 unfoldable pub no_source : (name : List ℕ) → List ℕ
 no_source name = words (codes "the style has no source " ∷ text_json name ∷ [])
@@ -109,7 +111,9 @@ unfoldable pub sources_wanted : LayerType → List ℕ
 sources_wanted type = words (codes "one of " ∷ texts_listed (sources_of_type type) ∷ [])
 
 unfoldable pub unsuited : LayerType → Tree → List ℕ
-unsuited type source = words (codes "a layer of type " ∷ type_name type ∷ codes " needs a source whose " ∷ member_unlike (codes "type") (sources_wanted type) source ∷ [])
+unsuited type source = words (
+    codes "a layer of type " ∷ type_name type ∷
+    codes " needs a source whose " ∷ member_unlike (codes "type") (sources_wanted type) source ∷ [])
 
 unfoldable pub used_id : Tree → List ℕ
 used_id t = words (codes "an earlier layer has the id " ∷ found_text t ∷ [])
@@ -164,7 +168,8 @@ is_property type place name = is_some (row_of type place name)
 
 -- a name that no row has there
 abbrev pub unknown_sentence : LayerType → Place → (name : List ℕ) → List ℕ
-unknown_sentence type place name = words (text_json name ∷ codes " is no property of the " ∷ place_name place ∷ codes " of a layer of type " ∷ type_name type ∷
+unknown_sentence type place name = words (
+    text_json name ∷ codes " is no property of the " ∷ place_name place ∷ codes " of a layer of type " ∷ type_name type ∷
     other_hint (is_property type (other_place place) name) (other_place place) ∷ [])
 
 abbrev pub row_input : RowData → Tree → List PathPart → List ℕ
@@ -191,7 +196,8 @@ row_sentence rule None t more = if nat_eq rule 21 then unlike (codes "an object"
 
 abbrev pub property_sentence : ℕ → LayerType → Place → (name : List ℕ) → Tree → List PathPart → List ℕ
 property_sentence rule type place name t more =
-    if nat_eq rule 14 then unknown_sentence type place name else row_sentence rule (option_map (λ (found : ℕ × RowData). found.1) (row_of type place name)) t more
+    if nat_eq rule 14 then unknown_sentence type place name else
+    row_sentence rule (option_map (λ (found : ℕ × RowData). found.1) (row_of type place name)) t more
 
 abbrev pub placed_sentence : ℕ → Option LayerType → Option Place → (name : List ℕ) → Option Tree → List PathPart → List ℕ
 placed_sentence rule (Some type) (Some place) name (Some t) more = property_sentence rule type place name t more
@@ -201,13 +207,17 @@ placed_sentence rule _ _ name _ more = breaks_rule
 
 -- a member of a layer that is there, by what follows its key
 abbrev pub in_layer_sentence : ℕ → Tree → (layer : Tree) → (key : List ℕ) → Tree → List PathPart → List ℕ
-in_layer_sentence rule document layer key t [] = if bytes_eq key (codes "filter") then filter_sentence rule t [] else layer_member_sentence rule document layer t
-in_layer_sentence rule document layer key t (Key name ∷ more) = placed_sentence rule (layer_type layer) (place_named key) name (member name t) more
-in_layer_sentence rule document layer key t (Index i ∷ more) = if bytes_eq key (codes "filter") then filter_sentence rule t (Index i ∷ more) else breaks_rule
+in_layer_sentence rule document layer key t [] =
+    if bytes_eq key (codes "filter") then filter_sentence rule t [] else layer_member_sentence rule document layer t
+in_layer_sentence rule document layer key t (Key name ∷ more) =
+    placed_sentence rule (layer_type layer) (place_named key) name (member name t) more
+in_layer_sentence rule document layer key t (Index i ∷ more) =
+    if bytes_eq key (codes "filter") then filter_sentence rule t (Index i ∷ more) else breaks_rule
 
 abbrev pub layer_part_sentence : ℕ → Tree → List PathPart → (layer : Tree) → List ℕ
 layer_part_sentence rule document [] layer = layer_sentence rule layer
-layer_part_sentence rule document (Key key ∷ more) layer = in_node (member key layer) (λ t. in_layer_sentence rule document layer key t more)
+layer_part_sentence rule document (Key key ∷ more) layer =
+    in_node (member key layer) (λ t. in_layer_sentence rule document layer key t more)
 layer_part_sentence rule document (Index i ∷ more) layer = breaks_rule
 
 abbrev pub sentence : Tree → List PathPart → ℕ → List ℕ
@@ -220,4 +230,5 @@ sentence document (Index i ∷ more) rule = breaks_rule
 -- with the rule after it; of V16 the sentence has the code too
 abbrev pub marked_sentence : Tree → List PathPart → ℕ → List ℕ
 marked_sentence document path rule =
-    if nat_eq rule 16 then sentence document path rule else words (sentence document path rule ∷ codes " [V" ∷ decimal rule ∷ codes "]" ∷ [])
+    if nat_eq rule 16 then sentence document path rule else
+    words (sentence document path rule ∷ codes " [V" ∷ decimal rule ∷ codes "]" ∷ [])
