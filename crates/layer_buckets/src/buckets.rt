@@ -36,6 +36,7 @@ impl<E: CountedEvaluator + Drop> Buckets<E> {
         ensures evaluator { IfOk result (λ buckets. evaluator_of buckets ≡ evaluator) }
         ensures kept { IfOk result (λ buckets. (cell : Cell) → kept_at buckets cell ≡ None) }
         ensures features { IfOk result (λ buckets. (layer : ℕ) → features_of buckets layer ≡ None) }
+        ensures sources { IfOk result (λ buckets. (layer : ℕ) (item : CellItem) → source_of buckets layer item ≡ None) }
     {
         let table = CellTable::new(alloc)?;
         Ok(Buckets { evaluator, table })
@@ -114,6 +115,13 @@ impl<E: CountedEvaluator + Drop> Buckets<E> {
         ensures now { result.now ≡ evaluator_of self.old }
     {
         &mut self.evaluator
+    }
+
+    /// What gives the values of an item of a layer; none where it has no source.
+    pub fn source(&self, layer: u32, item: CellItem) -> Option<Source>
+        ensures { result ≡ source_of self.now layer item }
+    {
+        self.table.source(layer, item)
     }
 
     /// The value of a kept cell, or its fault.

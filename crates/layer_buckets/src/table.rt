@@ -39,6 +39,7 @@ impl CellTable {
         ensures table { IfOk result IsCellTable }
         ensures kept { IfOk result (λ table. (cell : Cell) → kept_in_table table cell ≡ None) }
         ensures features { IfOk result (λ table. (layer : ℕ) → features_in_table table layer ≡ None) }
+        ensures sources { IfOk result (λ table. (layer : ℕ) (item : CellItem) → source_in_table table layer item ≡ None) }
     {
         Ok(CellTable {
             layers: Vec::new(alloc),

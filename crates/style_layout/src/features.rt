@@ -17,27 +17,27 @@ use tile_reader::{Feature, Tile};
 
 /// A feature of a layer, with its number in the list of the layer's features and its state.
 #[derive(Clone, Copy)]
-pub(crate) struct LayerFeature<'a> {
-    pub(crate) number: u32,
-    pub(crate) feature: &'a Feature,
-    pub(crate) state: Option<&'a Entries>,
+pub struct LayerFeature<'a> {
+    pub number: u32,
+    pub feature: &'a Feature,
+    pub state: Option<&'a Entries>,
 }
 
 /// The features of a layer that are still to come, tile by tile.
 #[derive(Clone, Copy)]
-pub(crate) struct LayerFeatures<'a> {
-    pub(crate) layer: &'a StyleLayer,
-    pub(crate) tiles: &'a [SourceTile<'a>],
+pub struct LayerFeatures<'a> {
+    pub layer: &'a StyleLayer,
+    pub tiles: &'a [SourceTile<'a>],
     /// The place of the tile that comes after these features.
-    pub(crate) next_tile: usize,
-    pub(crate) features: &'a [Feature],
+    pub next_tile: usize,
+    pub features: &'a [Feature],
     /// The number of the first of them.
-    pub(crate) number: u32,
+    pub number: u32,
 }
 
 impl<'a> LayerFeatures<'a> {
     /// All of them.
-    pub(crate) fn new(layer: &'a StyleLayer, tiles: &'a [SourceTile<'a>]) -> LayerFeatures<'a>
+    pub fn new(layer: &'a StyleLayer, tiles: &'a [SourceTile<'a>]) -> LayerFeatures<'a>
         requires { length (layer_features (map tile_seen tiles.now) (layer_seen layer.now)) < 2 ^ 32 }
         ensures left { features_left result
             ≡ numbered 0 (layer_features (map tile_seen tiles.now) (layer_seen layer.now)) }
@@ -82,8 +82,8 @@ impl<'a> LayerFeatures<'a> {
         Ok(None)
     }
 
-    // Takes the next feature, with its number.
-    fn next(&mut self) -> Option<(u32, &'a Feature)>
+    /// Takes the next feature, with its number.
+    pub fn next(&mut self) -> Option<(u32, &'a Feature)>
         requires { HasFewLeft self.old }
         ensures left { MatchOption result (features_left self.old ≡ [])
             (λ found. features_left self.old ≡ (found.0, found.1.now) ∷ features_left self.new) }
@@ -133,9 +133,9 @@ impl<'a> LayerFeatures<'a> {
     }
 }
 
-// The members of the state of a feature, which one without an id has not.
+/// The members of the state of a feature, which one without an id has not.
 #[tactic(auto, unfolding(crate::specs::CodeView::scene_seen))]
-fn state_of<'a, E: Evaluator>(
+pub fn state_of<'a, E: Evaluator>(
     layer: &StyleLayer,
     scene: &'a Scene<'_, E>,
     id: Option<u64>,

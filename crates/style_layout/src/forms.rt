@@ -23,7 +23,7 @@ use value_forms::{Form, form_of};
 
 /// The value of a property.
 #[derive(Drop)]
-pub(crate) enum PropertyValue {
+pub enum PropertyValue {
     /// A literal, fitted to its row.
     Literal(Value),
     Expression(Expr),
@@ -35,7 +35,7 @@ pub(crate) enum PropertyValue {
 
 /// The filter of a layer.
 #[derive(Drop)]
-pub(crate) enum LayerFilter {
+pub enum LayerFilter {
     Every,
     Condition(Expr),
     Legacy(LegacyFilter),

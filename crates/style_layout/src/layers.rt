@@ -23,24 +23,24 @@ use value_forms::{is_unread_type, layer_type};
 /// A layer of a style, of which each value is read once.
 #[derive(Drop)]
 pub struct StyleLayer {
-    pub(crate) id: Text,
-    pub(crate) layer_type: LayerType,
+    pub id: Text,
+    pub layer_type: LayerType,
     /// Empty where there is none.
-    pub(crate) source: Text,
-    pub(crate) source_layer: Text,
-    pub(crate) is_invisible: bool,
-    pub(crate) min_zoom: Option<Fixed>,
-    pub(crate) max_zoom: Option<Fixed>,
-    pub(crate) filter: LayerFilter,
+    pub source: Text,
+    pub source_layer: Text,
+    pub is_invisible: bool,
+    pub min_zoom: Option<Fixed>,
+    pub max_zoom: Option<Fixed>,
+    pub filter: LayerFilter,
     /// In the order of the table.
-    pub(crate) properties: Vec<Property>,
+    pub properties: Vec<Property>,
 }
 
 /// The property by which the features of a layer are ordered, and its place among the properties.
 #[derive(Clone, Copy)]
-pub(crate) struct SortProperty<'a> {
-    pub(crate) place: usize,
-    pub(crate) property: &'a Property,
+pub struct SortProperty<'a> {
+    pub place: usize,
+    pub property: &'a Property,
 }
 
 /// A layer as its layout reads it, by the values of the global state; none where it has no type.
@@ -111,7 +111,7 @@ fn is_invisible(layer: &Members) -> bool
 
 impl StyleLayer {
     /// How the layer is shown at a zoom.
-    pub(crate) fn show(&self, zoom: Fixed) -> Show
+    pub fn show(&self, zoom: Fixed) -> Show
         ensures { result ≡ show_of zoom (layer_seen self.now) }
     {
         if self.is_hidden(zoom) {
@@ -135,7 +135,7 @@ impl StyleLayer {
     }
 
     /// The property by which the features of the type are ordered, where it is set.
-    pub(crate) fn sort_property(&self) -> Option<SortProperty<'_>>
+    pub fn sort_property(&self) -> Option<SortProperty<'_>>
         ensures property { option_map (λ sort. property_seen sort.property.now) result
             ≡ sort_property self.now.layer_type (map property_seen self.now.properties.items) }
         ensures place { IfSome result (λ sort. slice_get (map property_seen self.now.properties.items) sort.place

@@ -35,9 +35,13 @@ mod values;
 mod zoom;
 
 pub use cells::{cell_count, layer_cells};
+pub use features::{LayerFeature, LayerFeatures, state_of};
+pub use forms::{LayerFilter, PropertyValue};
 pub use globals::{global_default, globals_of};
-pub use layers::{StyleLayer, prepare_layer};
+pub use layers::{SortProperty, StyleLayer, prepare_layer};
 pub use listing::write_listing;
 pub use prepared::{PreparedStyle, prepare};
+pub use properties::Property;
 pub use scene::{Evaluator, Scene, SourceTile, TreeWalk};
+pub use values::zoom_at;
 pub use zoom::Zoom;

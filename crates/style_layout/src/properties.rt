@@ -20,12 +20,12 @@ pub(crate) const VISIBILITY: &str = "visibility";
 
 /// A property that is set.
 #[derive(Drop)]
-pub(crate) struct Property {
-    pub(crate) row: Row,
-    pub(crate) value: PropertyValue,
+pub struct Property {
+    pub row: Row,
+    pub value: PropertyValue,
     /// What is listed for it after a fault.
-    pub(crate) fallback: Option<Value>,
-    pub(crate) is_per_feature: bool,
+    pub fallback: Option<Value>,
+    pub is_per_feature: bool,
 }
 
 /// The properties of a layer of a type, in the order of the table.

@@ -37,6 +37,12 @@ pub trait Evaluator {
     /// Both tests.
     ghost tests: { Self → Tests };
 
+    fn has_image(&self, name: &str) -> bool
+        ensures { result ≡ (tests self.now).has_image name.now };
+
+    fn is_supported(&self, text: &str) -> bool
+        ensures { result ≡ (tests self.now).is_supported text.now };
+
     /// The value that an expression has under a want, or its first fault.
     fn evaluated(
         &self,
@@ -61,6 +67,14 @@ impl Evaluator for TreeWalk<&dyn HostOp> {
       has_image = (HostOp-dyn w.images.now).test w.images.now.1;
       is_supported = (HostOp-dyn w.scripts.now).test w.scripts.now.1;
     } };
+
+    fn has_image(&self, name: &str) -> bool {
+        self.images.answer(name)
+    }
+
+    fn is_supported(&self, text: &str) -> bool {
+        self.scripts.answer(text)
+    }
 
     fn evaluated(
         &self,

@@ -70,8 +70,8 @@ fn copy_of(value: &Option<Value>) -> Result<Option<Value>, AllocError>
     }
 }
 
-// A paint value sees the zoom, and a layout value its floor.
-fn zoom_at(zoom: Zoom, place: Place) -> Fixed
+/// The zoom that a value sees: a paint value the zoom, and a layout value its floor.
+pub fn zoom_at(zoom: Zoom, place: Place) -> Fixed
     ensures { result ≡ zoom_at zoom place }
 {
     match place {
