@@ -21,12 +21,18 @@ use outside_io::Steps;
 use prop_values::{Value, Want};
 use std::sync::ledger::Ledger;
 
+/// How many bindings are evaluated inside one another at most. With no bound a hostile expression would overflow the
+/// stack. A deeper evaluation ends as one does for which there is no memory.
+const MOST_OPEN: u8 = 64;
+
 /// What a node is evaluated in: the bindings, the world, and the number below which bindings are asked for.
 #[derive(Drop)]
 pub(crate) struct Surroundings<'x, B, W> {
     pub(crate) bindings: &'x B,
     pub(crate) world: &'x W,
     pub(crate) limit: usize,
+    /// How many more bindings are evaluated inside one another at most.
+    pub(crate) open_left: u8,
 }
 
 /// The value of a node, with its bindings, in a world. At least one step is counted, and at most as many as
@@ -55,6 +61,7 @@ pub fn evaluate<N: NodeHandle, B: Bindings<N>, W: WorldView, L: Ledger>(
         bindings: &*bindings,
         world: &*world,
         limit,
+        open_left: MOST_OPEN,
     };
     workspace.evaluate_node(tree, &around, steps)
 }
@@ -122,10 +129,14 @@ impl Workspace {
         if let Some(value) = self.kept(slot) {
             return fitted_copy(self.alloc, value, want);
         }
+        if around.open_left == 0 {
+            return Err(Halt::NoMemory);
+        }
         let inner = Surroundings {
             bindings: &*around.bindings,
             world: &*around.world,
             limit: slot,
+            open_left: around.open_left - 1,
         };
         let value = self.evaluate_node(around.bindings.binding(slot), &inner, steps)?;
         self.keep(slot, &value)?;

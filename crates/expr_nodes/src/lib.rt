@@ -25,6 +25,9 @@
 //! own. Names are gone: a `let` is its body, and its bindings are in one list, each after those that it asks for. A
 //! binding is evaluated when it is first asked for, and its value is kept.
 //!
+//! At most 64 bindings are evaluated inside one another: a deeper evaluation ends as one does for which there is no
+//! memory.
+//!
 //! The functions are those of `expr_plain`, over nodes (`evaluation.rt`, `arguments.rt`, `branches.rt`), and what
 //! they make of values is in `operator_rules`. They are methods of the `Workspace`, which has what changes: a slot
 //! for each binding, and the values of arguments whose node is not evaluated yet. A constant, or a property that is

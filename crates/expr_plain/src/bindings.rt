@@ -48,6 +48,7 @@ impl Evaluation {
         let inner = Environment {
             world: &*environment.world,
             frames,
+            depth_left: environment.depth_left,
         };
         let evaluated = self.evaluate(&arguments[count], want, &inner);
         self.close_slots(first);
@@ -80,6 +81,7 @@ impl Evaluation {
         let around = Environment {
             world: &*environment.world,
             frames,
+            depth_left: environment.depth_left,
         };
         let value = self.evaluate(binding.expression, &Want::Any, &around)?;
         self.keep(binding.slot, &value)?;

@@ -7,7 +7,7 @@ ghost use Rattle.eval_face.specs.Meaning.{mean};
 ghost use Rattle.expr_plain.specs.declared.frames.BindingScope.{Empty};
 
 use crate::evaluation::Evaluation;
-use crate::frames::{BindingScope, Environment, Frames};
+use crate::frames::{BindingScope, Environment, Frames, MOST_UNDER_WAY};
 use eval_face::Context;
 use expr_syntax::Expr;
 use host_ops::HostOp;
@@ -61,6 +61,7 @@ fn evaluated<'x, W: WorldView>(
     let environment = Environment {
         world: &*world,
         frames,
+        depth_left: MOST_UNDER_WAY,
     };
     let mut evaluation = Evaluation::new(alloc);
     evaluation.evaluate(expression, want, &environment)

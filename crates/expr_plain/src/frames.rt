@@ -22,11 +22,18 @@ pub(crate) struct Frames<'x> {
     pub(crate) entered: &'x BindingScope<'x>,
 }
 
+/// How many nodes are evaluated inside one another at most. Bindings that ask one another crosswise go deeper than the
+/// expression is, and with no bound a hostile one would overflow the stack. A deeper evaluation ends as one does for which
+/// there is no memory.
+pub(crate) const MOST_UNDER_WAY: u16 = 2_400;
+
 /// What an expression is evaluated in: the world, and the frames around it.
 #[derive(Drop)]
 pub(crate) struct Environment<'x, W> {
     pub(crate) world: &'x W,
     pub(crate) frames: Frames<'x>,
+    /// How many more nodes are evaluated inside one another at most.
+    pub(crate) depth_left: u16,
 }
 
 /// What a name represents: its binding, the place of its slot, and the frames that the binding sees.

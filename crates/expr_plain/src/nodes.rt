@@ -8,7 +8,7 @@ ghost use Rattle.expr_plain.specs.Evaluates.{Evaluates};
 
 use crate::borrowed::borrowed_property;
 use crate::evaluation::Evaluation;
-use crate::frames::Environment;
+use crate::frames::{Environment, Frames};
 use expr_syntax::{Expr, Operator};
 use operator_rules::{OperatorRule, WorldView, fitted_copy, rule_of};
 use operator_values::Halt;
@@ -30,7 +30,18 @@ impl Evaluation {
         match expression {
             Expr::Literal(value) => fitted_copy(self.alloc, value, want),
             Expr::Node(op, arguments) => {
-                self.evaluate_node(op, arguments.as_slice(), want, environment)
+                if environment.depth_left == 0 {
+                    return Err(Halt::NoMemory);
+                }
+                let inner = Environment {
+                    world: &*environment.world,
+                    frames: Frames {
+                        scope: environment.frames.scope,
+                        entered: environment.frames.entered,
+                    },
+                    depth_left: environment.depth_left - 1,
+                };
+                self.evaluate_node(op, arguments.as_slice(), want, &inner)
             }
         }
     }
