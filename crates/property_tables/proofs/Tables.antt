@@ -102,7 +102,7 @@ meets_itself r (Some d) w e =
 
 -- for the case that there is no row
 no_row : RowData
-no_row = record { name = []; place = Layout; want = wants.Any; fallback = absent; limits = record { least = None; most = None }; reads = record { zoom = false; feature = false; state = false; ramps = false }; takes_tokens = false }
+no_row = record { number = 0; name = []; place = Layout; want = wants.Any; fallback = absent; limits = record { least = None; most = None }; reads = record { zoom = false; feature = false; state = false; ramps = false }; takes_tokens = false }
 
 pub table_keeps_rules : TableKeepsRules
 table_keeps_rules t = record {

@@ -1,6 +1,6 @@
 -- What contracts see of rows and of the entries of the table.
 use Rattle.std.specs.Prelude.{ℕ, List, map}
-use Rattle.property_tables.specs.Rows.{RowData, Limits, Default, absent, flag, amount, word, zeros, fonts}
+use Rattle.property_tables.specs.Rows.{RowData, Limits, Default, numbered, absent, flag, amount, word, zeros, fonts}
 use Rattle.property_tables.specs.declared.entry.TableEntry.{TableEntry}
 use Rattle.property_tables.specs.declared.entry.Given.{Given}
 use Rattle.property_tables.specs.declared.entry.Given.TheVariants as given
@@ -19,8 +19,10 @@ given_seen (given.Word s) = word s.now
 given_seen (given.Zeros n) = zeros n
 given_seen given.Fonts = fonts
 
+-- an entry has no number yet
 abbrev pub entry_seen : TableEntry → RowData
 entry_seen e = record {
+  number = 0;
   name = e.name.now;
   place = e.place;
   want = e.want;
@@ -31,7 +33,7 @@ entry_seen e = record {
 }
 
 abbrev pub rows_seen : List TableEntry → List RowData
-rows_seen es = map entry_seen es
+rows_seen es = numbered 0 (map entry_seen es)
 
 abbrev pub fallback_seen : Fallback → Default
 fallback_seen fallbacks.Absent = absent
@@ -47,6 +49,7 @@ limits_seen r = record { least = r.least; most = r.most }
 -- what the table has of a row
 abbrev pub row_seen : Row → RowData
 row_seen r = record {
+  number = r.number;
   name = r.name.now;
   place = r.place;
   want = r.want;

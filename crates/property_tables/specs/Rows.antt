@@ -36,8 +36,10 @@ pub record AllowedReads : Type 0 where
   pub state : Bool
   pub ramps : Bool
 
--- `takes_tokens`: whether a text with tokens is a token text
+-- `number`: the place among the rows of its type, counted from 0; `takes_tokens`: whether a text with tokens is a token
+-- text
 pub record RowData : Type 0 where
+  pub number : ℕ
   pub name : List ℕ
   pub place : Place
   pub want : Want
@@ -49,13 +51,13 @@ pub record RowData : Type 0 where
 -- The words of the table.
 
 abbrev layout : String → Want → Default → Limits → AllowedReads → RowData
-layout s w d l r = record { name = codes s; place = Layout; want = w; fallback = d; limits = l; reads = r; takes_tokens = false }
+layout s w d l r = record { number = 0; name = codes s; place = Layout; want = w; fallback = d; limits = l; reads = r; takes_tokens = false }
 
 abbrev layout_with_tokens : String → Want → Default → Limits → AllowedReads → RowData
 layout_with_tokens s w d l r = record (layout s w d l r) { takes_tokens = true }
 
 abbrev paint : String → Want → Default → Limits → AllowedReads → RowData
-paint s w d l r = record { name = codes s; place = Paint; want = w; fallback = d; limits = l; reads = r; takes_tokens = false }
+paint s w d l r = record { number = 0; name = codes s; place = Paint; want = w; fallback = d; limits = l; reads = r; takes_tokens = false }
 
 abbrev one_of : Choice → Want
 one_of c = wants.Enum c
@@ -285,17 +287,26 @@ color_relief_rows =
     layout "visibility" (one_of Visibility) (named "visible") free none ∷
     []
 
+abbrev pub table_of : LayerType → List RowData
+table_of types.Background = background_rows
+table_of types.Fill = fill_rows
+table_of types.Line = line_rows
+table_of types.Symbol = symbol_rows
+table_of types.Circle = circle_rows
+table_of types.Heatmap = heatmap_rows
+table_of types.FillExtrusion = fill_extrusion_rows
+table_of types.Raster = raster_rows
+table_of types.Hillshade = hillshade_rows
+table_of types.ColorRelief = color_relief_rows
+
+-- rows with their numbers, from this number on
+abbrev pub numbered : ℕ → List RowData → List RowData
+numbered n [] = []
+numbered n (r ∷ rs) = record r { number = n } ∷ numbered (n + 1) rs
+
+-- the rows of a type in the order of the table
 abbrev pub rows_of : LayerType → List RowData
-rows_of types.Background = background_rows
-rows_of types.Fill = fill_rows
-rows_of types.Line = line_rows
-rows_of types.Symbol = symbol_rows
-rows_of types.Circle = circle_rows
-rows_of types.Heatmap = heatmap_rows
-rows_of types.FillExtrusion = fill_extrusion_rows
-rows_of types.Raster = raster_rows
-rows_of types.Hillshade = hillshade_rows
-rows_of types.ColorRelief = color_relief_rows
+rows_of t = numbered 0 (table_of t)
 
 -- the row of a name, with its number among the rows, which are counted from this number on
 abbrev pub row_named : ℕ → List ℕ → List RowData → Option (ℕ × RowData)

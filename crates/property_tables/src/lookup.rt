@@ -22,6 +22,7 @@ pub fn row(layer_type: LayerType, place: Place, name: &str) -> Option<Row>
 }
 
 /// How many rows the table of a layer type has.
+#[tactic(auto, using(crate::proofs::FoundRows::rows_counted))]
 pub fn row_count(layer_type: LayerType) -> u16
     ensures { result ≡ length (rows_of layer_type) }
 {
@@ -79,8 +80,7 @@ fn row_among(entries: &[TableEntry], order: &[u8], name: &str) -> Option<Row>
 }
 
 fn row_at(entry: &TableEntry, number: u16) -> Row
-    ensures row { row_seen result ≡ entry_seen entry.now }
-    ensures number { result.number ≡ number }
+    ensures { row_seen result ≡ record (entry_seen entry.now) { number = number } }
 {
     Row {
         name: entry.name,
