@@ -22,6 +22,8 @@ CHOSEN = [
     "validate: five findings of five rules on two layers",
     "validate: a style as an editor writes it",
     "migrate: a legacy filter",
+    "simplify: a false condition goes and its condition with it",
+    "desk: two views, a state, an edit and refusals",
     "tile t: the tile of the points",
     "generate 1",
     'words ["--help"]',

@@ -1,14 +1,15 @@
 """Runs the program with a small stack on the deepest inputs that its limits allow: each has to end as it does with a large one.
 
 The stack is of 1 MiB, and of 4 MiB where bindings ask for one another: a binding is evaluated where it is first asked for, so that the
-evaluation of a binding that asks for another is open until that of the other has ended.
+evaluation of a binding that asks for another is open until that of the other has ended. At most 2,400 nodes are under way at once; where
+bindings would need more, a run ends as one does that gets no memory.
 """
 
 import itertools
 import resource
 
-from memory import least
-from running import Folder, Given, given_rows
+from memory import NO_MEMORY, least
+from running import LONGEST_WORD, Folder, Given, given_rows
 
 KB = 1024
 STACK = 1024 * KB
@@ -18,6 +19,7 @@ LARGE = 1 << 30
 LOWEST = 64 * KB
 STEP = 4 * KB
 DEPTH = 64
+ENDS = range(5)
 TILE = bytes.fromhex("1a2978020a01701208080712020000180112080807120200011801120218011a01722202280322030a0178")
 # What stands in itself at X, and what is innermost: nodes of each operator that are well typed, and then what is no node.
 FORMS = [
@@ -156,7 +158,7 @@ def deepest():
             text = whole.replace("X", literal).replace("Y", nested(form, DEPTH - 3))
             yield Given(f"value of {whole} with {form}", ["value", text], {})
     for name, text in styles():
-        for command in ("validate", "migrate"):
+        for command in ("validate", "migrate", "simplify"):
             yield Given(f"{command} of {name}", [command, "s"], {"s": text.encode()})
         yield Given(f"eval of {name}", ["eval", "s", "1", "t=a"], {"s": text.encode(), "a": TILE})
     opacity = '["length",["to-string",["feature-state","o"]]]'
@@ -165,6 +167,9 @@ def deepest():
     for line in script_lines():
         script = f'{line}\n["list"]\n["remove-layer","e"]\n'
         yield Given(f"replay of {line[:60]}", ["replay", "s", "e", "1", "t=a"], {"s": shown.encode(), "e": script.encode(), "a": TILE})
+        script = f'["open-view","v",1]\n{line}\n["view","v",["list"]]\n'
+        yield Given(f"desk of {line[:60]}", ["desk", "s", "e", "t=a"], {"s": shown.encode(), "e": script.encode(), "a": TILE})
+    yield Given("no words", [], {})
     yield Given("tile", ["tile", "a"], {"a": TILE})
     yield Given("generate 1000", ["generate", "1000"], {})
 
@@ -176,21 +181,36 @@ def asking_bindings():
     yield from given_rows(lambda name: name.startswith("a tower of 63 let"))
 
 
+def crosswise_bindings():
+    """Runs in which bindings ask for one another crosswise, some of which need more than there may be under way."""
+    for levels, length in ((3, 20), (5, 50), (10, 50), (14, 1)):
+        text = crosswise(levels, length)
+        files = {"s": style(radius(text)).encode(), "a": TILE, "e": b'["list"]\n', "d": b'["open-view","v",1]\n["view","v",["list"]]\n'}
+        name = f"{levels} levels of bindings that ask crosswise"
+        yield Given(f"eval of {name}", ["eval", "s", "0", "t=a"], files)
+        yield Given(f"replay of {name}", ["replay", "s", "e", "0", "t=a"], files)
+        yield Given(f"desk of {name}", ["desk", "s", "d", "t=a"], files)
+        yield Given(f"simplify of {name}", ["simplify", "s"], files)
+        if len(text) <= LONGEST_WORD:
+            yield Given(f"value of {name}", ["value", text], {})
+
+
 def run_deep(program, short, times, is_wanted):
     """Runs the deepest inputs, and without --short all rows, and gives how many ended wrong; `times` prints the greatest stack that one of
     each command needs."""
     failed, runs, needs = 0, 0, {}
-    cases = [(given, STACK) for given in deepest()] + [(given, STACK_OF_BINDINGS) for given in asking_bindings()]
+    cases = [(given, STACK, ENDS) for given in deepest()] + [(given, STACK_OF_BINDINGS, ENDS) for given in asking_bindings()]
+    cases += [(given, STACK_OF_BINDINGS, (*ENDS, NO_MEMORY)) for given in crosswise_bindings()]
     if not short:
-        cases += [(given, STACK) for given in given_rows(lambda name: not name.startswith("a tower of 63 let"))]
-    for given, most in cases:
+        cases += [(given, STACK, ENDS) for given in given_rows(lambda name: not name.startswith("a tower of 63 let"))]
+    for given, most, ends in cases:
         if not is_wanted("stack: " + given.name):
             continue
         with Folder(given) as folder:
             plain = folder.run(program, [(resource.RLIMIT_STACK, LARGE)])
             got = folder.run(program, [(resource.RLIMIT_STACK, most)])
             runs += 1
-            if plain[0] not in range(5) or got != plain:
+            if plain[0] not in ends or got != plain:
                 failed += 1
                 print(f"hostile: stack: {given.name}: status {got[0]} with {most // KB} kB, {plain[0]} else")
             elif times:
@@ -203,16 +223,4 @@ def run_deep(program, short, times, is_wanted):
         print(f"hostile: stack: {kind} ends right with {need // KB} kB: {name}")
     if runs:
         print(f"hostile: stack: {runs} runs")
-    report_open(program, is_wanted)
     return failed
-
-
-def report_open(program, is_wanted):
-    """Says of what is known to need more stack than there usually is how it ends now. It is no failure of this check until it is mended."""
-    for levels, length in ((10, 50), (14, 1)):
-        text = style(radius(crosswise(levels, length))).encode()
-        given = Given(f"eval of {levels} levels of bindings that ask crosswise", ["eval", "s", "0"], {"s": text})
-        if is_wanted("stack: " + given.name):
-            with Folder(given) as folder:
-                status, _, _ = folder.run(program, [(resource.RLIMIT_STACK, 8192 * KB)])
-                print(f"hostile: stack: open: {given.name}, {len(text)} bytes: status {status} with 8 MiB")
