@@ -1,5 +1,5 @@
 -- No run has two outcomes, by recursion over runs.
-use Rattle.std.specs.Prelude.{◌≡◌, ℕ, ◌≤◌, List, [], ◌∷◌, ◌++◌, length, true, is_some, Option, Some, None}
+use Rattle.std.specs.Prelude.{◌≡◌, ℕ, ◌≤◌, List, [], ◌∷◌, ◌++◌, length, true, is_some, Option, Some, None, Ok, Err}
 use Rattle.std.proofs.Common.{sym, ap, subst, ◌∙◌, inl, inr, arith}
 use Rattle.outside_io.specs.Reading.{IsContent, IsLongerIfTold}
 use Rattle.json_tokens.specs.Rules.{all_rules}
@@ -7,14 +7,20 @@ use Rattle.json_tokens.specs.declared.kind.JsonKind.{JsonKind}
 use Rattle.decimal_json.proofs.OneFault.{one_fault}
 use Rattle.decimal_json.proofs.OneTree.{one_tree}
 use Rattle.decimal_json.specs.Parses.{IsPlace, IsKind}
+use Rattle.decimal_json.specs.declared.fault.JsonFault.{JsonFault}
 use Rattle.program_runs.specs.Laws.{EachRunHasOneOutcome}
 use Rattle.program_runs.specs.Refusals.{no_json}
-use Rattle.program_runs.specs.Runs.{ends, says, reads, parses, may_parse, HasOutcome, after_text}
+use Rattle.program_runs.specs.Runs.{ends, says, reads, may_read, parses, may_parse, explains, HasFault, HasOutcome, after_text}
 
 one_refusal : (what text : List ℕ) (kind other : JsonKind) (at place : ℕ) → IsPlace text at → IsKind kind text at → IsPlace text place → IsKind other text place → no_json what kind at ≡ no_json what other place
 one_refusal what text kind other at place at_first first at_second second =
     let same = one_fault text at place kind other at_first at_second first second in
     ap (λ n. no_json what kind n) same.0 ∙ ap (λ k. no_json what k place) same.1
+
+pub same_fault : (text : List ℕ) (fault other : JsonFault) → HasFault text fault → HasFault text other → fault ≡ other
+same_fault text fault other (none, place, cause) (neither, there, reason) =
+    let same = one_fault text fault.at other.at fault.kind other.kind place there cause reason in
+    ap (λ (n : ℕ). record { kind = fault.kind; at = n }) same.0 ∙ ap (λ (k : JsonKind). record { kind = k; at = other.at }) same.1
 
 -- a file with known contents is not both within the limit and longer
 pub not_both : (file : Option (List ℕ)) (limit : ℕ) (bytes : List ℕ) → is_some file ≡ true → IsLongerIfTold file limit → IsContent file bytes → length bytes ≤ limit → ⊥
@@ -35,6 +41,12 @@ one_outcome files (reads longer name limit after) told x y z o p (inr (bytes, is
 one_outcome files (reads longer name limit after) told x y z o p (inr (bytes, is, d)) (inr (others, are, e)) =
     one_outcome files (after bytes) (told.1 bytes is) (x ++ name ∷ []) y z o p d
     (subst (λ b. HasOutcome files (after b) (x ++ name ∷ []) z p) (one_content (files name) others bytes told.0 are.0 is.0) e)
+one_outcome files (may_read name limit after) told x y z o p (inl (longer, d)) (inl (also, e)) = one_outcome files (after None) told.1 (x ++ name ∷ []) y z o p d e
+one_outcome files (may_read name limit after) told x y z o p (inl (longer, d)) (inr (bytes, is, e)) = absurd (not_both (files name) limit bytes told.0 longer is.0 is.1)
+one_outcome files (may_read name limit after) told x y z o p (inr (bytes, is, d)) (inl (longer, e)) = absurd (not_both (files name) limit bytes told.0 longer is.0 is.1)
+one_outcome files (may_read name limit after) told x y z o p (inr (bytes, is, d)) (inr (others, are, e)) =
+    one_outcome files (after (Some bytes)) (told.2 bytes is) (x ++ name ∷ []) y z o p d
+    (subst (λ b. HasOutcome files (after (Some b)) (x ++ name ∷ []) z p) (one_content (files name) others bytes told.0 are.0 is.0) e)
 one_outcome files (parses what bytes after) told x y z o p (inl (s, spells, d)) (inl (t, also, e)) =
     one_outcome files (after s) (told s spells) x y z o p d (subst (λ u. HasOutcome files (after u) x z p) (one_tree all_rules bytes t s also spells) e)
 one_outcome files (parses what bytes after) told x y z o p (inl (s, spells, d)) (inr (kind, at, none, place, cause, made, same)) = absurd (none (s, spells))
@@ -46,3 +58,9 @@ one_outcome files (may_parse bytes after) told x y z o p (inl (s, spells, d)) (i
 one_outcome files (may_parse bytes after) told x y z o p (inl (s, spells, d)) (inr (none, e)) = absurd (none (s, spells))
 one_outcome files (may_parse bytes after) told x y z o p (inr (none, d)) (inl (t, also, e)) = absurd (none (t, also))
 one_outcome files (may_parse bytes after) told x y z o p (inr (none, d)) (inr (neither, e)) = one_outcome files (after None) (told.1 none) x y z o p d e
+one_outcome files (explains bytes after) told x y z o p (inl (s, spells, d)) (inl (t, also, e)) =
+    one_outcome files (after (Ok s)) (told.0 s spells) x y z o p d (subst (λ u. HasOutcome files (after (Ok u)) x z p) (one_tree all_rules bytes t s also spells) e)
+one_outcome files (explains bytes after) told x y z o p (inl (s, spells, d)) (inr (fault, has, e)) = absurd (has.0 (s, spells))
+one_outcome files (explains bytes after) told x y z o p (inr (fault, has, d)) (inl (t, also, e)) = absurd (has.0 (t, also))
+one_outcome files (explains bytes after) told x y z o p (inr (fault, has, d)) (inr (other, also, e)) =
+    one_outcome files (after (Err fault)) (told.1 fault has) x y z o p d (subst (λ f. HasOutcome files (after (Err f)) x z p) (same_fault bytes other fault also has) e)

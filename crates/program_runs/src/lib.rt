@@ -32,7 +32,7 @@ pub use answer::{RunOutput, answer_out, answer_refused, answer_said, answer_usag
 pub use finishing::{write_answer, write_piece, write_unread};
 pub use halt::{RunHalt, RunStop, WriteStop};
 pub use laws::each_run_has_one_outcome;
-pub use reading::{parse_json, read_file, read_json};
+pub use reading::{may_read_file, parse_json, read_file, read_json};
 pub use refusals::{no_json, too_long};
 pub use status::{Ending, Status};
 pub use subject::{Subject, write_number, write_subject};

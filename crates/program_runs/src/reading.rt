@@ -1,13 +1,13 @@
 //! Parts of runs that read something, and hand it on or halt the run.
 
-ghost use Rattle.std.specs.Prelude.{◌≡◌, ℕ, List, Option, OnOk, IfOk, IfErr};
+ghost use Rattle.std.specs.Prelude.{◌≡◌, ℕ, List, Option, option_map, OnOk, IfOk, IfErr};
 ghost use Rattle.decimal_json.specs.Parsed.{Parses};
 ghost use Rattle.decimal_json.specs.View.{tree_of};
 ghost use Rattle.program_runs.specs.Parts.{json_part};
 ghost use Rattle.program_runs.specs.FailedReads.{NoneFailed};
 ghost use Rattle.program_runs.specs.Refusals.{too_long};
 ghost use Rattle.program_runs.specs.Progress.{GoesOn, Halts};
-ghost use Rattle.program_runs.specs.Runs.{reads, parses};
+ghost use Rattle.program_runs.specs.Runs.{reads, may_read, parses};
 ghost use Rattle.program_runs.specs.Subjects.{subject_text, subject_number};
 
 use crate::halt::{RunHalt, RunStop};
@@ -36,6 +36,29 @@ pub fn read_file<'a, F: Files>(
     match files.read(alloc, name, at_most, &mut bytes) {
         ReadAnswer::Done => Ok(bytes),
         ReadAnswer::TooLong => Err(RunHalt::Refused(too_long(alloc, what)?)),
+        ReadAnswer::Failed => Err(RunHalt::Stopped(RunStop::Unread(name))),
+        ReadAnswer::NoMemory => Err(RunHalt::Stopped(RunStop::NoMemory)),
+    }
+}
+
+/// The bytes of a file, or nothing where there are more than so many.
+pub fn may_read_file<'a, F: Files>(
+    alloc: Global,
+    name: &'a str,
+    at_most: usize,
+    files: &mut F,
+) -> Result<Option<Vec<u8>>, RunHalt<'a>>
+    ensures told { F.told files.new ≡ F.told files.old }
+    ensures failed { OnOk result (NoneFailed (F.faults files.old) (F.faults files.new) (F.failed files.old) (F.failed files.new)) }
+    ensures on { IfOk result (λ bytes. GoesOn (F.told files.old) (may_read name.now at_most)
+        (F.asked files.old) (F.asked files.new) (option_map (λ read. read.items) bytes)) }
+    ensures halt { IfErr result (λ halt. Halts (F.told files.old) (may_read name.now at_most)
+        (F.faults files.old) (F.faults files.new) (F.failed files.old) (F.failed files.new) (F.asked files.old) (F.asked files.new) halt) }
+{
+    let mut bytes = Vec::new(alloc);
+    match files.read(alloc, name, at_most, &mut bytes) {
+        ReadAnswer::Done => Ok(Some(bytes)),
+        ReadAnswer::TooLong => Ok(None),
         ReadAnswer::Failed => Err(RunHalt::Stopped(RunStop::Unread(name))),
         ReadAnswer::NoMemory => Err(RunHalt::Stopped(RunStop::NoMemory)),
     }
