@@ -1,7 +1,7 @@
 -- A run whose text is counted and not written. Source: own.
 use Rattle.std.specs.Prelude.{ℕ, ◌+◌, List, [], ◌∷◌, ◌++◌, length, codes, decimal, nat_eq, if◌then◌else◌}
 use Rattle.program_runs.specs.Outcome.{RunOutcome, line}
-use Rattle.program_runs.specs.Runs.{Run, ends, says, reads, parses, may_parse}
+use Rattle.program_runs.specs.Runs.{Run, ends, says, reads, may_read, parses, may_parse, explains}
 
 -- how many bytes of a text are LF
 abbrev pub line_count : List ℕ → ℕ
@@ -21,8 +21,10 @@ abbrev pub counted_after : (features lines bytes : ℕ) → Run → Run
 counted_after features lines bytes (ends made) = ends (counted_outcome features lines bytes made)
 counted_after features lines bytes (says text next) = counted_after features (lines + line_count text) (bytes + length text) next
 counted_after features lines bytes (reads longer name limit after) = reads longer name limit (λ content. counted_after features lines bytes (after content))
+counted_after features lines bytes (may_read name limit after) = may_read name limit (λ content. counted_after features lines bytes (after content))
 counted_after features lines bytes (parses what text after) = parses what text (λ t. counted_after features lines bytes (after t))
 counted_after features lines bytes (may_parse text after) = may_parse text (λ t. counted_after features lines bytes (after t))
+counted_after features lines bytes (explains text after) = explains text (λ parsed. counted_after features lines bytes (after parsed))
 
 -- A run that ends as another does, with the counts of what that writes.
 abbrev pub counted : ℕ → Run → Run

@@ -1,5 +1,5 @@
 -- What a run has read: nothing yet, or all of it.
-use Rattle.std.specs.Prelude.{ℕ, List, Option, Some, None, Ok, Err}
+use Rattle.std.specs.Prelude.{ℕ, List, Option, Some, None}
 use Rattle.std.proofs.Common.{refl, inl, inr}
 use Rattle.program_runs.specs.Outcome.{RunOutcome}
 use Rattle.program_runs.specs.Runs.{Run, ends, says, reads, may_read, parses, may_parse, explains, HasOutcome, HasAsked}
@@ -19,11 +19,9 @@ module _ (files : List ℕ → Option (List ℕ)) where
   all_asked (says text next) x y o (p, d, made) = all_asked next x y p d
   all_asked (reads longer name limit after) x y o (inl d) = inr (inl d.2)
   all_asked (reads longer name limit after) x y o (inr (bytes, is, d)) = inr (inr (bytes, is, all_asked (after bytes) _ y o d))
-  all_asked (may_read name limit after) x y o (inl (longer, d)) = inr (inr (inl (longer, all_asked (after None) _ y o d)))
-  all_asked (may_read name limit after) x y o (inr (bytes, is, d)) = inr (inr (inr (bytes, is, all_asked (after (Some bytes)) _ y o d)))
+  all_asked (may_read name limit after) x y o (got, is, d) = inr (inr (got, is, all_asked (after got) _ y o d))
   all_asked (parses what bytes after) x y o (inl (t, spells, d)) = inr (t, spells, all_asked (after t) x y o d)
   all_asked (parses what bytes after) x y o (inr (kind, at, none, place, cause, made, same)) = inl same
   all_asked (may_parse bytes after) x y o (inl (t, spells, d)) = inr (inl (t, spells, all_asked (after (Some t)) x y o d))
   all_asked (may_parse bytes after) x y o (inr (none, d)) = inr (inr (none, all_asked (after None) x y o d))
-  all_asked (explains bytes after) x y o (inl (t, spells, d)) = inr (inl (t, spells, all_asked (after (Ok t)) x y o d))
-  all_asked (explains bytes after) x y o (inr (fault, has, d)) = inr (inr (fault, has, all_asked (after (Err fault)) x y o d))
+  all_asked (explains bytes after) x y o (parsed, is, d) = inr (parsed, is, all_asked (after parsed) x y o d)

@@ -1,6 +1,6 @@
 -- From part of a run to the run.
 use Rattle.std.specs.Prelude.{◌≡◌, ℕ, List, Option, Result, Ok, Err, IfOk, IfErr}
-use Rattle.std.proofs.Common.{sym, subst, ◌∙◌, ap}
+use Rattle.std.proofs.Common.{sym, subst, ◌∙◌, ap, inr}
 use Rattle.std.specs.Result.{IsErrAnd}
 use Rattle.outside_io.specs.Counts.{raised}
 use Rattle.program_runs.specs.declared.answer.RunOutput.{RunOutput}
@@ -9,7 +9,9 @@ use Rattle.program_runs.specs.declared.halt.RunHalt.TheVariants.{Stopped, Refuse
 use Rattle.program_runs.specs.declared.halt.RunStop.TheVariants.{NoMemory, Unread}
 use Rattle.program_runs.specs.FailedReads.{NoneFailed}
 use Rattle.program_runs.specs.Progress.{outcome_of, ComesTo, HaltsAt, GoesOn, Halts}
-use Rattle.program_runs.specs.Runs.{Run, HasOutcome}
+use Rattle.decimal_json.specs.Tree.{Tree}
+use Rattle.decimal_json.specs.declared.fault.JsonFault.{JsonFault}
+use Rattle.program_runs.specs.Runs.{Run, explains, IsParsed, HasOutcome}
 
 none_on : (old mid new : ℕ) (failed_old failed_mid failed_new : Option (List ℕ)) → NoneFailed old mid failed_old failed_mid → NoneFailed mid new failed_mid failed_new → NoneFailed old new failed_old failed_new
 none_on old mid new failed_old failed_mid failed_new a b = (b.0 ∙ a.0, b.1 ∙ a.1)
@@ -31,6 +33,15 @@ module _ (files : List ℕ → Option (List ℕ)) where
       record { counted = halts.counted ∙ ap raised before.0; noted = halts.noted; reached = leads.reads asked_new halts.reached; last = halts.last }
   halts_on run rest old mid new failed_old failed_mid failed_new asked_old asked_mid asked_new (Refused answer) leads before halts =
       (none_on old mid new failed_old failed_mid failed_new before halts.0, leads.outcomes asked_new (outcome_of answer) halts.1)
+
+  -- bytes that were parsed
+  pub goes_explained : (bytes : List ℕ) (parsed : Result Tree JsonFault) (asked : List (List ℕ)) → IsParsed bytes parsed
+      → GoesOn files (explains bytes) asked asked parsed
+  goes_explained bytes parsed asked is = λ k. record {
+    outcomes = λ all o d. (parsed, is, d);
+    reads = λ now r. inr (parsed, is, r);
+    says = λ now text s. (parsed, is, s);
+  }
 
 -- A part after a part. The value of the first is x, which the code borrows as y; the known contents of files
 -- are the same after it.

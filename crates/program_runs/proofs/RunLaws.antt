@@ -1,26 +1,22 @@
 -- No run has two outcomes, by recursion over runs.
-use Rattle.std.specs.Prelude.{◌≡◌, ℕ, ◌≤◌, List, [], ◌∷◌, ◌++◌, length, true, is_some, Option, Some, None, Ok, Err}
-use Rattle.std.proofs.Common.{sym, ap, subst, ◌∙◌, inl, inr, arith}
+use Rattle.std.specs.Prelude.{◌≡◌, ℕ, ◌≤◌, List, [], ◌∷◌, ◌++◌, length, true, is_some, Option, Some, None, Result, Ok, Err}
+use Rattle.std.proofs.Common.{refl, sym, ap, subst, ◌∙◌, inl, inr, arith}
 use Rattle.outside_io.specs.Reading.{IsContent, IsLongerIfTold}
 use Rattle.json_tokens.specs.Rules.{all_rules}
 use Rattle.json_tokens.specs.declared.kind.JsonKind.{JsonKind}
 use Rattle.decimal_json.proofs.OneFault.{one_fault}
 use Rattle.decimal_json.proofs.OneTree.{one_tree}
 use Rattle.decimal_json.specs.Parses.{IsPlace, IsKind}
+use Rattle.decimal_json.specs.Tree.{Tree}
 use Rattle.decimal_json.specs.declared.fault.JsonFault.{JsonFault}
 use Rattle.program_runs.specs.Laws.{EachRunHasOneOutcome}
 use Rattle.program_runs.specs.Refusals.{no_json}
-use Rattle.program_runs.specs.Runs.{ends, says, reads, may_read, parses, may_parse, explains, HasFault, HasOutcome, after_text}
+use Rattle.program_runs.specs.Runs.{ends, says, reads, may_read, parses, may_parse, explains, IsFileOrLonger, IsParsed, HasOutcome, after_text}
 
 one_refusal : (what text : List ℕ) (kind other : JsonKind) (at place : ℕ) → IsPlace text at → IsKind kind text at → IsPlace text place → IsKind other text place → no_json what kind at ≡ no_json what other place
 one_refusal what text kind other at place at_first first at_second second =
     let same = one_fault text at place kind other at_first at_second first second in
     ap (λ n. no_json what kind n) same.0 ∙ ap (λ k. no_json what k place) same.1
-
-pub same_fault : (text : List ℕ) (fault other : JsonFault) → HasFault text fault → HasFault text other → fault ≡ other
-same_fault text fault other (none, place, cause) (neither, there, reason) =
-    let same = one_fault text fault.at other.at fault.kind other.kind place there cause reason in
-    ap (λ (n : ℕ). record { kind = fault.kind; at = n }) same.0 ∙ ap (λ (k : JsonKind). record { kind = k; at = other.at }) same.1
 
 -- a file with known contents is not both within the limit and longer
 pub not_both : (file : Option (List ℕ)) (limit : ℕ) (bytes : List ℕ) → is_some file ≡ true → IsLongerIfTold file limit → IsContent file bytes → length bytes ≤ limit → ⊥
@@ -30,6 +26,23 @@ not_both (Some b) limit bytes told longer is within = let e = ap length is in om
 pub one_content : (file : Option (List ℕ)) (a b : List ℕ) → is_some file ≡ true → IsContent file a → IsContent file b → a ≡ b
 one_content None a b told p q = absurd (cc)
 one_content (Some c) a b told p q = p ∙ sym q
+
+-- a file with known contents is read in one way
+pub one_read : (files : List ℕ → Option (List ℕ)) (name : List ℕ) (limit : ℕ) (got other : Option (List ℕ)) → is_some (files name) ≡ true
+    → IsFileOrLonger files name limit got → IsFileOrLonger files name limit other → got ≡ other
+one_read files name limit None None told longer also = refl
+one_read files name limit None (Some b) told longer is = absurd (not_both (files name) limit b told longer is.0 is.1)
+one_read files name limit (Some b) None told is longer = absurd (not_both (files name) limit b told longer is.0 is.1)
+one_read files name limit (Some b) (Some c) told is are = ap Some (one_content (files name) b c told is.0 are.0)
+
+-- bytes are parsed in one way
+pub one_parsed : (bytes : List ℕ) (parsed other : Result Tree JsonFault) → IsParsed bytes parsed → IsParsed bytes other → parsed ≡ other
+one_parsed bytes (Ok s) (Ok t) spells also = ap Ok (one_tree all_rules bytes s t spells also)
+one_parsed bytes (Ok s) (Err fault) spells (none, place, cause) = absurd (none (s, spells))
+one_parsed bytes (Err fault) (Ok t) (none, place, cause) spells = absurd (none (t, spells))
+one_parsed bytes (Err fault) (Err other) (none, place, cause) (neither, there, reason) =
+    let same = one_fault bytes fault.at other.at fault.kind other.kind place there cause reason in
+    ap (λ (n : ℕ). Err (record { kind = fault.kind; at = n })) same.0 ∙ ap (λ (k : JsonKind). Err (record { kind = k; at = other.at })) same.1
 
 pub one_outcome : EachRunHasOneOutcome
 one_outcome files (ends made) told x y z o p d e = (d.0 ∙ sym e.0, d.1 ∙ sym e.1)
@@ -41,12 +54,9 @@ one_outcome files (reads longer name limit after) told x y z o p (inr (bytes, is
 one_outcome files (reads longer name limit after) told x y z o p (inr (bytes, is, d)) (inr (others, are, e)) =
     one_outcome files (after bytes) (told.1 bytes is) (x ++ name ∷ []) y z o p d
     (subst (λ b. HasOutcome files (after b) (x ++ name ∷ []) z p) (one_content (files name) others bytes told.0 are.0 is.0) e)
-one_outcome files (may_read name limit after) told x y z o p (inl (longer, d)) (inl (also, e)) = one_outcome files (after None) told.1 (x ++ name ∷ []) y z o p d e
-one_outcome files (may_read name limit after) told x y z o p (inl (longer, d)) (inr (bytes, is, e)) = absurd (not_both (files name) limit bytes told.0 longer is.0 is.1)
-one_outcome files (may_read name limit after) told x y z o p (inr (bytes, is, d)) (inl (longer, e)) = absurd (not_both (files name) limit bytes told.0 longer is.0 is.1)
-one_outcome files (may_read name limit after) told x y z o p (inr (bytes, is, d)) (inr (others, are, e)) =
-    one_outcome files (after (Some bytes)) (told.2 bytes is) (x ++ name ∷ []) y z o p d
-    (subst (λ b. HasOutcome files (after (Some b)) (x ++ name ∷ []) z p) (one_content (files name) others bytes told.0 are.0 is.0) e)
+one_outcome files (may_read name limit after) told x y z o p (got, is, d) (other, are, e) =
+    one_outcome files (after got) (told.1 got is) (x ++ name ∷ []) y z o p d
+    (subst (λ g. HasOutcome files (after g) (x ++ name ∷ []) z p) (one_read files name limit other got told.0 are is) e)
 one_outcome files (parses what bytes after) told x y z o p (inl (s, spells, d)) (inl (t, also, e)) =
     one_outcome files (after s) (told s spells) x y z o p d (subst (λ u. HasOutcome files (after u) x z p) (one_tree all_rules bytes t s also spells) e)
 one_outcome files (parses what bytes after) told x y z o p (inl (s, spells, d)) (inr (kind, at, none, place, cause, made, same)) = absurd (none (s, spells))
@@ -58,9 +68,5 @@ one_outcome files (may_parse bytes after) told x y z o p (inl (s, spells, d)) (i
 one_outcome files (may_parse bytes after) told x y z o p (inl (s, spells, d)) (inr (none, e)) = absurd (none (s, spells))
 one_outcome files (may_parse bytes after) told x y z o p (inr (none, d)) (inl (t, also, e)) = absurd (none (t, also))
 one_outcome files (may_parse bytes after) told x y z o p (inr (none, d)) (inr (neither, e)) = one_outcome files (after None) (told.1 none) x y z o p d e
-one_outcome files (explains bytes after) told x y z o p (inl (s, spells, d)) (inl (t, also, e)) =
-    one_outcome files (after (Ok s)) (told.0 s spells) x y z o p d (subst (λ u. HasOutcome files (after (Ok u)) x z p) (one_tree all_rules bytes t s also spells) e)
-one_outcome files (explains bytes after) told x y z o p (inl (s, spells, d)) (inr (fault, has, e)) = absurd (has.0 (s, spells))
-one_outcome files (explains bytes after) told x y z o p (inr (fault, has, d)) (inl (t, also, e)) = absurd (has.0 (t, also))
-one_outcome files (explains bytes after) told x y z o p (inr (fault, has, d)) (inr (other, also, e)) =
-    one_outcome files (after (Err fault)) (told.1 fault has) x y z o p d (subst (λ f. HasOutcome files (after (Err f)) x z p) (same_fault bytes other fault also has) e)
+one_outcome files (explains bytes after) told x y z o p (parsed, is, d) (other, also, e) =
+    one_outcome files (after parsed) (told parsed is) x y z o p d (subst (λ r. HasOutcome files (after r) x z p) (one_parsed bytes other parsed also is) e)

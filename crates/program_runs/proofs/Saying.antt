@@ -1,5 +1,5 @@
 -- What a run has come to write: what it has is of each outcome, and what an outcome has it comes to write.
-use Rattle.std.specs.Prelude.{◌≡◌, ℕ, List, [], ◌∷◌, ◌++◌, length, take, Option, Some, None, Ok, Err, ◌⊎◌}
+use Rattle.std.specs.Prelude.{◌≡◌, ℕ, List, [], ◌∷◌, ◌++◌, length, take, Option, Some, None, ◌⊎◌}
 use Rattle.std.proofs.Common.{sym, ap, subst, ◌∙◌, inl, inr, append-nil, append_assoc}
 use Rattle.std.proofs.Math.Seq.{take-append_seam}
 use Rattle.outside_io.specs.Writing.{Gains, GainsPrefix}
@@ -7,7 +7,7 @@ use Rattle.json_tokens.specs.Rules.{all_rules}
 use Rattle.decimal_json.proofs.OneTree.{one_tree}
 use Rattle.program_runs.specs.Outcome.{RunOutcome}
 use Rattle.program_runs.specs.Runs.{Run, ends, says, reads, may_read, parses, may_parse, explains, HasOutcome, HasSaid, AreTold, IsFront}
-use Rattle.program_runs.proofs.RunLaws.{not_both, one_content, same_fault}
+use Rattle.program_runs.proofs.RunLaws.{not_both, one_content, one_read, one_parsed}
 
 -- a text is a front of itself
 pub whole : (text : List ℕ) → IsFront text text
@@ -41,14 +41,9 @@ module _ (files : List ℕ → Option (List ℕ)) where
   said_front (reads longer name limit after) told x y z text o (inr (bytes, is, said)) (inr (others, are, d)) =
       said_front (after bytes) (told.1 bytes is) (x ++ name ∷ []) y z text o said
       (subst (λ b. HasOutcome files (after b) (x ++ name ∷ []) z o) (one_content (files name) others bytes told.0 are.0 is.0) d)
-  said_front (may_read name limit after) told x y z text o (inl (longer, said)) (inl (also, d)) = said_front (after None) told.1 (x ++ name ∷ []) y z text o said d
-  said_front (may_read name limit after) told x y z text o (inl (longer, said)) (inr (bytes, is, d)) =
-      absurd (not_both (files name) limit bytes told.0 longer is.0 is.1)
-  said_front (may_read name limit after) told x y z text o (inr (bytes, is, said)) (inl (longer, d)) =
-      absurd (not_both (files name) limit bytes told.0 longer is.0 is.1)
-  said_front (may_read name limit after) told x y z text o (inr (bytes, is, said)) (inr (others, are, d)) =
-      said_front (after (Some bytes)) (told.2 bytes is) (x ++ name ∷ []) y z text o said
-      (subst (λ b. HasOutcome files (after (Some b)) (x ++ name ∷ []) z o) (one_content (files name) others bytes told.0 are.0 is.0) d)
+  said_front (may_read name limit after) told x y z text o (got, is, said) (other, are, d) =
+      said_front (after got) (told.1 got is) (x ++ name ∷ []) y z text o said
+      (subst (λ g. HasOutcome files (after g) (x ++ name ∷ []) z o) (one_read files name limit other got told.0 are is) d)
   said_front (parses what bytes after) told x y z text o (inl (t, spells, said)) (inl (s, also, d)) =
       said_front (after t) (told t spells) x y z text o said (subst (λ u. HasOutcome files (after u) x z o) (one_tree all_rules bytes s t also spells) d)
   said_front (parses what bytes after) told x y z text o (inl (t, spells, said)) (inr (kind, at, none, place, cause, made, same)) = absurd (none (t, spells))
@@ -59,14 +54,8 @@ module _ (files : List ℕ → Option (List ℕ)) where
   said_front (may_parse bytes after) told x y z text o (inl (t, spells, said)) (inr (none, d)) = absurd (none (t, spells))
   said_front (may_parse bytes after) told x y z text o (inr (none, said)) (inl (s, also, d)) = absurd (none (s, also))
   said_front (may_parse bytes after) told x y z text o (inr (none, said)) (inr (neither, d)) = said_front (after None) (told.1 none) x y z text o said d
-  said_front (explains bytes after) told x y z text o (inl (t, spells, said)) (inl (s, also, d)) =
-      said_front (after (Ok t)) (told.0 t spells) x y z text o said
-      (subst (λ u. HasOutcome files (after (Ok u)) x z o) (one_tree all_rules bytes s t also spells) d)
-  said_front (explains bytes after) told x y z text o (inl (t, spells, said)) (inr (fault, has, d)) = absurd (has.0 (t, spells))
-  said_front (explains bytes after) told x y z text o (inr (fault, has, said)) (inl (s, also, d)) = absurd (has.0 (s, also))
-  said_front (explains bytes after) told x y z text o (inr (fault, has, said)) (inr (other, also, d)) =
-      said_front (after (Err fault)) (told.1 fault has) x y z text o said
-      (subst (λ f. HasOutcome files (after (Err f)) x z o) (same_fault bytes other fault also has) d)
+  said_front (explains bytes after) told x y z text o (parsed, is, said) (other, also, d) =
+      said_front (after parsed) (told parsed is) x y z text o said (subst (λ r. HasOutcome files (after r) x z o) (one_parsed bytes other parsed also is) d)
 
   -- A run with an outcome comes to write its out text.
   pub outcome_said : (run : Run) (before all : List (List ℕ)) (o : RunOutcome) → HasOutcome files run before all o → HasSaid files run before all o.out
@@ -74,14 +63,12 @@ module _ (files : List ℕ → Option (List ℕ)) where
   outcome_said (says first next) x y o (p, d, made) = inr (p.out, outcome_said next x y p d, ap (λ (q : RunOutcome). q.out) made)
   outcome_said (reads longer name limit after) x y o (inl d) = inl (d.0, d.2, front_is longer o o.out (sym d.1) (whole o.out))
   outcome_said (reads longer name limit after) x y o (inr (bytes, is, d)) = inr (bytes, is, outcome_said (after bytes) (x ++ name ∷ []) y o d)
-  outcome_said (may_read name limit after) x y o (inl (longer, d)) = inl (longer, outcome_said (after None) (x ++ name ∷ []) y o d)
-  outcome_said (may_read name limit after) x y o (inr (bytes, is, d)) = inr (bytes, is, outcome_said (after (Some bytes)) (x ++ name ∷ []) y o d)
+  outcome_said (may_read name limit after) x y o (got, is, d) = (got, is, outcome_said (after got) (x ++ name ∷ []) y o d)
   outcome_said (parses what bytes after) x y o (inl (t, spells, d)) = inl (t, spells, outcome_said (after t) x y o d)
   outcome_said (parses what bytes after) x y o (inr (kind, at, none, place, cause, made, same)) = inr (none, same, ap (λ (q : RunOutcome). q.out) made)
   outcome_said (may_parse bytes after) x y o (inl (t, spells, d)) = inl (t, spells, outcome_said (after (Some t)) x y o d)
   outcome_said (may_parse bytes after) x y o (inr (none, d)) = inr (none, outcome_said (after None) x y o d)
-  outcome_said (explains bytes after) x y o (inl (t, spells, d)) = inl (t, spells, outcome_said (after (Ok t)) x y o d)
-  outcome_said (explains bytes after) x y o (inr (fault, has, d)) = inr (fault, has, outcome_said (after (Err fault)) x y o d)
+  outcome_said (explains bytes after) x y o (parsed, is, d) = (parsed, is, outcome_said (after parsed) x y o d)
 
   -- What a sink holds more is a front of the out text of each outcome, where that is what the run has come to write, or nothing.
   pub said_is_prefix : (run : Run) (before now : List (List ℕ)) (text : List ℕ) (a b : Option (List ℕ)) → Gains a b text

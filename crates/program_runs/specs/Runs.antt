@@ -17,13 +17,13 @@ pub data Run : Type 0 where
   says : (text : List ℕ) → (next : Run) → Run
   -- the file of this name is read, of `count` bytes at most: a longer one is refused
   reads : (longer : RunOutcome) → (name : List ℕ) → (limit : ℕ) → (after : List ℕ → Run) → Run
-  -- the file of this name is read, of `count` bytes at most: the run goes on with its bytes, or with none where it is longer
+  -- the file of this name is read, of `count` bytes at most: the run goes on with its bytes, or with none of a longer one
   may_read : (name : List ℕ) → (limit : ℕ) → (after : Option (List ℕ) → Run) → Run
   -- the bytes are a JSON text; a refusal says what it is
   parses : (what bytes : List ℕ) → (after : Tree → Run) → Run
   -- the bytes may be a JSON text: the run goes on with their tree, or with none
   may_parse : (bytes : List ℕ) → (after : Option Tree → Run) → Run
-  -- the same, and where the bytes are no JSON text the run goes on with their fault
+  -- the bytes may be a JSON text: the run goes on with their tree, or with their fault
   explains : (bytes : List ℕ) → (after : Result Tree JsonFault → Run) → Run
 
 -- an outcome, where this text is written before
@@ -34,14 +34,20 @@ after_text text o = record o { out = text ++ o.out }
 abbrev pub IsFront : (front text : List ℕ) → Type 0
 IsFront front text = (rest : List ℕ) × (text ≡ front ++ rest)
 
--- the bytes are no JSON text, and this is their fault
-abbrev pub HasFault : (bytes : List ℕ) → JsonFault → Type 0
-HasFault bytes fault = (IsAccepted all_rules bytes → ⊥) × IsPlace bytes fault.at × IsKind fault.kind bytes fault.at
+-- the bytes spell this tree, or they are no JSON text and have this fault
+abbrev pub IsParsed : (bytes : List ℕ) → Result Tree JsonFault → Type 0
+IsParsed bytes (Ok t) = Spells all_rules bytes t
+IsParsed bytes (Err fault) = (IsAccepted all_rules bytes → ⊥) × IsPlace bytes fault.at × IsKind fault.kind bytes fault.at
 
 module _ (files : List ℕ → Option (List ℕ)) where
   -- what the file of this name may be read as: its bytes, and any bytes where its contents are unknown
   abbrev pub IsFile : (name : List ℕ) (limit : ℕ) → List ℕ → Type 0
   IsFile name limit bytes = IsContent (files name) bytes × (length bytes ≤ limit)
+
+  -- the same, or that it is longer; a file whose contents are unknown may be longer
+  abbrev pub IsFileOrLonger : (name : List ℕ) (limit : ℕ) → Option (List ℕ) → Type 0
+  IsFileOrLonger name limit None = IsLongerIfTold (files name) limit
+  IsFileOrLonger name limit (Some bytes) = IsFile name limit bytes
 
   -- An outcome of the run by the known contents of files, from the names of the files that were read before it to those that were read
   -- after it, in their order. Of a file whose contents are unknown some bytes serve. Bytes that are no JSON text have one fault, which is
@@ -53,8 +59,7 @@ module _ (files : List ℕ → Option (List ℕ)) where
       (IsLongerIfTold (files name) limit × (o ≡ longer) × (all ≡ asked ++ name ∷ []))
       ⊎ ((bytes : List ℕ) × IsFile name limit bytes × HasOutcome (after bytes) (asked ++ name ∷ []) all o)
   HasOutcome (may_read name limit after) asked all o =
-      (IsLongerIfTold (files name) limit × HasOutcome (after None) (asked ++ name ∷ []) all o)
-      ⊎ ((bytes : List ℕ) × IsFile name limit bytes × HasOutcome (after (Some bytes)) (asked ++ name ∷ []) all o)
+      (got : Option (List ℕ)) × IsFileOrLonger name limit got × HasOutcome (after got) (asked ++ name ∷ []) all o
   HasOutcome (parses what bytes after) asked all o =
       ((t : Tree) × Spells all_rules bytes t × HasOutcome (after t) asked all o)
       ⊎ ((kind : JsonKind) × (at : ℕ) × (IsAccepted all_rules bytes → ⊥) × IsPlace bytes at × IsKind kind bytes at
@@ -62,9 +67,7 @@ module _ (files : List ℕ → Option (List ℕ)) where
   HasOutcome (may_parse bytes after) asked all o =
       ((t : Tree) × Spells all_rules bytes t × HasOutcome (after (Some t)) asked all o)
       ⊎ ((IsAccepted all_rules bytes → ⊥) × HasOutcome (after None) asked all o)
-  HasOutcome (explains bytes after) asked all o =
-      ((t : Tree) × Spells all_rules bytes t × HasOutcome (after (Ok t)) asked all o)
-      ⊎ ((fault : JsonFault) × HasFault bytes fault × HasOutcome (after (Err fault)) asked all o)
+  HasOutcome (explains bytes after) asked all o = (parsed : Result Tree JsonFault) × IsParsed bytes parsed × HasOutcome (after parsed) asked all o
 
   -- the run, which may have come to its end or not, has read the files of these names, in their order, after those before
   abbrev pub HasAsked : Run → (before now : List (List ℕ)) → Type 0
@@ -74,18 +77,14 @@ module _ (files : List ℕ → Option (List ℕ)) where
       (now ≡ asked) ⊎ ((now ≡ asked ++ name ∷ []) ⊎ ((bytes : List ℕ) × IsFile name limit bytes × HasAsked (after bytes) (asked ++ name ∷ []) now))
   HasAsked (may_read name limit after) asked now =
       (now ≡ asked)
-      ⊎ ((now ≡ asked ++ name ∷ [])
-      ⊎ ((IsLongerIfTold (files name) limit × HasAsked (after None) (asked ++ name ∷ []) now)
-      ⊎ ((bytes : List ℕ) × IsFile name limit bytes × HasAsked (after (Some bytes)) (asked ++ name ∷ []) now)))
+      ⊎ ((now ≡ asked ++ name ∷ []) ⊎ ((got : Option (List ℕ)) × IsFileOrLonger name limit got × HasAsked (after got) (asked ++ name ∷ []) now))
   HasAsked (parses what bytes after) asked now = (now ≡ asked) ⊎ ((t : Tree) × Spells all_rules bytes t × HasAsked (after t) asked now)
   HasAsked (may_parse bytes after) asked now =
       (now ≡ asked)
       ⊎ (((t : Tree) × Spells all_rules bytes t × HasAsked (after (Some t)) asked now)
       ⊎ ((IsAccepted all_rules bytes → ⊥) × HasAsked (after None) asked now))
   HasAsked (explains bytes after) asked now =
-      (now ≡ asked)
-      ⊎ (((t : Tree) × Spells all_rules bytes t × HasAsked (after (Ok t)) asked now)
-      ⊎ ((fault : JsonFault) × HasFault bytes fault × HasAsked (after (Err fault)) asked now))
+      (now ≡ asked) ⊎ ((parsed : Result Tree JsonFault) × IsParsed bytes parsed × HasAsked (after parsed) asked now)
 
   -- The run has come to write this text on standard output, or one that begins with it, once it has read the files of these names, in
   -- their order, after those before. Of bytes that are no JSON text nothing is written there.
@@ -97,17 +96,14 @@ module _ (files : List ℕ → Option (List ℕ)) where
       (IsLongerIfTold (files name) limit × (now ≡ asked ++ name ∷ []) × IsFront text longer.out)
       ⊎ ((bytes : List ℕ) × IsFile name limit bytes × HasSaid (after bytes) (asked ++ name ∷ []) now text)
   HasSaid (may_read name limit after) asked now text =
-      (IsLongerIfTold (files name) limit × HasSaid (after None) (asked ++ name ∷ []) now text)
-      ⊎ ((bytes : List ℕ) × IsFile name limit bytes × HasSaid (after (Some bytes)) (asked ++ name ∷ []) now text)
+      (got : Option (List ℕ)) × IsFileOrLonger name limit got × HasSaid (after got) (asked ++ name ∷ []) now text
   HasSaid (parses what bytes after) asked now text =
       ((t : Tree) × Spells all_rules bytes t × HasSaid (after t) asked now text)
       ⊎ ((IsAccepted all_rules bytes → ⊥) × (now ≡ asked) × (text ≡ []))
   HasSaid (may_parse bytes after) asked now text =
       ((t : Tree) × Spells all_rules bytes t × HasSaid (after (Some t)) asked now text)
       ⊎ ((IsAccepted all_rules bytes → ⊥) × HasSaid (after None) asked now text)
-  HasSaid (explains bytes after) asked now text =
-      ((t : Tree) × Spells all_rules bytes t × HasSaid (after (Ok t)) asked now text)
-      ⊎ ((fault : JsonFault) × HasFault bytes fault × HasSaid (after (Err fault)) asked now text)
+  HasSaid (explains bytes after) asked now text = (parsed : Result Tree JsonFault) × IsParsed bytes parsed × HasSaid (after parsed) asked now text
 
   -- the contents of every file that the run comes to read are known
   abbrev pub AreTold : Run → Type 0
@@ -115,12 +111,11 @@ module _ (files : List ℕ → Option (List ℕ)) where
   AreTold (says text next) = AreTold next
   AreTold (reads longer name limit after) = (is_some (files name) ≡ true) × ((bytes : List ℕ) → IsFile name limit bytes → AreTold (after bytes))
   AreTold (may_read name limit after) =
-      (is_some (files name) ≡ true) × AreTold (after None) × ((bytes : List ℕ) → IsFile name limit bytes → AreTold (after (Some bytes)))
+      (is_some (files name) ≡ true) × ((got : Option (List ℕ)) → IsFileOrLonger name limit got → AreTold (after got))
   AreTold (parses what bytes after) = (t : Tree) → Spells all_rules bytes t → AreTold (after t)
   AreTold (may_parse bytes after) =
       ((t : Tree) → Spells all_rules bytes t → AreTold (after (Some t))) × ((IsAccepted all_rules bytes → ⊥) → AreTold (after None))
-  AreTold (explains bytes after) =
-      ((t : Tree) → Spells all_rules bytes t → AreTold (after (Ok t))) × ((fault : JsonFault) → HasFault bytes fault → AreTold (after (Err fault)))
+  AreTold (explains bytes after) = (parsed : Result Tree JsonFault) → IsParsed bytes parsed → AreTold (after parsed)
 
 -- the run reads no file
 abbrev pub IsFileless : Run → Type 0

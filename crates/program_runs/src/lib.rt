@@ -7,7 +7,8 @@
 //! ```
 //!
 //! What is promised: a run is one value of `Run` in `specs/Runs.antt`: it ends with an outcome, or writes a text
-//! and goes on, or reads a file and goes on, or parses bytes and goes on. What an outcome of it is, which files it
+//! and goes on, or reads a file and goes on, or parses bytes and goes on. A file that is too long and bytes that
+//! are no JSON text end it, or are what it goes on with. What an outcome of it is, which files it
 //! has read by then, what it has come to write, and what has to be known of files for it to be certain are said
 //! once, by recursion on that value, and no run has two outcomes (`each_run_has_one_outcome`). What a run has come
 //! to write begins the text of its outcome, so a caller may write each text once the run comes to it (`HasWritten`
