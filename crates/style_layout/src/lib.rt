@@ -41,7 +41,7 @@ pub use globals::{global_default, globals_of};
 pub use layers::{SortProperty, StyleLayer, prepare_layer};
 pub use listing::write_listing;
 pub use prepared::{PreparedStyle, prepare};
-pub use properties::Property;
+pub use properties::{Property, VISIBILITY, set_value};
 pub use scene::{Evaluator, Scene, SourceTile, TreeWalk};
 pub use values::zoom_at;
 pub use zoom::Zoom;

@@ -16,7 +16,7 @@ use property_tables::{LayerType, Place, Row, default_value, row_count, row_numbe
 use std::alloc::{AllocError, Global};
 
 /// The property that says whether a layer is shown.
-pub(crate) const VISIBILITY: &str = "visibility";
+pub const VISIBILITY: &str = "visibility";
 
 /// A property that is set.
 #[derive(Drop)]
@@ -95,7 +95,7 @@ fn push_if_set(
 }
 
 /// The value of a name in `layout` or `paint` of a layer.
-pub(crate) fn set_value<'a>(layer: &'a Members, place: Place, name: &str) -> Option<&'a Json>
+pub fn set_value<'a>(layer: &'a Members, place: Place, name: &str) -> Option<&'a Json>
     ensures { tree_at result ≡ set_value (object (fields_of layer.now)) place name.now }
 {
     let placed = match place {

@@ -10,5 +10,5 @@ pub returns-clause-row : goal.returns-clause-row
 returns-clause-row c other =
     let es = c.table_of.result.0.now in
     let within : c.from.result < length es =
-        omega (arith, rows_counted es, ap length c.table_of.ensures.rows, c.requires, c.from.ensures) in
+    omega (arith, rows_counted es, ap length c.table_of.ensures.rows, c.requires, c.from.ensures) in
     c.row_at.ensures ∙ sym (row_found es _ c.from.result c.args.number _ other within c.from.ensures c.table_of.ensures.rows)
