@@ -1,5 +1,5 @@
 -- What a node may become, and which of these it becomes. Source: own.
-use Rattle.std.specs.Prelude.{codes, Bool, true, false, not, ◌&&◌, Option, Some, None, if◌then◌else◌}
+use Rattle.std.specs.Prelude.{codes, Bool, false, not, ◌&&◌, Option, Some, None, if◌then◌else◌}
 use Rattle.decimal_json.specs.Tree.{Tree, list}
 use Rattle.prop_values.specs.declared.kinds.Kind.{Kind}
 use Rattle.prop_values.specs.declared.kinds.Want.{Want}
@@ -17,9 +17,9 @@ pub record NodeChoices : Type 0 where
 abbrev pub choices_of : Want → SimpleElement → Option SimpleElement → NodeChoices
 choices_of want node shorter = record { node = node; literal = folded want node; shorter = shorter }
 
+-- What has a type fault has no kind, and none is the same as that.
 abbrev pub same_found : Option Kind → Option Kind → Bool
 same_found (Some k) (Some j) = same_kind k j
-same_found None None = true
 same_found _ _ = false
 
 abbrev pub is_image : Tree → Bool

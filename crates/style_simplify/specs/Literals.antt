@@ -1,7 +1,8 @@
 -- Literals among simplified elements: what is written, its value, and its kind where it is. Source: own.
-use Rattle.std.specs.Prelude.{ℕ, List, [], Bool, false, codes, Option, Some, None, Result, Ok, Err, if◌then◌else◌}
+use Rattle.std.specs.Prelude.{ℕ, nat_le, ℤ, unsigned_abs, List, [], Bool, false, codes, Option, Some, None, Result, Ok, Err, if◌then◌else◌}
 use Rattle.std.specs.Str.{bytes_eq}
 use Rattle.decimal_json.specs.Tree.{Tree, null, boolean, number, text, list, object, Trees, tree}
+use Rattle.fixed_num.specs.Number.{bound}
 use Rattle.fixed_num.specs.NumberText.{number_text}
 use Rattle.fixed_num.specs.declared.decimal.NumFault.{NumFault}
 use Rattle.prop_values.specs.Data as values
@@ -43,11 +44,15 @@ kind_of_value want None = None
 abbrev pub literal_element : Want → Tree → SimpleElement
 literal_element want t = record { tree = t; is_part = false; kind = kind_of_value want (literal_value t); asks = []; reads = false }
 
+-- a number as a literal; one past the bound is read by none
+abbrev pub number_literal : ℤ → Option Tree
+number_literal z = if nat_le (unsigned_abs z) bound then Some (number (number_text z)) else None
+
 -- how a value is written as a bare literal, where it can be
 abbrev pub bare_literal : Data → Option Tree
 bare_literal values.null = Some null
 bare_literal (values.boolean b) = Some (boolean b)
-bare_literal (values.number z) = Some (number (number_text z))
+bare_literal (values.number z) = number_literal z
 bare_literal (values.text s) = Some (text s)
 bare_literal (values.color c) = None
 bare_literal (values.list ds) = None

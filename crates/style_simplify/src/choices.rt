@@ -54,7 +54,6 @@ fn same_found(one: Option<Kind>, other: Option<Kind>) -> bool
 {
     match (one, other) {
         (Some(one), Some(other)) => same_kind(one, other),
-        (None, None) => true,
         _ => false,
     }
 }

@@ -1,12 +1,11 @@
 //! Literals among simplified elements.
 
 ghost use Rattle.std.specs.Prelude.{◌≡◌, Some, IfOk, option_map};
-ghost use Rattle.decimal_json.specs.Tree.{list, number as number_tree};
+ghost use Rattle.decimal_json.specs.Tree.{list};
 ghost use Rattle.decimal_json.specs.View.{tree_of, trees};
-ghost use Rattle.fixed_num.specs.NumberText.{number_text};
 ghost use Rattle.prop_values.specs.View.{data_of};
 ghost use Rattle.expr_syntax.specs.Elements.{second};
-ghost use Rattle.style_simplify.specs.Literals.{begins_with, is_literal_node, value_at, literal_value, kind_of_value, literal_element, bare_literal};
+ghost use Rattle.style_simplify.specs.Literals.{begins_with, is_literal_node, value_at, literal_value, kind_of_value, literal_element, number_literal, bare_literal};
 ghost use Rattle.style_simplify.specs.Simple.{literal_at};
 ghost use Rattle.style_simplify.specs.View.{element_seen};
 
@@ -141,7 +140,7 @@ pub(crate) fn bare_literal(alloc: Global, value: Value) -> Result<Option<Json>, 
 }
 
 fn number_json(alloc: Global, number: Fixed) -> Result<Json, AllocError>
-    ensures { IfOk result (λ made. tree_of made ≡ number_tree (number_text number)) }
+    ensures { IfOk result (λ made. Some (tree_of made) ≡ number_literal number) }
 {
     written_numbers_are_read();
     json_numbers_are_read();
