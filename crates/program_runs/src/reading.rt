@@ -55,13 +55,14 @@ pub fn may_read_file<'a, F: Files>(
     ensures halt { IfErr result (λ halt. Halts (F.told files.old) (may_read name.now at_most)
         (F.faults files.old) (F.faults files.new) (F.failed files.old) (F.failed files.new) (F.asked files.old) (F.asked files.new) halt) }
 {
-    let mut bytes = Vec::new(alloc);
-    match files.read(alloc, name, at_most, &mut bytes) {
-        ReadAnswer::Done => Ok(Some(bytes)),
-        ReadAnswer::TooLong => Ok(None),
-        ReadAnswer::Failed => Err(RunHalt::Stopped(RunStop::Unread(name))),
-        ReadAnswer::NoMemory => Err(RunHalt::Stopped(RunStop::NoMemory)),
-    }
+    let mut read = Vec::new(alloc);
+    let stop = match files.read(alloc, name, at_most, &mut read) {
+        ReadAnswer::Done => return Ok(Some(read)),
+        ReadAnswer::TooLong => return Ok(None),
+        ReadAnswer::Failed => RunStop::Unread(name),
+        ReadAnswer::NoMemory => RunStop::NoMemory,
+    };
+    Err(RunHalt::Stopped(stop))
 }
 
 /// The JSON text that these bytes are.
