@@ -80,20 +80,9 @@ is_regular row =
     ((not row.reads.ramps || is_ramp_want row.want) && (not row.takes_tokens || row.reads.feature))
     && (is_property_want row.want && (is_within_bound row.fallback && (not row.takes_tokens || is_text_want row.want)))
 
-raster_regular : list_all is_regular raster_rows ≡ true
-unfolding raster_rows
-raster_regular = refl
-
-hillshade_regular : list_all is_regular hillshade_rows ≡ true
-unfolding hillshade_rows
-hillshade_regular = refl
-
-color_relief_regular : list_all is_regular color_relief_rows ≡ true
-unfolding color_relief_rows
-color_relief_regular = refl
-
 all_regular : (t : LayerType) → list_all is_regular (rows_of t) ≡ true
 unfolding background_rows fill_rows line_rows symbol_rows circle_rows heatmap_rows fill_extrusion_rows
+    raster_rows hillshade_rows color_relief_rows
 all_regular types.Background = refl
 all_regular types.Fill = refl
 all_regular types.Line = refl
@@ -101,9 +90,9 @@ all_regular types.Symbol = refl
 all_regular types.Circle = refl
 all_regular types.Heatmap = refl
 all_regular types.FillExtrusion = refl
-all_regular types.Raster = raster_regular
-all_regular types.Hillshade = hillshade_regular
-all_regular types.ColorRelief = color_relief_regular
+all_regular types.Raster = refl
+all_regular types.Hillshade = refl
+all_regular types.ColorRelief = refl
 
 implied : (a b : Bool) → (not a || b) ≡ true → a ≡ true → b ≡ true
 implied true b h k = h
