@@ -1,0 +1,4 @@
+pub mod LineLaws
+pub mod Ends
+pub mod PlaceLaws
+pub mod OneLint
