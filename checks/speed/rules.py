@@ -1,7 +1,8 @@
-"""Measures `validate` on large and hostile styles: of twenty runs the least time of the whole process and the least of the processor, the
-most memory, and what was answered. Memory below that of this script itself, some 40 MB, is not seen.
+"""Measures `validate`, or `lint`, on large and hostile styles: of twenty runs the least time of the whole process and the least of the
+processor, the most memory, and what was answered. Memory below that of this script itself, some 40 MB, is not seen. The first style is
+also handed to `lint` twenty times in one run.
 
-    python3 checks/speed/rules.py [PROGRAM]
+    python3 checks/speed/rules.py [--lint] [PROGRAM]
 
 PROGRAM is the program as LLVM built it.
 """
@@ -107,17 +108,18 @@ def cases():
 
 def given_program():
     """The program that the words name, or else the repository's own, which is built first."""
-    if len(sys.argv) > 1:
-        return pathlib.Path(sys.argv[1]).resolve()
+    words = [word for word in sys.argv[1:] if word != "--lint"]
+    if words:
+        return pathlib.Path(words[0]).resolve()
     subprocess.run([TOP / "pirgesh", "--version"], check=True, stdout=subprocess.DEVNULL)
     return TOP / "crates" / "pirgesh" / "out" / "pirgesh"
 
 
-def measured(program, path, out, command="validate"):
+def measured(program, path, out, command="validate", times=1):
     """The status, both times in milliseconds and the memory in MB of one run."""
     started = time.monotonic()
     with open(out, "wb") as file:
-        child = subprocess.Popen([program, command, path], stdout=file)
+        child = subprocess.Popen([program, command, *[path] * times], stdout=file)
         status, usage = listings.ended(child)
     took = time.monotonic() - started
     return status, took * 1000, (usage.ru_utime + usage.ru_stime) * 1000, usage.ru_maxrss // 1024
@@ -125,14 +127,19 @@ def measured(program, path, out, command="validate"):
 
 def main():
     program = given_program()
+    lint = "--lint" in sys.argv[1:]
+    command = "lint" if lint else "validate"
     with tempfile.TemporaryDirectory() as name:
         path, out = os.path.join(name, "style"), os.path.join(name, "out")
-        for what, text in cases():
+        measurements = [(what, text, 1) for what, text in cases()]
+        if lint:
+            measurements.insert(0, ("twenty styles of the next one's layers", measurements[0][1], 20))
+        for what, text, times in measurements:
             if len(text) > LIMIT:
                 sys.exit(f"rules: {what}: {len(text)} bytes are too many")
             with open(path, "w", encoding="utf-8") as file:
                 file.write(text)
-            runs = [measured(program, path, out) for _ in range(RUNS)]
+            runs = [measured(program, path, out, command, times) for _ in range(RUNS)]
             took, busy, memory = min(run[1] for run in runs), min(run[2] for run in runs), max(run[3] for run in runs)
             with open(out, encoding="utf-8") as file:
                 lines = file.read().splitlines()

@@ -57,6 +57,7 @@ module _ (law : EveryFaultIsListed) (files : List ℕ → Option (List ℕ)) (im
   found_asked (words.Value expression) before after o (inl (t, spelled, is)) ends = found_reading law images scripts expression t spelled (reading t) refl (sym (ap (λ p. status_of p.ending) is.0) ∙ ends)
   found_asked (words.Value expression) before after o (inr (kind, at, none, place, cause, is, same)) ends = absurd (let refused = ap (λ p. status_of p.ending) is in cc)
   found_asked (words.Validate style) before after o defined ends = tt
+  found_asked (words.Lint form styles) before after o defined ends = tt
   found_asked (words.Migrate style) before after o defined ends = tt
   found_asked (words.Simplify style) before after o defined ends = tt
   found_asked (words.Eval w) before after o defined ends = tt

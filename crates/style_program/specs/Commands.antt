@@ -1,5 +1,6 @@
 -- The run of each command, and of the words after the program's name.
 use Rattle.std.specs.Prelude.{ℕ, List, [], ◌++◌, codes, Bool}
+use Rattle.lint_runs.specs.LintRun.{lint_run}
 use Rattle.program_runs.specs.declared.status.Ending.TheVariants.{Fine, Usage}
 use Rattle.program_runs.specs.Outcome.{line, said, told}
 use Rattle.program_runs.specs.Runs.{Run, ends}
@@ -20,6 +21,7 @@ help_text =
     line [] ++
     line (codes "usage: pirgesh value EXPR") ++
     line (codes "       pirgesh validate STYLE") ++
+    line (codes "       pirgesh lint [--github] STYLE ..") ++
     line (codes "       pirgesh migrate STYLE") ++
     line (codes "       pirgesh simplify STYLE") ++
     line (codes "       pirgesh eval STYLE ZOOM [SOURCE=TILE ..]") ++
@@ -32,6 +34,7 @@ help_text =
     line [] ++
     line (codes "  value     the value of an expression as JSON, or error and the fault's name") ++
     line (codes "  validate  the rules that a style breaks and invalid, or what may fail and valid") ++
+    line (codes "  lint      what validate reports of 1 to 64 styles, with file, line and column; --github writes annotations") ++
     line (codes "  migrate   a style with its legacy forms as expressions, or the rules that it breaks and invalid") ++
     line (codes "  simplify  a style with the same meaning and less in it, and the filters that no feature passes") ++
     line (codes "  eval      what a style shows at a zoom over tiles of its sources") ++
@@ -51,7 +54,7 @@ help_text =
     line [] ++
     line (codes "Exit status, and the line on standard error:") ++
     line (codes "  0  everything was written") ++
-    line (codes "  1  value gave a fault, the style is invalid, or a line of the script was refused") ++
+    line (codes "  1  value gave a fault, the style is invalid, lint found an error, or a line of the script was refused") ++
     line (codes "  2  usage: unknown command or wrong arguments") ++
     line (codes "  3  refused ..: the expression, style, tile or script is not accepted, and why") ++
     line (codes "  4  read NAME: this file could not be read") ++
@@ -70,6 +73,7 @@ module _ (images scripts : List ℕ → Bool) (can_change : Bool) where
   abbrev pub asked_run : words.Asked → Run
   asked_run (words.Value expression) = value_run images scripts expression
   asked_run (words.Validate style) = validate_run style
+  asked_run (words.Lint form styles) = lint_run form styles
   asked_run (words.Migrate style) = migrate_run style
   asked_run (words.Simplify style) = simplify_run style
   asked_run (words.Eval w) = eval_run w images scripts

@@ -4,6 +4,8 @@ use Rattle.std.specs.List.{before_first, after_first, list_all}
 use Rattle.std.specs.Str.{bytes_eq}
 use Rattle.fixed_num.specs.Decimal.{read_text}
 use Rattle.fixed_num.specs.declared.decimal.NumFault.{NumFault}
+use Rattle.lint_texts.specs.declared.form.LintForm.{LintForm}
+use Rattle.lint_texts.specs.declared.form.LintForm.TheVariants.{Plain, Annotations}
 use Rattle.style_program.specs.declared.words.ScriptKind.{ScriptKind}
 use Rattle.style_program.specs.declared.words.ScriptKind.TheVariants.{Replay, Desk}
 
@@ -28,6 +30,8 @@ pub data Asked : Type 0 where
   Value : (expression : List ℕ) → Asked
   -- what a style breaks: the name of its file
   Validate : (style : List ℕ) → Asked
+  -- what each of several styles breaks: the names of their files
+  Lint : LintForm → (styles : List (List ℕ)) → Asked
   -- a style in expressions
   Migrate : (style : List ℕ) → Asked
   -- a style with the same meaning and less in it
@@ -159,8 +163,29 @@ asked_of_one command word =
     if bytes_eq command (codes "generate") then asked_generate (features_named word) else
     Wrong
 
+-- ---- `lint` has styles, at most 64, and before them perhaps the word that asks for annotations
+
+abbrev pub most_styles : ℕ
+most_styles = 64
+
+abbrev pub asked_styles : LintForm → List (List ℕ) → Asked
+asked_styles form [] = Wrong
+asked_styles form (style ∷ styles) = if nat_le (length (style ∷ styles)) most_styles then Lint form (style ∷ styles) else Wrong
+
+abbrev pub asked_lint : List (List ℕ) → Asked
+asked_lint [] = Wrong
+asked_lint (word ∷ words) = if bytes_eq word (codes "--github") then asked_styles Annotations words else asked_styles Plain (word ∷ words)
+
+-- every other command has as many words as are said above
+abbrev pub asked_with : (command : List ℕ) → List (List ℕ) → Asked
+asked_with command [] = Wrong
+asked_with command (word ∷ []) = asked_of_one command word
+asked_with command (style ∷ word ∷ words) = asked_of_more command style word words
+
+abbrev pub asked_command : (command : List ℕ) → List (List ℕ) → Asked
+asked_command command words = if bytes_eq command (codes "lint") then asked_lint words else asked_with command words
+
 abbrev pub asked : List (List ℕ) → Asked
+asked [] = Wrong
 asked (word ∷ []) = asked_alone word
-asked (command ∷ word ∷ []) = asked_of_one command word
-asked (command ∷ style ∷ word ∷ words) = asked_of_more command style word words
-asked _ = Wrong
+asked (command ∷ word ∷ words) = asked_command command (word ∷ words)

@@ -1,5 +1,5 @@
 -- A request of the program without the place of its texts in memory.
-use Rattle.std.specs.Prelude.{map}
+use Rattle.std.specs.Prelude.{map, string_bytes}
 use Rattle.style_program.specs.declared.words.AnswerRequest.{AnswerRequest}
 use Rattle.style_program.specs.declared.words.AnswerRequest.TheVariants as code
 use Rattle.style_program.specs.declared.words.EvalRequest.{EvalRequest}
@@ -8,7 +8,7 @@ use Rattle.style_program.specs.declared.words.Request.{Request}
 use Rattle.style_program.specs.declared.words.Request.TheVariants as request
 use Rattle.style_program.specs.declared.words.TileWord.{TileWord}
 use Rattle.style_program.specs.Words as words
-use Rattle.style_program.specs.Words.{EvalWords, ScriptWords, Asked, Value, Validate, Migrate, Simplify, Eval, Script, Tile, Generate, Help, Version, Wrong}
+use Rattle.style_program.specs.Words.{EvalWords, ScriptWords, Asked, Value, Validate, Lint, Migrate, Simplify, Eval, Script, Tile, Generate, Help, Version, Wrong}
 
 abbrev pub tile_word : TileWord → words.TileWord
 tile_word t = (t.source.now, t.tile.now)
@@ -22,6 +22,7 @@ script_words r = record { script = r.script.now; shown = eval_words r.shown }
 abbrev pub answer_asked : AnswerRequest → Asked
 answer_asked (code.Value expression) = Value expression.now
 answer_asked (code.Validate style) = Validate style.now
+answer_asked (code.Lint form styles) = Lint form (map string_bytes styles.now)
 answer_asked (code.Migrate style) = Migrate style.now
 answer_asked (code.Simplify style) = Simplify style.now
 answer_asked (code.Eval r) = Eval (eval_words r)

@@ -17,6 +17,7 @@ use crate::validate_command::answer_validate;
 use crate::value_command::answer_value;
 use crate::words::{AnswerRequest, Request, ScriptRequest};
 use host_ops::HostOp;
+use lint_runs::answer_lint;
 use outside_io::Files;
 use program_runs::{RunHalt, RunOutput, RunStop, answer_said, answer_usage};
 use std::alloc::Global;
@@ -26,6 +27,7 @@ const HELP: &[u8] =
 
 usage: pirgesh value EXPR
        pirgesh validate STYLE
+       pirgesh lint [--github] STYLE ..
        pirgesh migrate STYLE
        pirgesh simplify STYLE
        pirgesh eval STYLE ZOOM [SOURCE=TILE ..]
@@ -38,6 +40,7 @@ usage: pirgesh value EXPR
 
   value     the value of an expression as JSON, or error and the fault's name
   validate  the rules that a style breaks and invalid, or what may fail and valid
+  lint      what validate reports of 1 to 64 styles, with file, line and column; --github writes annotations
   migrate   a style with its legacy forms as expressions, or the rules that it breaks and invalid
   simplify  a style with the same meaning and less in it, and the filters that no feature passes
   eval      what a style shows at a zoom over tiles of its sources
@@ -57,7 +60,7 @@ EXPR is one word, so quote it:
 
 Exit status, and the line on standard error:
   0  everything was written
-  1  value gave a fault, the style is invalid, or a line of the script was refused
+  1  value gave a fault, the style is invalid, lint found an error, or a line of the script was refused
   2  usage: unknown command or wrong arguments
   3  refused ..: the expression, style, tile or script is not accepted, and why
   4  read NAME: this file could not be read
@@ -146,6 +149,7 @@ fn answer_to<'a, F: Files>(
     match request {
         AnswerRequest::Value(expression) => answer_value(alloc, expression, images, scripts),
         AnswerRequest::Validate(style) => answer_validate(alloc, style, files),
+        AnswerRequest::Lint(form, styles) => answer_lint(alloc, *form, styles, files),
         AnswerRequest::Migrate(style) => answer_migrate(alloc, style, files),
         AnswerRequest::Simplify(style) => answer_simplify(alloc, style, files),
         AnswerRequest::Eval(request) => answer_eval(alloc, request, files, images, scripts),

@@ -1,10 +1,11 @@
 ghost use Rattle.std.specs.Prelude.{◌≡◌, ◌≤◌, length, map, string_bytes, option_map, Ok, IfOk, nat_eq, if◌then◌else◌};
 ghost use Rattle.fixed_num.specs.Decimal.{read_text};
-ghost use Rattle.style_program.specs.Words.{asked, asked_alone, asked_of_one, asked_of_more, asked_with_script, features_named, shown_words, source_and_tile, tiles_named, are_allowed, count_of};
+ghost use Rattle.style_program.specs.Words.{asked, asked_alone, asked_command, asked_lint, asked_of_one, asked_of_more, asked_styles, asked_with, asked_with_script, features_named, shown_words, source_and_tile, tiles_named, are_allowed, count_of};
 ghost use Rattle.style_program.specs.WordsView.{answer_asked, asked_by, eval_words, tile_word};
 
 use crate::value_command::zero;
 use fixed_num::{Fixed, read_decimal};
+use lint_runs::LintForm;
 use std::alloc::{AllocError, Global};
 
 /// A word `SOURCE=TILE`: a source, and the name of the file of a tile of it.
@@ -55,6 +56,8 @@ pub enum AnswerRequest<'a> {
     Value(&'a str),
     /// What a style breaks.
     Validate(&'a str),
+    /// What each of these styles breaks, in lines of a form.
+    Lint(LintForm, &'a [String]),
     /// A style in expressions.
     Migrate(&'a str),
     /// A style with the same meaning and less in it.
@@ -76,18 +79,64 @@ pub fn request_of(alloc: Global, words: &[String]) -> Result<Request<'_>, AllocE
     ensures { IfOk result (λ request. asked_by request ≡ asked (map string_bytes words.now)) }
 {
     match words {
+        [] => Ok(Request::Answer(AnswerRequest::Wrong)),
         [word] => Ok(Request::Answer(request_alone(word.as_str()))),
-        [command, word] => Ok(Request::Answer(request_of_one(command.as_str(), word.as_str()))),
-        [command, style, word, words @ ..] => {
-            request_of_more(
-                alloc,
-                command.as_str(),
-                style.as_str(),
-                word.as_str(),
-                words,
-            )
+        [command, words @ ..] => request_of_command(alloc, command.as_str(), words),
+    }
+}
+
+fn request_of_command<'a>(
+    alloc: Global,
+    command: &str,
+    words: &'a [String],
+) -> Result<Request<'a>, AllocError>
+    ensures { IfOk result (λ request. asked_by request ≡ asked_command command.now (map string_bytes words.now)) }
+{
+    if command == "lint" {
+        return Ok(Request::Answer(request_lint(words)));
+    }
+    request_with(alloc, command, words)
+}
+
+fn request_lint<'a>(words: &'a [String]) -> AnswerRequest<'a>
+    ensures { answer_asked result ≡ asked_lint (map string_bytes words.now) }
+{
+    match words {
+        [] => AnswerRequest::Wrong,
+        [word, styles @ ..] => {
+            if word.as_str() == "--github" {
+                request_styles(LintForm::Annotations, styles)
+            } else {
+                request_styles(LintForm::Plain, words)
+            }
         }
-        _ => Ok(Request::Answer(AnswerRequest::Wrong)),
+    }
+}
+
+const MOST_STYLES: usize = 64;
+
+fn request_styles<'a>(form: LintForm, styles: &'a [String]) -> AnswerRequest<'a>
+    ensures { answer_asked result ≡ asked_styles form (map string_bytes styles.now) }
+{
+    if styles.is_empty() || styles.len() > MOST_STYLES {
+        return AnswerRequest::Wrong;
+    }
+    AnswerRequest::Lint(form, styles)
+}
+
+fn request_with<'a>(
+    alloc: Global,
+    command: &str,
+    words: &'a [String],
+) -> Result<Request<'a>, AllocError>
+    ensures { IfOk result (λ request. asked_by request ≡ asked_with command.now (map string_bytes words.now)) }
+{
+    match words {
+        [] => Ok(Request::Answer(AnswerRequest::Wrong)),
+        [word] => Ok(Request::Answer(request_of_one(command, word.as_str()))),
+        [style, word, words @ ..] => {
+            request_of_more(alloc, command, style.as_str(), word.as_str(), words)
+        }
     }
 }
 

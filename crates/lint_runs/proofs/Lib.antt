@@ -1,0 +1,3 @@
+pub mod LineCounts
+pub mod FileLines
+pub mod Turns

@@ -1,0 +1,54 @@
+-- The run of `lint`: the lines of each style in the order of the words, then how many of them are errors and warnings. Source: own.
+use Rattle.std.specs.Prelude.{ℕ, ◌+◌, List, [], ◌∷◌, ◌++◌, length, codes, decimal, nat_eq, Option, Some, None, Result, Ok, Err, if◌then◌else◌}
+use Rattle.decimal_json.specs.Tree.{Tree}
+use Rattle.decimal_json.specs.declared.fault.JsonFault.{JsonFault}
+use Rattle.lint_texts.specs.BrokenText.{style_limit}
+use Rattle.lint_texts.specs.LintedStyle.{LintedStyle, linted_broken_text, linted_document, linted_long_file}
+use Rattle.lint_texts.specs.declared.form.LintForm.{LintForm}
+use Rattle.program_runs.specs.declared.status.Ending.{Ending}
+use Rattle.program_runs.specs.declared.status.Ending.TheVariants.{Fine, Found}
+use Rattle.program_runs.specs.Outcome.{RunOutcome, line, said}
+use Rattle.program_runs.specs.Runs.{Run, ends, explains, may_read}
+
+-- ---- one style: the run goes on with what is written of it
+
+-- a file of these bytes, by what they were parsed as
+abbrev pub linted_parsed : LintForm → (file bytes : List ℕ) → Result Tree JsonFault → LintedStyle
+linted_parsed form file bytes (Ok t) = linted_document form file bytes t
+linted_parsed form file bytes (Err fault) = linted_broken_text form file bytes fault.kind fault.at
+
+-- a file by its bytes, or of which there are too many
+abbrev pub bytes_part : LintForm → (file : List ℕ) → Option (List ℕ) → (LintedStyle → Run) → Run
+bytes_part form file None after = after (linted_long_file form file)
+bytes_part form file (Some bytes) after = explains bytes (λ parsed. after (linted_parsed form file bytes parsed))
+
+abbrev pub lint_part : LintForm → (file : List ℕ) → (LintedStyle → Run) → Run
+lint_part form file after = may_read file style_limit (λ bytes. bytes_part form file bytes after)
+
+-- ---- all styles, in the order of the words
+
+abbrev pub none_linted : LintedStyle
+none_linted = record { text = []; errors = 0; warnings = 0 }
+
+-- a style after others
+abbrev pub and_linted : LintedStyle → LintedStyle → LintedStyle
+and_linted all one = record { text = all.text ++ one.text; errors = all.errors + one.errors; warnings = all.warnings + one.warnings }
+
+abbrev pub lint_parts : LintForm → (all : LintedStyle) → (files : List (List ℕ)) → (LintedStyle → Run) → Run
+lint_parts form all [] after = after all
+lint_parts form all (file ∷ files) after = lint_part form file (λ one. lint_parts form (and_linted all one) files after)
+
+-- ---- the end
+
+abbrev pub counts_line : (errors warnings styles : ℕ) → List ℕ
+counts_line errors warnings styles =
+    line (decimal errors ++ (codes " errors, " ++ (decimal warnings ++ (codes " warnings in " ++ (decimal styles ++ codes " styles")))))
+
+abbrev pub lint_ending : (errors : ℕ) → Ending
+lint_ending errors = if nat_eq errors 0 then Fine else Found
+
+abbrev pub lint_outcome : (styles : ℕ) → LintedStyle → RunOutcome
+lint_outcome styles all = said (all.text ++ counts_line all.errors all.warnings styles) (lint_ending all.errors)
+
+abbrev pub lint_run : LintForm → (files : List (List ℕ)) → Run
+lint_run form files = lint_parts form none_linted files (λ all. ends (lint_outcome (length files) all))
