@@ -1,4 +1,4 @@
--- Counts of lines.
+-- What is written of a file, and the counts of its lines.
 use Rattle.std.specs.Prelude.{◌≡◌, ℕ, ◌≤◌, List, length, Result}
 use Rattle.decimal_json.specs.Tree.{Tree}
 use Rattle.decimal_json.specs.declared.fault.JsonFault.{JsonFault}
@@ -13,4 +13,5 @@ HasLines l = (l.errors ≤ length l.text) × (l.warnings ≤ length l.text)
 
 -- what is written of a file of these bytes
 abbrev pub IsLintedFile : LintForm → (file bytes : List ℕ) → LintedStyle → Type 0
-IsLintedFile form file bytes linted = (parsed : Result Tree JsonFault) × IsParsed bytes parsed × (linted ≡ linted_parsed form file bytes parsed)
+IsLintedFile form file bytes linted =
+    (parsed : Result Tree JsonFault) × IsParsed bytes parsed × (linted ≡ linted_parsed form file bytes parsed)

@@ -1,4 +1,5 @@
--- The run of `lint`: the lines of each style in the order of the words, then how many of them are errors and warnings. Source: own.
+-- The run of `lint`: the lines of each style in the order of the words, then how many of them are errors and how many
+-- are warnings. Source: own.
 use Rattle.std.specs.Prelude.{ℕ, ◌+◌, List, [], ◌∷◌, ◌++◌, length, codes, decimal, nat_eq, Option, Some, None, Result, Ok, Err, if◌then◌else◌}
 use Rattle.decimal_json.specs.Tree.{Tree}
 use Rattle.decimal_json.specs.declared.fault.JsonFault.{JsonFault}
@@ -32,17 +33,23 @@ none_linted = record { text = []; errors = 0; warnings = 0 }
 
 -- a style after others
 abbrev pub and_linted : LintedStyle → LintedStyle → LintedStyle
-and_linted all one = record { text = all.text ++ one.text; errors = all.errors + one.errors; warnings = all.warnings + one.warnings }
+and_linted all one = record {
+  text = all.text ++ one.text;
+  errors = all.errors + one.errors;
+  warnings = all.warnings + one.warnings;
+}
 
 abbrev pub lint_parts : LintForm → (all : LintedStyle) → (files : List (List ℕ)) → (LintedStyle → Run) → Run
 lint_parts form all [] after = after all
-lint_parts form all (file ∷ files) after = lint_part form file (λ one. lint_parts form (and_linted all one) files after)
+lint_parts form all (file ∷ files) after =
+    lint_part form file (λ one. lint_parts form (and_linted all one) files after)
 
 -- ---- the end
 
 abbrev pub counts_line : (errors warnings styles : ℕ) → List ℕ
 counts_line errors warnings styles =
-    line (decimal errors ++ (codes " errors, " ++ (decimal warnings ++ (codes " warnings in " ++ (decimal styles ++ codes " styles")))))
+    line (decimal errors ++ (codes " errors, " ++ (decimal warnings ++ (codes " warnings in " ++
+    (decimal styles ++ codes " styles")))))
 
 abbrev pub lint_ending : (errors : ℕ) → Ending
 lint_ending errors = if nat_eq errors 0 then Fine else Found

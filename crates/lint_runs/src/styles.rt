@@ -62,6 +62,7 @@ fn lint_next<'a, F: Files>(
     Ok(add_linted(&one, all)?)
 }
 
+// No sum wraps, since each count is within the length of a text.
 fn add_linted(one: &Linted, all: &mut Linted) -> Result<(), AllocError>
     requires one { HasLines (linted_seen one.now) }
     requires all { HasLines (linted_seen all.old) }
@@ -69,7 +70,6 @@ fn add_linted(one: &Linted, all: &mut Linted) -> Result<(), AllocError>
     ensures lines { OnOk result (HasLines (linted_seen all.new)) }
 {
     all.text.extend_from_slice(one.text.as_slice())?;
-    let _bytes = all.text.len();
     all.errors += one.errors;
     all.warnings += one.warnings;
     Ok(())
