@@ -1,0 +1,371 @@
+//! What is asked of a layer that is shown.
+
+ghost use Rattle.std.specs.Prelude.{◌≡◌, Some, None, length, map};
+ghost use Rattle.layer_buckets.specs.Seen.{HasFeature, IsSound, features_of, kept_at, source_of};
+ghost use Rattle.layer_buckets.specs.declared.cell.CellItem.TheVariants.{Filter};
+ghost use Rattle.listing_text.specs.declared.show.Show.TheVariants.{Plain};
+ghost use Rattle.style_layout.specs.CodeView.{feature_seen, property_seen, tile_seen};
+ghost use Rattle.style_layout.specs.Shown.{layer_features, numbered};
+ghost use Rattle.asked_cells.specs.Asked.{IsDecided, common_asked, common_cell, each_asked, feature_asked, feature_number, features_asked, filter_asked, is_listed, item_asked, passed_asked, shown_asked, value_asked, values_asked};
+ghost use Rattle.asked_cells.specs.Asking.{AsksAll, AsksIf, HasSlots, IsAnswer, IsCommonAnswer, LeavesSources, common_answer};
+ghost use Rattle.asked_cells.specs.SeenCells.{HasCellFeature, cell_feature, layer_at, scene_at};
+
+use crate::cell_world::CellWorld;
+use crate::filters::{constant_answer, has_feature_cells, is_passed, sum_of};
+use crate::view_cells::{LayerAt, ViewCells};
+use expr_nodes::CountedEvaluator;
+use fixed_num::Fixed;
+use layer_buckets::{Cell, CellItem};
+use outside_io::Steps;
+use std::alloc::AllocError;
+use std::sync::ledger::Ledger;
+use style_layout::{
+    Evaluator, LayerFeature, LayerFeatures, Property, SourceTile, state_of, zoom_at,
+};
+
+impl<E: CountedEvaluator + Drop> ViewCells<E> {
+    /// Asks the values that are listed with a layer, and the cells of its features.
+    pub(crate) fn ask_plain<V: Evaluator, L: Ledger>(
+        &mut self,
+        at: &LayerAt<'_, V>,
+        tiles: &[SourceTile<'_>],
+        steps: &mut Steps<L>,
+    ) -> Result<u64, AllocError>
+        requires sound { IsSound self.old.buckets }
+        requires slots { HasSlots E.slots self.old.buckets at.now.number }
+        requires features { features_of self.old.buckets at.now.number
+            ≡ Some (length (layer_features (map tile_seen tiles.now) (layer_at at.now))) }
+        ensures sound { IsSound self.new.buckets }
+        ensures sources { LeavesSources self.old.buckets self.new.buckets }
+        ensures asks { AsksIf E.slots
+            (λ t. IsDecided t (scene_at V.tests at.now) (t.source at.now.number Filter) (layer_at at.now))
+            (λ t. shown_asked t (scene_at V.tests at.now) at.now.number (map tile_seen tiles.now) Plain
+            (layer_at at.now))
+            self.old.buckets self.new.buckets result steps.old steps.new }
+    {
+        let own = self.ask_values(at, None, steps)?;
+        let others = self.ask_features(at, tiles, steps)?;
+        sum_of(own, others)
+    }
+
+    // Asks the cells of the features of a layer, with those of its filter.
+    fn ask_features<V: Evaluator, L: Ledger>(
+        &mut self,
+        at: &LayerAt<'_, V>,
+        tiles: &[SourceTile<'_>],
+        steps: &mut Steps<L>,
+    ) -> Result<u64, AllocError>
+        requires sound { IsSound self.old.buckets }
+        requires slots { HasSlots E.slots self.old.buckets at.now.number }
+        requires features { features_of self.old.buckets at.now.number
+            ≡ Some (length (layer_features (map tile_seen tiles.now) (layer_at at.now))) }
+        ensures sound { IsSound self.new.buckets }
+        ensures sources { LeavesSources self.old.buckets self.new.buckets }
+        ensures asks { AsksIf E.slots
+            (λ t. IsDecided t (scene_at V.tests at.now) (t.source at.now.number Filter) (layer_at at.now))
+            (λ t. features_asked t (scene_at V.tests at.now) at.now.number (map tile_seen tiles.now)
+            (layer_at at.now))
+            self.old.buckets self.new.buckets result steps.old steps.new }
+    {
+        let common = self.ask_common_filter(at, steps)?;
+        let answer = self.common_answer(at);
+        let others = self.ask_each(at, tiles, answer, steps)?;
+        sum_of(common, others)
+    }
+
+    // Asks the cell of a filter that serves all features.
+    fn ask_common_filter<V: Evaluator, L: Ledger>(
+        &mut self,
+        at: &LayerAt<'_, V>,
+        steps: &mut Steps<L>,
+    ) -> Result<u64, AllocError>
+        requires sound { IsSound self.old.buckets }
+        requires slots { HasSlots E.slots self.old.buckets at.now.number }
+        ensures sound { IsSound self.new.buckets }
+        ensures sources { LeavesSources self.old.buckets self.new.buckets }
+        ensures asks { AsksAll E.slots (λ t. common_asked t (scene_at V.tests at.now) at.now.number)
+            self.old.buckets self.new.buckets result steps.old steps.new }
+    {
+        let source = self.buckets.source(at.number, CellItem::Filter);
+        if has_feature_cells(source) {
+            return Ok(0);
+        }
+        self.ask_filter(at, None, steps)
+    }
+
+    // Asks the cell of a filter for a feature, or the one that serves all.
+    fn ask_filter<V: Evaluator, L: Ledger>(
+        &mut self,
+        at: &LayerAt<'_, V>,
+        feature: Option<&LayerFeature<'_>>,
+        steps: &mut Steps<L>,
+    ) -> Result<u64, AllocError>
+        requires sound { IsSound self.old.buckets }
+        requires slots { HasSlots E.slots self.old.buckets at.now.number }
+        requires feature { HasCellFeature self.old.buckets at.now.number (cell_feature feature) }
+        ensures sound { IsSound self.new.buckets }
+        ensures sources { LeavesSources self.old.buckets self.new.buckets }
+        ensures asks { AsksAll E.slots
+            (λ t. filter_asked t (scene_at V.tests at.now) at.now.number (cell_feature feature.entry))
+            self.old.buckets self.new.buckets result steps.old steps.new }
+    {
+        let zoom = at.scene.zoom.floor();
+        self.ask_item(at, zoom, feature, CellItem::Filter, steps)
+    }
+
+    // What the filter answers of all features, where it has no cell for each: its one cell is asked before.
+    fn common_answer<V>(&self, at: &LayerAt<'_, V>) -> Option<bool>
+        requires { IsSound self.now.buckets }
+        ensures { result ≡ common_answer (source_of self.now.buckets at.now.number Filter) (layer_at at.now).filter
+            (kept_at self.now.buckets (common_cell at.now.number)) }
+    {
+        let source = self.buckets.source(at.number, CellItem::Filter);
+        if has_feature_cells(source) {
+            return None;
+        }
+        if source.is_none() {
+            return Some(constant_answer(&at.layer.filter));
+        }
+        let cell = Cell {
+            layer: at.number,
+            feature: None,
+            item: CellItem::Filter,
+        };
+        Some(is_passed(self.buckets.value(&cell)))
+    }
+
+    // Asks the cells of each feature of a layer.
+    fn ask_each<V: Evaluator, L: Ledger>(
+        &mut self,
+        at: &LayerAt<'_, V>,
+        tiles: &[SourceTile<'_>],
+        answer: Option<bool>,
+        steps: &mut Steps<L>,
+    ) -> Result<u64, AllocError>
+        requires sound { IsSound self.old.buckets }
+        requires slots { HasSlots E.slots self.old.buckets at.now.number }
+        requires features { features_of self.old.buckets at.now.number
+            ≡ Some (length (layer_features (map tile_seen tiles.now) (layer_at at.now))) }
+        ensures sound { IsSound self.new.buckets }
+        ensures sources { LeavesSources self.old.buckets self.new.buckets }
+        ensures asks { AsksIf E.slots
+            (λ t. IsCommonAnswer t (scene_at V.tests at.now) at.now.number (layer_at at.now) answer)
+            (λ t. each_asked t (scene_at V.tests at.now) at.now.number (layer_at at.now)
+            (numbered 0 (layer_features (map tile_seen tiles.now) (layer_at at.now))))
+            self.old.buckets self.new.buckets result steps.old steps.new }
+    {
+        let mut features = LayerFeatures::new(at.layer, tiles);
+        let mut number = 0;
+        while let Some(found) = features.next() {
+            let feature = LayerFeature {
+                number: found.0,
+                feature: found.1,
+                state: state_of(at.layer, at.scene, found.1.id),
+            };
+            let more = self.ask_feature(at, &feature, answer, steps)?;
+            number = sum_of(number, more)?;
+        }
+        Ok(number)
+    }
+
+    // Asks the cells of a feature.
+    fn ask_feature<V: Evaluator, L: Ledger>(
+        &mut self,
+        at: &LayerAt<'_, V>,
+        feature: &LayerFeature<'_>,
+        answer: Option<bool>,
+        steps: &mut Steps<L>,
+    ) -> Result<u64, AllocError>
+        requires sound { IsSound self.old.buckets }
+        requires slots { HasSlots E.slots self.old.buckets at.now.number }
+        requires feature { HasFeature (features_of self.old.buckets at.now.number) (Some feature.now.number) }
+        ensures sound { IsSound self.new.buckets }
+        ensures sources { LeavesSources self.old.buckets self.new.buckets }
+        ensures asks { AsksIf E.slots
+            (λ t. IsAnswer t (scene_at V.tests at.now) at.now.number (layer_at at.now) answer (feature_seen feature.now))
+            (λ t. feature_asked t (scene_at V.tests at.now) at.now.number (layer_at at.now) (feature_seen feature.now))
+            self.old.buckets self.new.buckets result steps.old steps.new }
+    {
+        match answer {
+            Some(passes) => self.ask_passed(at, feature, passes, steps),
+            None => self.ask_if_passed(at, feature, steps),
+        }
+    }
+
+    // Asks the cell that the filter has for a feature, and the values of the feature where it passes.
+    fn ask_if_passed<V: Evaluator, L: Ledger>(
+        &mut self,
+        at: &LayerAt<'_, V>,
+        feature: &LayerFeature<'_>,
+        steps: &mut Steps<L>,
+    ) -> Result<u64, AllocError>
+        requires sound { IsSound self.old.buckets }
+        requires slots { HasSlots E.slots self.old.buckets at.now.number }
+        requires feature { HasFeature (features_of self.old.buckets at.now.number) (Some feature.now.number) }
+        ensures sound { IsSound self.new.buckets }
+        ensures sources { LeavesSources self.old.buckets self.new.buckets }
+        ensures asks { AsksIf E.slots
+            (λ t. IsAnswer t (scene_at V.tests at.now) at.now.number (layer_at at.now) None (feature_seen feature.now))
+            (λ t. feature_asked t (scene_at V.tests at.now) at.now.number (layer_at at.now) (feature_seen feature.now))
+            self.old.buckets self.new.buckets result steps.old steps.new }
+    {
+        let first = self.ask_filter(at, Some(feature), steps)?;
+        let cell = Cell {
+            layer: at.number,
+            feature: Some(feature.number),
+            item: CellItem::Filter,
+        };
+        let passes = is_passed(self.buckets.value(&cell));
+        let others = self.ask_passed(at, feature, passes, steps)?;
+        sum_of(first, others)
+    }
+
+    // Asks the values of a feature, where it passes.
+    fn ask_passed<V: Evaluator, L: Ledger>(
+        &mut self,
+        at: &LayerAt<'_, V>,
+        feature: &LayerFeature<'_>,
+        passes: bool,
+        steps: &mut Steps<L>,
+    ) -> Result<u64, AllocError>
+        requires sound { IsSound self.old.buckets }
+        requires slots { HasSlots E.slots self.old.buckets at.now.number }
+        requires feature { HasFeature (features_of self.old.buckets at.now.number) (Some feature.now.number) }
+        ensures sound { IsSound self.new.buckets }
+        ensures sources { LeavesSources self.old.buckets self.new.buckets }
+        ensures asks { AsksAll E.slots (λ t. passed_asked t (scene_at V.tests at.now) at.now.number
+            passes (feature_seen feature.now) (layer_at at.now).properties)
+            self.old.buckets self.new.buckets result steps.old steps.new }
+    {
+        if passes {
+            self.ask_values(at, Some(feature), steps)
+        } else {
+            Ok(0)
+        }
+    }
+
+    /// Asks the values that are listed with a feature, or with the layer.
+    pub(crate) fn ask_values<V: Evaluator, L: Ledger>(
+        &mut self,
+        at: &LayerAt<'_, V>,
+        feature: Option<&LayerFeature<'_>>,
+        steps: &mut Steps<L>,
+    ) -> Result<u64, AllocError>
+        requires sound { IsSound self.old.buckets }
+        requires slots { HasSlots E.slots self.old.buckets at.now.number }
+        requires feature { HasCellFeature self.old.buckets at.now.number (cell_feature feature) }
+        ensures sound { IsSound self.new.buckets }
+        ensures sources { LeavesSources self.old.buckets self.new.buckets }
+        ensures asks { AsksAll E.slots (λ t. values_asked t (scene_at V.tests at.now) at.now.number
+            (cell_feature feature.entry) (layer_at at.now).properties)
+            self.old.buckets self.new.buckets result steps.old steps.new }
+    {
+        self.ask_listed(at, at.layer.properties.as_slice(), feature, steps)
+    }
+
+    fn ask_listed<V: Evaluator, L: Ledger>(
+        &mut self,
+        at: &LayerAt<'_, V>,
+        properties: &[Property],
+        feature: Option<&LayerFeature<'_>>,
+        steps: &mut Steps<L>,
+    ) -> Result<u64, AllocError>
+        requires sound { IsSound self.old.buckets }
+        requires slots { HasSlots E.slots self.old.buckets at.now.number }
+        requires feature { HasCellFeature self.old.buckets at.now.number (cell_feature feature) }
+        ensures sound { IsSound self.new.buckets }
+        ensures sources { LeavesSources self.old.buckets self.new.buckets }
+        ensures asks { AsksAll E.slots (λ t. values_asked t (scene_at V.tests at.now) at.now.number
+            (cell_feature feature.entry) (map property_seen properties.now))
+            self.old.buckets self.new.buckets result steps.old steps.new }
+    {
+        let mut number = 0;
+        for property in properties {
+            let more = self.ask_value(at, property, feature, steps)?;
+            number = sum_of(number, more)?;
+        }
+        Ok(number)
+    }
+
+    // Asks the value of a property, where it is listed with the feature, or with the layer.
+    fn ask_value<V: Evaluator, L: Ledger>(
+        &mut self,
+        at: &LayerAt<'_, V>,
+        property: &Property,
+        feature: Option<&LayerFeature<'_>>,
+        steps: &mut Steps<L>,
+    ) -> Result<u64, AllocError>
+        requires sound { IsSound self.old.buckets }
+        requires slots { HasSlots E.slots self.old.buckets at.now.number }
+        requires feature { HasCellFeature self.old.buckets at.now.number (cell_feature feature) }
+        ensures sound { IsSound self.new.buckets }
+        ensures sources { LeavesSources self.old.buckets self.new.buckets }
+        ensures asks { AsksAll E.slots (λ t. value_asked t (scene_at V.tests at.now) at.now.number
+            (cell_feature feature.entry) (property_seen property.now))
+            self.old.buckets self.new.buckets result steps.old steps.new }
+    {
+        if is_listed(feature, property) {
+            let zoom = zoom_at(at.scene.zoom, property.row.place);
+            let item = CellItem::Property(property.row.number);
+            self.ask_item(at, zoom, feature, item, steps)
+        } else {
+            Ok(0)
+        }
+    }
+
+    // Asks a cell, where its item has a source.
+    fn ask_item<V: Evaluator, L: Ledger>(
+        &mut self,
+        at: &LayerAt<'_, V>,
+        zoom: Fixed,
+        feature: Option<&LayerFeature<'_>>,
+        item: CellItem,
+        steps: &mut Steps<L>,
+    ) -> Result<u64, AllocError>
+        requires sound { IsSound self.old.buckets }
+        requires slots { HasSlots E.slots self.old.buckets at.now.number }
+        requires feature { HasCellFeature self.old.buckets at.now.number (cell_feature feature) }
+        ensures sound { IsSound self.new.buckets }
+        ensures sources { LeavesSources self.old.buckets self.new.buckets }
+        ensures asks { AsksAll E.slots
+            (λ t. item_asked t (scene_at V.tests at.now) at.now.number zoom (cell_feature feature.entry) item)
+            self.old.buckets self.new.buckets result steps.old steps.new }
+    {
+        match self.buckets.source(at.number, item) {
+            None => Ok(0),
+            Some(_) => {
+                let cell = Cell {
+                    layer: at.number,
+                    feature: number_of(feature),
+                    item,
+                };
+                let world = CellWorld {
+                    scene: at.scene,
+                    zoom,
+                    feature,
+                };
+                self.buckets
+                    .refresh(&mut self.workspace, &cell, &world, steps)
+            }
+        }
+    }
+}
+
+// Whether a value is listed with the feature, or with the layer.
+fn is_listed(feature: Option<&LayerFeature<'_>>, property: &Property) -> bool
+    ensures { result ≡ is_listed (cell_feature feature.entry) (property_seen property.now) }
+{
+    match feature {
+        Some(_) => property.is_per_feature,
+        None => !property.is_per_feature,
+    }
+}
+
+fn number_of(feature: Option<&LayerFeature<'_>>) -> Option<u32>
+    ensures { result ≡ feature_number (cell_feature feature.entry) }
+{
+    match feature {
+        Some(feature) => Some(feature.number),
+        None => None,
+    }
+}

@@ -1,0 +1,38 @@
+//! The cells that a listing asks of a layer: each is evaluated once, counted, and kept until it is dropped.
+//!
+//! ```text
+//! let mut cells = ViewCells::new(alloc, evaluator)?;
+//! cells.add_layer(alloc, 0, &layer, &tiles)?;              // its features over the tiles are counted
+//! cells.buckets.set_source(alloc, 0, &source)?;            // what gives the values of one of its items
+//! let at = LayerAt { number: 0, layer: &layer, scene: &scene };
+//! cells.ask_layer(&at, &tiles, &mut steps)?                // 3: as many were evaluated
+//! cells.ask_layer(&at, &tiles, &mut steps)?                // 0: all are kept
+//! cells.buckets.drop_cells(&Stale::State(0, 1));
+//! cells.ask_layer(&at, &tiles, &mut steps)?                // 1
+//! ```
+//!
+//! What is promised, of each layer in each scene over each evaluator:
+//! - `ask_layer` asks the cells of `layer_asked`, where what gives the value of the filter says which features
+//!   pass (`IsDecided`): the values that are listed with the layer; the cell of the filter, or one for each feature
+//!   where the filter reads one or its state; and the values that are listed with each feature that passes. A
+//!   hidden layer and an unread one ask none, and a layer whose filter is outside asks its own values alone.
+//! - It answers how many of these were not kept, each counted once (`evaluations`). Afterwards each is kept with
+//!   what it means, and every other cell as before.
+//! - It takes at least as many steps as it answers, and at most as many as the expressions of the cells that were
+//!   not kept have nodes (`total_nodes`), also where an allocation fails. Then what was kept is still kept.
+//! - Sources, numbers of features and the evaluator stay.
+//! - `ask_style` does the same for layers, one after another.
+//!
+//! An item of a layer, its filter or a property, has cells exactly where it has a source: whoever sets the sources
+//! gives none to a literal, to what is not evaluated, to a filter that is a truth value and to the filter of a layer
+//! whose type has no features. A layer is read as `style_layout` prepared it. The listing itself is not written here.
+//!
+//! The text to believe is in `specs/`: `Asked`, `Counted`, `Asking`, `StyleAsked`.
+#![tactic(auto)]
+
+mod asking;
+mod cell_world;
+mod filters;
+mod view_cells;
+
+pub use view_cells::{LayerAt, ViewCells};
