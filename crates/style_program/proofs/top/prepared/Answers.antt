@@ -1,6 +1,12 @@
-use Rattle.std.proofs.Common.{refl}
+use Rattle.std.proofs.Common.{map, refl, string_bytes}
 use Rattle.program_runs.proofs.Asked.{none_asked}
+use Rattle.style_program.specs.Commands.{run_of}
 use Rattle.style_program.proofs.top.prepared.Goals as goal
 
 pub returns-in_default-clause-stop : goal.returns-in_default-clause-stop
-returns-in_default-clause-stop g c = ((refl, refl), none_asked (g.F.Files.told c.args.files.now) _ (g.F.Files.asked c.args.files.now))
+returns-in_default-clause-stop g c =
+    let images = (goal.HostOp-dyn g c.args.images.now).test c.args.images.now.1 in
+    let scripts = (goal.HostOp-dyn g c.args.scripts.now).test c.args.scripts.now.1 in
+    let can_change = (goal.HostOp-dyn g c.args.images.now).changes c.args.images.now.1 in
+    let run = run_of images scripts can_change (map string_bytes c.args.words.now) in
+    ((refl, refl), none_asked (g.F.Files.told c.args.files.now) run (g.F.Files.asked c.args.files.now))
