@@ -1,2 +1,14 @@
+pub mod ParsedTrees
+pub mod ReadBack
+pub mod Inside
+pub mod Parsing
+pub mod Alike
+pub mod GoodElements
+pub mod NodeGood
+pub mod LiteralsGood
+pub mod JoinsGood
+pub mod CasesGood
+pub mod TreesGood
+pub mod MeaningLaws
 pub mod NeverPassed
 pub mod TwiceSimplified

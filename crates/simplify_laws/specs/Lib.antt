@@ -1,3 +1,4 @@
 -- Laws. The statements are to be believed; their proofs are in proofs/.
+pub mod MeaningLaw
 pub mod NeverLaw
 pub mod TwiceLaw

@@ -1,11 +1,12 @@
 -- What `case`, `all`, `any`, `coalesce` and `match` become by the literals among their arguments; none where no
 -- literal decides. Source: own.
-use Rattle.std.specs.Prelude.{◌+◌, ◌-◌, List, [], ◌∷◌, length, take, Bool, true, false, ◌||◌, Option, Some, None, if◌then◌else◌}
+use Rattle.std.specs.Prelude.{◌+◌, ◌-◌, List, [], ◌∷◌, length, take, Bool, true, false, ◌&&◌, ◌||◌, Option, Some, None, if◌then◌else◌}
 use Rattle.std.specs.List.{slice_get}
 use Rattle.decimal_json.specs.Tree.{Tree, null, boolean, number, text, list, object}
 use Rattle.prop_values.specs.Data.{Data}
 use Rattle.prop_values.specs.declared.kinds.Want.{Want}
 use Rattle.expr_syntax.specs.Chosen.{output_of}
+use Rattle.expr_syntax.specs.Elements.{second}
 use Rattle.expr_syntax.specs.declared.expression.Operator.{Operator}
 use Rattle.expr_syntax.specs.declared.expression.Operator.TheVariants.{All, Any, Case, Coalesce, Match}
 use Rattle.expr_syntax.specs.declared.parts.Labelled.{Labelled}
@@ -27,13 +28,20 @@ abbrev pub condition_role : Bool → Tree → LiteralRole
 condition_role decides (boolean b) = flag_role decides b
 condition_role decides t = Open
 
--- of `coalesce` a literal null is passed, and another literal decides
+-- whether it is an array or an object
+abbrev pub is_container : Option Tree → Bool
+is_container (Some (list ts)) = true
+is_container (Some (object fs)) = true
+is_container _ = false
+
+-- Of `coalesce` a literal null is passed, and another literal decides. A `literal` node of another value than an array
+-- or an object has become a bare literal before.
 abbrev pub choice_role : Tree → LiteralRole
 choice_role null = Passed
 choice_role (boolean b) = Deciding
 choice_role (number n) = Deciding
 choice_role (text s) = Deciding
-choice_role (list ts) = if is_literal_node ts then Deciding else Open
+choice_role (list ts) = if is_literal_node ts && is_container (second ts) then Deciding else Open
 choice_role (object fs) = Open
 
 abbrev pub role_of : Operator → Tree → LiteralRole
@@ -101,6 +109,10 @@ abbrev pub is_literal_turn : CaseTurn → Bool
 is_literal_turn Output = false
 is_literal_turn turn = true
 
+-- pairs begin with a condition
+abbrev pub first_turn : CaseTurn
+first_turn = Condition
+
 -- whether a condition is a literal
 abbrev pub some_condition : Bool → List SimpleElement → Bool
 some_condition is_condition [] = false
@@ -114,7 +126,7 @@ case_of want head (e ∷ f ∷ es) = node_of Case want false (head ∷ e ∷ f �
 
 abbrev pub case_with : Want → SimpleElement → List SimpleElement → Option SimpleElement → Option SimpleElement
 case_with want head pairs (Some last) =
-    if some_condition true pairs then Some (case_of want head (open_pairs Condition pairs last)) else None
+    if some_condition true pairs then Some (case_of want head (open_pairs first_turn pairs last)) else None
 case_with want head pairs None = None
 
 abbrev pub shorter_case : Want → SimpleElement → List SimpleElement → Option SimpleElement

@@ -1,9 +1,10 @@
 //! `all`, `any` and `coalesce` without the arguments that decide nothing.
 
-ghost use Rattle.std.specs.Prelude.{◌≡◌, ◌∷◌, false, IfOk, option_map};
+ghost use Rattle.std.specs.Prelude.{◌≡◌, ◌∷◌, false, IfOk, Some, option_map};
 ghost use Rattle.decimal_json.specs.Tree.{list};
 ghost use Rattle.decimal_json.specs.View.{tree_of, trees};
-ghost use Rattle.style_simplify.specs.ShorterNodes.{flag_role, condition_role, choice_role, role_of, is_deciding, is_open, is_coalesce, some_role, undecided, joined, shorter_join};
+ghost use Rattle.expr_syntax.specs.Elements.{second};
+ghost use Rattle.style_simplify.specs.ShorterNodes.{flag_role, condition_role, choice_role, is_container, role_of, is_deciding, is_open, is_coalesce, some_role, undecided, joined, shorter_join};
 ghost use Rattle.style_simplify.specs.SimpleElements.{node_of};
 ghost use Rattle.style_simplify.specs.View.{element_seen, elements_seen};
 
@@ -57,10 +58,32 @@ fn choice_role(json: &Json) -> LiteralRole
 fn list_role(items: &[Json]) -> LiteralRole
     ensures { result ≡ choice_role (list (trees items.now)) }
 {
-    if is_literal_node(items) {
+    if is_literal_node(items) && is_container(items) {
         LiteralRole::Deciding
     } else {
         LiteralRole::Open
+    }
+}
+
+// Whether the second item is an array or an object.
+#[tactic(auto, using(crate::proofs::NodeLaws::one_second))]
+fn is_container(items: &[Json]) -> bool
+    ensures { result ≡ is_container (second (trees items.now)) }
+{
+    match items {
+        [_, value, ..] => is_list_or_object(value),
+        [_] => false,
+        [] => false,
+    }
+}
+
+fn is_list_or_object(json: &Json) -> bool
+    ensures { result ≡ is_container (Some (tree_of json.now)) }
+{
+    match json {
+        Json::List(_) => true,
+        Json::Object(_) => true,
+        _ => false,
     }
 }
 
