@@ -1,0 +1,3 @@
+pub mod SourcedLaws
+pub mod ValueExpressions
+pub mod FilterExpressions

@@ -1,0 +1,151 @@
+-- Sources stay what they are where expressions come, and what one call leaves and then another leaves both.
+use Rattle.std.proofs.Common.{◌≡◌, ◌∙◌, ℕ, zero, suc, ◌+◌, ◌<◌, ◌≤◌, List, [], ◌∷◌, ◌++◌, length, refl, ap, sym, subst, inl, inr, arith}
+use Rattle.std.specs.Prelude.{◌⊎◌, Option, Some, None, if◌then◌else◌}
+use Rattle.std.specs.List.{slice_get}
+use Rattle.std.proofs.lemmas.Bool.{false_from_ne_true}
+use Rattle.std.proofs.lemmas.List.{append-nil, append_assoc}
+use Rattle.std.proofs.lemmas.Option.{slice_get_within}
+use Rattle.expr_syntax.specs.Mentioned.{mentions}
+use Rattle.expr_syntax.specs.declared.world_parts.Mentions.{Mentions}
+use Rattle.expr_nodes.specs.Evaluators.{Sized, sized_term}
+use Rattle.layer_buckets.proofs.ItemLaws.{is_item_same, is_item_true}
+use Rattle.layer_buckets.specs.Cells.{is_item}
+use Rattle.layer_buckets.specs.Seen.{evaluator_of, source_of}
+use Rattle.layer_buckets.specs.declared.buckets.Buckets.{Buckets}
+use Rattle.layer_buckets.specs.declared.cell.CellItem.{CellItem}
+use Rattle.layer_buckets.specs.declared.cell.CellItem.TheVariants as items
+use Rattle.layer_buckets.specs.declared.cell.Source.{Source}
+use Rattle.cell_sources.specs.CellExpressions.{CellExpression}
+use Rattle.cell_sources.specs.Sourced.{HasExpressions, HasFirst, IsLonger, IsSourced, LeavesOthers, SetsItem}
+
+get_front : {A : Type 0} (xs ys : List A) (i : ℕ) → i < length xs → slice_get (xs ++ ys) i ≡ slice_get xs i
+get_front [] ys i h = absurd (omega (arith, h))
+get_front (x ∷ xs) ys zero h = refl
+get_front (x ∷ xs) ys (suc i) h = get_front xs ys i (omega (arith, h))
+
+get_new : {A : Type 0} (xs : List A) (y : A) → slice_get (xs ++ y ∷ []) (length xs) ≡ Some y
+get_new [] y = refl
+get_new (x ∷ xs) y = get_new xs y
+
+abbrev number_of : ℕ → CellItem → ℕ
+number_of other items.Filter = other
+number_of other (items.Property n) = n
+
+property_number : (m n : ℕ) → items.Property m ≡ items.Property n → m ≡ n
+property_number m n same = ap (number_of m) same
+
+below_or_past : (n count : ℕ) → (n < count) ⊎ (count ≤ n)
+below_or_past n zero = inr (omega arith)
+below_or_past zero (suc count) = inl (omega arith)
+below_or_past (suc n) (suc count) = step (below_or_past n count) where
+  step : (n < count) ⊎ (count ≤ n) → (suc n < suc count) ⊎ (suc count ≤ suc n)
+  step (inl h) = inl (omega (arith, h))
+  step (inr h) = inr (omega (arith, h))
+
+below_or_last : (n count : ℕ) → n < count + 1 → (n ≡ count) ⊎ (n < count)
+below_or_last n count h = step (below_or_past n count) where
+  step : (n < count) ⊎ (count ≤ n) → (n ≡ count) ⊎ (n < count)
+  step (inl less) = inr less
+  step (inr more) = inl (omega (arith, h, more))
+
+pub sourced_longer : (old new : List Sized) (item : CellItem) (e : Option CellExpression) (source : Option Source)
+    → IsLonger old new → IsSourced old item e source → IsSourced new item e source
+sourced_longer old new item None source longer is = is
+sourced_longer old new item (Some e) source (more, same) (slot, is, at) =
+    (slot, is, ap (λ slots. slice_get slots slot) same ∙ get_front old more slot (slice_get_within old slot _ at) ∙ at)
+
+pub longer_itself : {A : Type 0} (xs : List A) → IsLonger xs xs
+longer_itself xs = ([], sym (append-nil xs))
+
+pub longer_again : {A : Type 0} (xs ys zs : List A) → IsLonger xs ys → IsLonger ys zs → IsLonger xs zs
+longer_again xs ys zs (more, is) (others, also) = (more ++ others, also ∙ ap (λ l. l ++ others) is ∙ append_assoc xs more others)
+
+module _ {E : Type 0} (slots : E → List Sized) (layer : ℕ) where
+  pub others_themselves : (b : Buckets E) → LeavesOthers slots layer b b
+  others_themselves b = record {
+    features = λ l. refl;
+    source = λ l item h. refl;
+    kept = λ cell h. refl;
+    expressions = longer_itself (slots (evaluator_of b));
+  }
+
+  pub others_again : (a b c : Buckets E) → LeavesOthers slots layer a b → LeavesOthers slots layer b c → LeavesOthers slots layer a c
+  others_again a b c first more = record {
+    features = λ l. more.features l ∙ first.features l;
+    source = λ l item h. more.source l item h ∙ first.source l item h;
+    kept = λ cell h. more.kept cell h ∙ first.kept cell h;
+    expressions = longer_again (slots (evaluator_of a)) (slots (evaluator_of b)) (slots (evaluator_of c)) first.expressions more.expressions;
+  }
+
+  -- an item gets the source of an expression that was put after the others
+  pub set_item : (item : CellItem) (e : CellExpression) (old mid new : Buckets E) (slot : ℕ) (found : Mentions) (made : Sized)
+      → found ≡ mentions e.term → slot ≡ length (slots (evaluator_of old))
+      → slots (evaluator_of mid) ≡ slots (evaluator_of old) ++ made ∷ [] → made ≡ sized_term e.term e.want
+      → evaluator_of new ≡ evaluator_of mid
+      → ((l : ℕ) (i : CellItem) → source_of mid l i ≡ source_of old l i)
+      → ((l : ℕ) (i : CellItem) → source_of new l i ≡ (if is_item layer item l i
+      then Some (record { item = item; slot = slot; mentions = found; paint = e.paint; globals = e.globals })
+      else source_of mid l i))
+      → SetsItem slots layer item (Some e) old new
+  set_item item e old mid new slot found made mentioned counted put sized same left given = record {
+    own = (
+      slot,
+      given layer item
+          ∙ ap (λ b. if b then Some (record { item = item; slot = slot; mentions = found; paint = e.paint; globals = e.globals }) else source_of mid layer item)
+          (is_item_same layer layer item item refl refl)
+          ∙ ap (λ m. Some (record { item = item; slot = slot; mentions = m; paint = e.paint; globals = e.globals })) mentioned,
+      ap (λ ev. slice_get (slots ev) slot) same ∙ ap (λ xs. slice_get xs slot) put
+          ∙ ap (slice_get (slots (evaluator_of old) ++ made ∷ [])) counted ∙ get_new (slots (evaluator_of old)) made ∙ ap Some sized,
+    );
+    others = λ other apart.
+        given layer other
+        ∙ ap (λ b. if b then Some (record { item = item; slot = slot; mentions = found; paint = e.paint; globals = e.globals }) else source_of mid layer other)
+        (false_from_ne_true (is_item layer item layer other) (λ h. apart ((is_item_true layer layer item other h).1)))
+        ∙ left layer other;
+  }
+
+  -- one property more, and the filter at last
+  module _ (expression_of : CellItem → Option CellExpression) where
+    pub none_first : (b : Buckets E) → ((item : CellItem) → source_of b layer item ≡ None) → HasFirst slots layer 0 expression_of b
+    none_first b bare = record {
+      first = λ n h. absurd (omega (arith, h));
+      later = λ n h. bare (items.Property n);
+      filter = bare items.Filter;
+    }
+
+    one_more : (count n : ℕ) (a b : Buckets E) → HasFirst slots layer count expression_of a → LeavesOthers slots layer a b
+        → SetsItem slots layer (items.Property count) (expression_of (items.Property count)) a b → n < count + 1
+        → (n ≡ count) ⊎ (n < count)
+        → IsSourced (slots (evaluator_of b)) (items.Property n) (expression_of (items.Property n)) (source_of b layer (items.Property n))
+    one_more count n a b has left set h (inl same) =
+        subst (λ k. IsSourced (slots (evaluator_of b)) (items.Property k) (expression_of (items.Property k)) (source_of b layer (items.Property k))) (sym same) set.own
+    one_more count n a b has left set h (inr less) =
+        subst (IsSourced (slots (evaluator_of b)) (items.Property n) (expression_of (items.Property n)))
+        (sym (set.others (items.Property n) (λ same. let e = property_number count n same in absurd (omega (arith, e, less)))))
+        (sourced_longer (slots (evaluator_of a)) (slots (evaluator_of b)) (items.Property n) (expression_of (items.Property n)) (source_of a layer (items.Property n))
+        left.expressions (has.first n less))
+
+    pub first_more : (count : ℕ) (a b : Buckets E) → HasFirst slots layer count expression_of a → LeavesOthers slots layer a b
+        → SetsItem slots layer (items.Property count) (expression_of (items.Property count)) a b
+        → HasFirst slots layer (count + 1) expression_of b
+    first_more count a b has left set = record {
+      first = λ n h. one_more count n a b has left set h (below_or_last n count h);
+      later = λ n h. set.others (items.Property n) (λ same. let e = property_number count n same in absurd (omega (arith, e, h))) ∙ has.later n (omega (arith, h));
+      filter = set.others items.Filter (λ same. absurd (cc)) ∙ has.filter;
+    }
+
+    pub all_sourced : (count : ℕ) (a b : Buckets E) → HasFirst slots layer count expression_of a → LeavesOthers slots layer a b
+        → SetsItem slots layer items.Filter (expression_of items.Filter) a b
+        → ((n : ℕ) → count ≤ n → expression_of (items.Property n) ≡ None)
+        → HasExpressions slots layer expression_of b
+    all_sourced count a b has left set past items.Filter = set.own
+    all_sourced count a b has left set past (items.Property n) = by_place (below_or_past n count) where
+      stays : source_of b layer (items.Property n) ≡ source_of a layer (items.Property n)
+      stays = set.others (items.Property n) (λ same. absurd (cc))
+
+      by_place : (n < count) ⊎ (count ≤ n) → IsSourced (slots (evaluator_of b)) (items.Property n) (expression_of (items.Property n)) (source_of b layer (items.Property n))
+      by_place (inl below) = subst (IsSourced (slots (evaluator_of b)) (items.Property n) (expression_of (items.Property n))) (sym stays)
+          (sourced_longer (slots (evaluator_of a)) (slots (evaluator_of b)) (items.Property n) (expression_of (items.Property n)) (source_of a layer (items.Property n))
+          left.expressions (has.first n below))
+      by_place (inr later) = subst (λ e. IsSourced (slots (evaluator_of b)) (items.Property n) e (source_of b layer (items.Property n))) (sym (past n later))
+          (stays ∙ has.later n later)

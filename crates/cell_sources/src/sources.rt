@@ -1,0 +1,201 @@
+//! The sources of a layer's items.
+
+ghost use Rattle.std.specs.Prelude.{◌≡◌, ◌<◌, ℕ, ◌++◌, ◌∷◌, [], None, Some, true, is_some, length, option_map, slice_get, IfOk, OnOk, OnErr};
+ghost use Rattle.decimal_json.specs.Tree.{object, fields_of};
+ghost use Rattle.property_tables.specs.Rows.{rows_of};
+ghost use Rattle.property_tables.specs.RowView.{row_seen};
+ghost use Rattle.expr_nodes.specs.Evaluators.{sized_node};
+ghost use Rattle.layer_buckets.specs.Cells.{is_item};
+ghost use Rattle.layer_buckets.specs.Seen.{IsSound, evaluator_of, features_of, kept_at, source_of};
+ghost use Rattle.layer_buckets.specs.declared.cell.Cell.{Cell};
+ghost use Rattle.layer_buckets.specs.declared.cell.CellItem.{CellItem};
+ghost use Rattle.layer_buckets.specs.declared.cell.CellItem.TheVariants as items;
+ghost use Rattle.cell_sources.specs.CellExpressions.{item_expression, row_expression};
+ghost use Rattle.cell_sources.specs.Sourced.{HasExpressions, LeavesOthers, SetsItem};
+ghost use Rattle.cell_sources.specs.Views.{expression_seen};
+
+use crate::expressions::{CellExpression, filter_expression, value_expression};
+use decimal_json::Members;
+use dependency_sets::mentions;
+use expr_nodes::{BoxedExpression, CountedEvaluator};
+use expr_resolving::boxed;
+use layer_buckets::{Buckets, CellItem, Source};
+use node_pool::Pool;
+use prop_values::Entries;
+use property_tables::{LayerType, Row, row_count, row_numbered};
+use std::alloc::{AllocError, Global};
+use style_layout::{VISIBILITY, set_value};
+
+/// A layer of a document without findings, and the values of the global state.
+#[derive(Clone, Copy)]
+pub struct LayerValues<'a> {
+    pub layer_type: LayerType,
+    pub members: &'a Members,
+    pub globals: &'a Entries,
+}
+
+/// Gives each item of a layer the source of its expression, and puts the expressions into the evaluator. The layer is
+/// there and has no source yet. Takes time linear in the layer. Where an allocation fails, some of the items have
+/// theirs, and other layers are as they were.
+pub fn add_sources(
+    alloc: Global,
+    number: u32,
+    layer: &LayerValues<'_>,
+    buckets: &mut Buckets<Pool>,
+) -> Result<(), AllocError>
+    requires sound { IsSound buckets.old }
+    requires there { is_some (features_of buckets.old number) ≡ true }
+    requires bare { (item : CellItem) → source_of buckets.old number item ≡ None }
+    ensures sound { IsSound buckets.new }
+    ensures others { LeavesOthers ⟦<Pool as CountedEvaluator>⟧.slots number buckets.old buckets.new }
+    ensures sources { OnOk result (HasExpressions ⟦<Pool as CountedEvaluator>⟧.slots number
+        (item_expression layer.now.globals.now layer.now.layer_type (object (fields_of layer.now.members.now))) buckets.new) }
+{
+    for row in 0..row_count(layer.layer_type) {
+        add_property(alloc, number, layer, row, buckets)?;
+    }
+    let expression = layer_filter(alloc, layer)?;
+    add_item(alloc, number, CellItem::Filter, expression, buckets)
+}
+
+fn add_property(
+    alloc: Global,
+    number: u32,
+    layer: &LayerValues<'_>,
+    row: u16,
+    buckets: &mut Buckets<Pool>,
+) -> Result<(), AllocError>
+    requires sound { IsSound buckets.old }
+    requires there { is_some (features_of buckets.old number) ≡ true }
+    requires row { row < length (rows_of layer.now.layer_type) }
+    requires bare { source_of buckets.old number (items.Property row) ≡ None }
+    ensures sound { IsSound buckets.new }
+    ensures others { LeavesOthers ⟦<Pool as CountedEvaluator>⟧.slots number buckets.old buckets.new }
+    ensures source { OnOk result (SetsItem ⟦<Pool as CountedEvaluator>⟧.slots number (items.Property row)
+        (item_expression layer.now.globals.now layer.now.layer_type (object (fields_of layer.now.members.now)) (items.Property row))
+        buckets.old buckets.new) }
+{
+    let expression = property_expression(alloc, layer, row)?;
+    add_item(alloc, number, CellItem::Property(row), expression, buckets)
+}
+
+// The expression of the property of a row's number.
+fn property_expression(
+    alloc: Global,
+    layer: &LayerValues<'_>,
+    row: u16,
+) -> Result<Option<CellExpression>, AllocError>
+    requires { row < length (rows_of layer.now.layer_type) }
+    ensures { IfOk result (λ made. option_map expression_seen made
+        ≡ item_expression layer.now.globals.now layer.now.layer_type (object (fields_of layer.now.members.now)) (items.Property row)) }
+{
+    match row_at(layer.layer_type, row) {
+        Some(row) => row_expression(alloc, layer, &row),
+        None => Ok(None),
+    }
+}
+
+fn row_at(layer_type: LayerType, row: u16) -> Option<Row>
+    requires { row < length (rows_of layer_type) }
+    ensures { option_map row_seen result ≡ slice_get (rows_of layer_type) row }
+{
+    Some(row_numbered(layer_type, row))
+}
+
+fn row_expression(
+    alloc: Global,
+    layer: &LayerValues<'_>,
+    row: &Row,
+) -> Result<Option<CellExpression>, AllocError>
+    ensures { IfOk result (λ made. option_map expression_seen made
+        ≡ row_expression layer.now.globals.now layer.now.layer_type (object (fields_of layer.now.members.now)) (row_seen row.now)) }
+{
+    if row.name == VISIBILITY {
+        return Ok(None);
+    }
+    match set_value(layer.members, row.place, row.name) {
+        Some(json) => value_expression(alloc, row, layer.globals, json),
+        None => Ok(None),
+    }
+}
+
+fn layer_filter(
+    alloc: Global,
+    layer: &LayerValues<'_>,
+) -> Result<Option<CellExpression>, AllocError>
+    ensures { IfOk result (λ made. option_map expression_seen made
+        ≡ item_expression layer.now.globals.now layer.now.layer_type (object (fields_of layer.now.members.now)) items.Filter) }
+{
+    match layer.members.get("filter") {
+        Some(json) => filter_expression(alloc, layer.globals, json),
+        None => Ok(None),
+    }
+}
+
+// Gives an item the source of its expression, where it has one.
+fn add_item(
+    alloc: Global,
+    number: u32,
+    item: CellItem,
+    expression: Option<CellExpression>,
+    buckets: &mut Buckets<Pool>,
+) -> Result<(), AllocError>
+    requires sound { IsSound buckets.old }
+    requires there { is_some (features_of buckets.old number) ≡ true }
+    requires bare { source_of buckets.old number item ≡ None }
+    ensures sound { IsSound buckets.new }
+    ensures others { LeavesOthers ⟦<Pool as CountedEvaluator>⟧.slots number buckets.old buckets.new }
+    ensures source { OnOk result (SetsItem ⟦<Pool as CountedEvaluator>⟧.slots number item
+        (option_map expression_seen expression) buckets.old buckets.new) }
+{
+    match expression {
+        Some(expression) => add_source(alloc, number, item, expression, buckets),
+        None => Ok(()),
+    }
+}
+
+// Puts an expression into the evaluator, and gives an item its source.
+fn add_source(
+    alloc: Global,
+    number: u32,
+    item: CellItem,
+    expression: CellExpression,
+    buckets: &mut Buckets<Pool>,
+) -> Result<(), AllocError>
+    requires sound { IsSound buckets.old }
+    requires there { is_some (features_of buckets.old number) ≡ true }
+    ensures sound { IsSound buckets.new }
+    ensures others { LeavesOthers ⟦<Pool as CountedEvaluator>⟧.slots number buckets.old buckets.new }
+    ensures source { OnOk result (SetsItem ⟦<Pool as CountedEvaluator>⟧.slots number item (Some (expression_seen expression)) buckets.old buckets.new) }
+{
+    let mentions = mentions(&expression.expression);
+    let made = boxed(alloc, expression.expression, expression.want)?;
+    let slot = put_expression(made, buckets)?;
+    let source = Source {
+        item,
+        slot,
+        mentions,
+        paint: expression.paint,
+        globals: expression.globals,
+    };
+    buckets.set_source(alloc, number, &source)
+}
+
+// Puts an expression after those that the evaluator has.
+fn put_expression(
+    expression: BoxedExpression,
+    buckets: &mut Buckets<Pool>,
+) -> Result<u32, AllocError>
+    requires { IsSound buckets.old }
+    ensures sound { IsSound buckets.new }
+    ensures features { (l : ℕ) → features_of buckets.new l ≡ features_of buckets.old l }
+    ensures source { (l : ℕ) (item : CellItem) → source_of buckets.new l item ≡ source_of buckets.old l item }
+    ensures kept { (cell : Cell) → kept_at buckets.new cell ≡ kept_at buckets.old cell }
+    ensures slot { IfOk result (λ slot. slot ≡ length (⟦<Pool as CountedEvaluator>⟧.slots (evaluator_of buckets.old))) }
+    ensures ok { OnOk result (⟦<Pool as CountedEvaluator>⟧.slots (evaluator_of buckets.new)
+        ≡ ⟦<Pool as CountedEvaluator>⟧.slots (evaluator_of buckets.old) ++ sized_node expression ∷ []) }
+    ensures err { OnErr result (⟦<Pool as CountedEvaluator>⟧.slots (evaluator_of buckets.new)
+        ≡ ⟦<Pool as CountedEvaluator>⟧.slots (evaluator_of buckets.old)) }
+{
+    buckets.evaluator().put(expression)
+}
