@@ -27,7 +27,7 @@ use Rattle.value_forms.specs.declared.forms.Form.{Form}
 use Rattle.value_forms.specs.declared.forms.Form.TheVariants as forms
 use Rattle.layer_buckets.specs.declared.cell.CellItem.{CellItem}
 use Rattle.layer_buckets.specs.declared.cell.CellItem.TheVariants as items
-use Rattle.style_layout.specs.Layers.{is_visibility, set_value}
+use Rattle.style_layout.specs.Layers.{has_features, is_visibility, set_value}
 
 -- An expression under a want. It sees the zoom as a paint value does or its floor, and it was read by the values of the
 -- global state or needs none.
@@ -125,7 +125,9 @@ module _ (globals : List (List ℕ × Data)) (type : LayerType) (layer : Tree) w
   row_expression row =
       if is_visibility row then None else option_and_then (value_expression row globals) (set_value layer row.place row.name)
 
-  -- What gives the value of an item of a layer. A property that is not set and a literal need nothing.
+  -- What gives the value of an item of a layer. A property that is not set and a literal need nothing, and neither does
+  -- the filter of a type that shows no features.
   abbrev pub item_expression : CellItem → Option CellExpression
-  item_expression items.Filter = option_and_then (filter_expression globals) (member (codes "filter") layer)
+  item_expression items.Filter =
+      if has_features type then option_and_then (filter_expression globals) (member (codes "filter") layer) else None
   item_expression (items.Property number) = option_and_then row_expression (slice_get (rows_of type) number)

@@ -10,6 +10,7 @@ ghost use Rattle.layer_buckets.specs.Seen.{IsSound, evaluator_of, features_of, k
 ghost use Rattle.layer_buckets.specs.declared.cell.Cell.{Cell};
 ghost use Rattle.layer_buckets.specs.declared.cell.CellItem.{CellItem};
 ghost use Rattle.layer_buckets.specs.declared.cell.CellItem.TheVariants as items;
+ghost use Rattle.style_layout.specs.Layers.{has_features};
 ghost use Rattle.cell_sources.specs.CellExpressions.{item_expression, row_expression};
 ghost use Rattle.cell_sources.specs.Sourced.{HasExpressions, LeavesOthers, SetsItem};
 ghost use Rattle.cell_sources.specs.Views.{expression_seen};
@@ -126,9 +127,24 @@ fn layer_filter(
     ensures { IfOk result (λ made. option_map expression_seen made
         ≡ item_expression layer.now.globals.now layer.now.layer_type (object (fields_of layer.now.members.now)) items.Filter) }
 {
+    if !has_features(layer.layer_type) {
+        return Ok(None);
+    }
     match layer.members.get("filter") {
         Some(json) => filter_expression(alloc, layer.globals, json),
         None => Ok(None),
+    }
+}
+
+fn has_features(layer_type: LayerType) -> bool
+    ensures { result ≡ has_features layer_type }
+{
+    match layer_type {
+        LayerType::Background => false,
+        LayerType::Raster => false,
+        LayerType::Hillshade => false,
+        LayerType::ColorRelief => false,
+        _ => true,
     }
 }
 
