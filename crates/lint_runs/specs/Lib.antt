@@ -2,3 +2,4 @@
 pub mod LintRun
 -- What only contracts of private functions and proofs use.
 pub mod Counting
+pub mod Views

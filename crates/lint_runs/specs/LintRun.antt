@@ -1,10 +1,10 @@
 -- The run of `lint`: the lines of each style in the order of the words, then how many of them are errors and how many
 -- are warnings. Source: own.
-use Rattle.std.specs.Prelude.{ℕ, ◌+◌, List, [], ◌∷◌, ◌++◌, length, codes, decimal, nat_eq, Option, Some, None, Result, Ok, Err, if◌then◌else◌}
+use Rattle.std.specs.Prelude.{ℕ, ◌+◌, ◌-◌, min, nat_lt, List, [], ◌∷◌, ◌++◌, length, codes, decimal, nat_eq, Option, Some, None, Result, Ok, Err, if◌then◌else◌}
 use Rattle.decimal_json.specs.Tree.{Tree}
 use Rattle.decimal_json.specs.declared.fault.JsonFault.{JsonFault}
 use Rattle.lint_texts.specs.BrokenText.{style_limit}
-use Rattle.lint_texts.specs.LintedStyle.{LintedStyle, linted_broken_text, linted_document, linted_long_file}
+use Rattle.lint_texts.specs.LintedStyle.{LintedStyle, linted_broken_text, linted_document, linted_file_error, linted_long_file}
 use Rattle.lint_texts.specs.declared.form.LintForm.{LintForm}
 use Rattle.program_runs.specs.declared.status.Ending.{Ending}
 use Rattle.program_runs.specs.declared.status.Ending.TheVariants.{Fine, Found}
@@ -18,18 +18,38 @@ abbrev pub linted_parsed : LintForm → (file bytes : List ℕ) → Result Tree 
 linted_parsed form file bytes (Ok t) = linted_document form file bytes t
 linted_parsed form file bytes (Err fault) = linted_broken_text form file bytes fault.kind fault.at
 
--- a file by its bytes, or of which there are too many
-abbrev pub bytes_part : LintForm → (file : List ℕ) → Option (List ℕ) → (LintedStyle → Run) → Run
-bytes_part form file None after = after (linted_long_file form file)
-bytes_part form file (Some bytes) after = explains bytes (λ parsed. after (linted_parsed form file bytes parsed))
+-- so many bytes may all styles have together
+abbrev pub styles_limit : ℕ
+styles_limit = 33554432
 
-abbrev pub lint_part : LintForm → (file : List ℕ) → (LintedStyle → Run) → Run
-lint_part form file after = may_read file style_limit (λ bytes. bytes_part form file bytes after)
+-- what is written of styles, and how many bytes those that come may have together
+pub record LintedStyles : Type 0 where
+  pub linted : LintedStyle
+  pub left : ℕ
+
+abbrev pub most_bytes : (left : ℕ) → ℕ
+most_bytes left = min style_limit left
+
+abbrev pub too_much_message : List ℕ
+too_much_message = codes "styles: must have at most 33554432 bytes together [TooLong]"
+
+-- a file that is longer than a style may be, or than what is left for it
+abbrev pub linted_too_long : LintForm → (left : ℕ) → (file : List ℕ) → LintedStyle
+linted_too_long form left file = if nat_lt left style_limit then linted_file_error form file too_much_message else linted_long_file form file
+
+-- a file by its bytes, or of which there are too many
+abbrev pub bytes_part : LintForm → (left : ℕ) → (file : List ℕ) → Option (List ℕ) → (LintedStyles → Run) → Run
+bytes_part form left file None after = after (record { linted = linted_too_long form left file; left = left })
+bytes_part form left file (Some bytes) after =
+    explains bytes (λ parsed. after (record { linted = linted_parsed form file bytes parsed; left = left - length bytes }))
+
+abbrev pub lint_part : LintForm → (left : ℕ) → (file : List ℕ) → (LintedStyles → Run) → Run
+lint_part form left file after = may_read file (most_bytes left) (λ bytes. bytes_part form left file bytes after)
 
 -- ---- all styles, in the order of the words
 
-abbrev pub none_linted : LintedStyle
-none_linted = record { text = []; errors = 0; warnings = 0 }
+abbrev pub none_linted : LintedStyles
+none_linted = record { linted = record { text = []; errors = 0; warnings = 0 }; left = styles_limit }
 
 -- a style after others
 abbrev pub and_linted : LintedStyle → LintedStyle → LintedStyle
@@ -39,10 +59,13 @@ and_linted all one = record {
   warnings = all.warnings + one.warnings;
 }
 
-abbrev pub lint_parts : LintForm → (all : LintedStyle) → (files : List (List ℕ)) → (LintedStyle → Run) → Run
+abbrev pub and_styles : LintedStyles → LintedStyles → LintedStyles
+and_styles all one = record { linted = and_linted all.linted one.linted; left = one.left }
+
+abbrev pub lint_parts : LintForm → (all : LintedStyles) → (files : List (List ℕ)) → (LintedStyles → Run) → Run
 lint_parts form all [] after = after all
 lint_parts form all (file ∷ files) after =
-    lint_part form file (λ one. lint_parts form (and_linted all one) files after)
+    lint_part form all.left file (λ one. lint_parts form (and_styles all one) files after)
 
 -- ---- the end
 
@@ -58,4 +81,4 @@ abbrev pub lint_outcome : (styles : ℕ) → LintedStyle → RunOutcome
 lint_outcome styles all = said (all.text ++ counts_line all.errors all.warnings styles) (lint_ending all.errors)
 
 abbrev pub lint_run : LintForm → (files : List (List ℕ)) → Run
-lint_run form files = lint_parts form none_linted files (λ all. ends (lint_outcome (length files) all))
+lint_run form files = lint_parts form none_linted files (λ all. ends (lint_outcome (length files) all.linted))

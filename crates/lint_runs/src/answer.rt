@@ -30,8 +30,8 @@ pub fn answer_lint<'a, F: Files>(
     ensures halt { IfErr result (λ halt. HaltsAt (F.told files.old) (lint_run form (map string_bytes names.now))
         (F.faults files.old) (F.faults files.new) (F.failed files.old) (F.failed files.new) (F.asked files.old) (F.asked files.new) halt) }
 {
-    let linted = lint_styles(alloc, form, names, files)?;
-    Ok(answer_linted(alloc, linted, names.len())?)
+    let styles = lint_styles(alloc, form, names, files)?;
+    Ok(answer_linted(alloc, styles.linted, names.len())?)
 }
 
 // What is written of so many styles.
