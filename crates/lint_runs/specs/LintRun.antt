@@ -18,7 +18,7 @@ abbrev pub linted_parsed : LintForm → (file bytes : List ℕ) → Result Tree 
 linted_parsed form file bytes (Ok t) = linted_document form file bytes t
 linted_parsed form file bytes (Err fault) = linted_broken_text form file bytes fault.kind fault.at
 
--- so many bytes may all styles have together
+-- the most bytes that all styles have together
 abbrev pub styles_limit : ℕ
 styles_limit = 33554432
 

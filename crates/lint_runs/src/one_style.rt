@@ -24,7 +24,7 @@ pub(crate) struct LintedStyles {
     pub(crate) left: usize,
 }
 
-/// What is written of the style in a file, of which so many bytes are left for it.
+/// What is written of the style in a file. `left` is how many bytes it may have at most, as far as the styles before it go.
 pub(crate) fn lint_one<'a, F: Files>(
     alloc: Global,
     form: LintForm,

@@ -16,7 +16,7 @@ use outside_io::Files;
 use program_runs::RunHalt;
 use std::alloc::{AllocError, Global};
 
-/// So many bytes may all styles have together.
+/// The most bytes that all styles have together.
 const STYLES_LIMIT: usize = 33_554_432;
 
 /// What is written of the styles in these files, in their order.
