@@ -214,7 +214,7 @@ def run_deep(program, short, times, is_wanted):
                 failed += 1
                 print(f"hostile: stack: {given.name}: status {got[0]} with {most // KB} kB, {plain[0]} else")
             elif times:
-                kind = given.words[0] + (" with bindings that ask" if most == STACK_OF_BINDINGS else "")
+                kind = (given.words or ["no words"])[0] + (" with bindings that ask" if most == STACK_OF_BINDINGS else "")
                 low, _ = needs.setdefault(kind, (LOWEST, "all"))
                 if folder.run(program, [(resource.RLIMIT_STACK, low)]) != plain:
                     need = least(resource.RLIMIT_STACK, lambda limits: folder.run(program, limits) == plain, low, most, STEP)
