@@ -199,8 +199,8 @@ def run_deep(program, short, times, is_wanted):
     """Runs the deepest inputs, and without --short all rows, and gives how many ended wrong; `times` prints the greatest stack that one of
     each command needs."""
     failed, runs, needs = 0, 0, {}
-    cases = [(given, STACK, ENDS) for given in deepest()] + [(given, STACK_OF_BINDINGS, ENDS) for given in asking_bindings()]
-    cases += [(given, STACK_OF_BINDINGS, (*ENDS, NO_MEMORY)) for given in crosswise_bindings()]
+    cases = [(given, STACK, ENDS) for given in deepest()]
+    cases += [(given, STACK_OF_BINDINGS, (*ENDS, NO_MEMORY)) for given in itertools.chain(asking_bindings(), crosswise_bindings())]
     if not short:
         cases += [(given, STACK, ENDS) for given in given_rows(lambda name: not name.startswith("a tower of 63 let"))]
     for given, most, ends in cases:
