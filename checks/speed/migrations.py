@@ -6,8 +6,6 @@ PROGRAM is the program as LLVM built it.
 """
 
 import json
-import os
-import tempfile
 
 import rules
 
@@ -40,16 +38,7 @@ def half(number):
 
 
 def main():
-    program = rules.given_program()
-    with tempfile.TemporaryDirectory() as name:
-        path, out = os.path.join(name, "style"), os.path.join(name, "out")
-        for count in 900, 1_850, 3_700:
-            text = rules.style(map(half, range(count)))
-            with open(path, "w", encoding="utf-8") as file:
-                file.write(text)
-            runs = [rules.measured(program, path, out, "migrate") for _ in range(RUNS)]
-            took, processor, memory = min(run[1] for run in runs), min(run[2] for run in runs), max(run[3] for run in runs)
-            print(f"{count:,} layers: {len(text):,} bytes, {os.path.getsize(out):,} written, {took:.1f} ms, processor {processor:.1f} ms, {memory} MB, status {runs[0][0]}")
+    rules.print_measures(rules.given_program(), "migrate", half, (900, 1_850, 3_700), RUNS)
 
 
 if __name__ == "__main__":

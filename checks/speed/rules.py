@@ -125,6 +125,19 @@ def measured(program, path, out, command="validate", times=1):
     return status, took * 1000, (usage.ru_utime + usage.ru_stime) * 1000, usage.ru_maxrss // 1024
 
 
+def print_measures(program, command, layer, counts, times):
+    """Measures a command on styles of so many layers: the least times of so many runs, and the most memory."""
+    with tempfile.TemporaryDirectory() as name:
+        path, out = os.path.join(name, "style"), os.path.join(name, "out")
+        for count in counts:
+            text = style(map(layer, range(count)))
+            with open(path, "w", encoding="utf-8") as file:
+                file.write(text)
+            runs = [measured(program, path, out, command) for _ in range(times)]
+            took, processor, memory = min(run[1] for run in runs), min(run[2] for run in runs), max(run[3] for run in runs)
+            print(f"{count:,} layers: {len(text):,} bytes, {os.path.getsize(out):,} written, {took:.1f} ms, processor {processor:.1f} ms, {memory} MB, status {runs[0][0]}")
+
+
 def main():
     program = given_program()
     lint = "--lint" in sys.argv[1:]

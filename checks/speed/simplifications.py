@@ -6,8 +6,6 @@ PROGRAM is the program as LLVM built it.
 """
 
 import json
-import os
-import tempfile
 
 import rules
 
@@ -36,16 +34,7 @@ def foldable(number):
 
 
 def main():
-    program = rules.given_program()
-    with tempfile.TemporaryDirectory() as name:
-        path, out = os.path.join(name, "style"), os.path.join(name, "out")
-        for count in 1_900, 3_800, 7_600:
-            text = rules.style(map(foldable, range(count)))
-            with open(path, "w", encoding="utf-8") as file:
-                file.write(text)
-            runs = [rules.measured(program, path, out, "simplify") for _ in range(RUNS)]
-            took, processor, memory = min(run[1] for run in runs), min(run[2] for run in runs), max(run[3] for run in runs)
-            print(f"{count:,} layers: {len(text):,} bytes, {os.path.getsize(out):,} written, {took:.1f} ms, processor {processor:.1f} ms, {memory} MB, status {runs[0][0]}")
+    rules.print_measures(rules.given_program(), "simplify", foldable, (1_900, 3_800, 7_600), RUNS)
 
 
 if __name__ == "__main__":
