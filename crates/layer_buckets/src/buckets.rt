@@ -117,6 +117,13 @@ impl<E: CountedEvaluator + Drop> Buckets<E> {
         &mut self.evaluator
     }
 
+    /// How many features a layer has; none where it is not there.
+    pub fn features(&self, layer: u32) -> Option<u32>
+        ensures { result ≡ features_of self.now layer }
+    {
+        self.table.features(layer)
+    }
+
     /// What gives the values of an item of a layer; none where it has no source.
     pub fn source(&self, layer: u32, item: CellItem) -> Option<Source>
         ensures { result ≡ source_of self.now layer item }

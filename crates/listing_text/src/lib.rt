@@ -24,4 +24,6 @@ mod show;
 mod writing;
 
 pub use show::Show;
-pub use writing::{write_end, write_feature_line, write_layer_line, write_value, write_zoom};
+pub use writing::{
+    write_end, write_feature_line, write_given, write_layer_line, write_value, write_zoom,
+};

@@ -4,6 +4,7 @@ ghost use Rattle.fixed_num.specs.NumberText.{number_text};
 ghost use Rattle.prop_values.specs.ColorText.{color_text};
 ghost use Rattle.prop_values.specs.ValueText.{listed_text};
 ghost use Rattle.prop_values.specs.View.{data_of};
+ghost use Rattle.prop_values.specs.declared.outcome.Outcome.TheVariants.{Given};
 ghost use Rattle.listing_text.specs.Listing.{zoom_line, end_line, show_mark, layer_line, outcome_text, value_line, feature_line};
 ghost use Rattle.listing_text.specs.Parts.{parts_text, number_line};
 
@@ -97,11 +98,29 @@ pub fn write_value(
     ensures ok { OnOk result (out.new.items ≡ out.old.items ++ value_line margin.now name.now outcome.now) }
     ensures err { OnErr result (AppendsPrefix out.old.items out.new.items (value_line margin.now name.now outcome.now)) }
 {
-    if let Outcome::Given(Value::Num(number)) = outcome {
-        return write_number_line(margin, name, *number, out);
+    if let Outcome::Given(value) = outcome {
+        return write_given(margin, name, value, out);
     }
     write_parts(&[margin, name.as_bytes(), b" "], out)?;
     write_outcome(outcome, out)?;
+    write_parts(&[b"\n"], out)
+}
+
+/// Appends the line of a property that is its value.
+pub fn write_given(
+    margin: &'static [u8],
+    name: &str,
+    value: &Value,
+    out: &mut Vec<u8>,
+) -> Result<(), AllocError>
+    ensures ok { OnOk result (out.new.items ≡ out.old.items ++ value_line margin.now name.now (Given value.now)) }
+    ensures err { OnErr result (AppendsPrefix out.old.items out.new.items (value_line margin.now name.now (Given value.now))) }
+{
+    if let Value::Num(number) = value {
+        return write_number_line(margin, name, *number, out);
+    }
+    write_parts(&[margin, name.as_bytes(), b" "], out)?;
+    write_value_text(value, out)?;
     write_parts(&[b"\n"], out)
 }
 
