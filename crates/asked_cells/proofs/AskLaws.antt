@@ -4,36 +4,34 @@ use Rattle.std.proofs.Math.Bool.{or_assoc, or-false}
 use Rattle.std.specs.Prelude.{IfOk}
 use Rattle.std.specs.Result.{IsErr}
 use Rattle.operator_values.specs.Evaluated.{Evaluated}
-use Rattle.layer_buckets.specs.Cells.{cell_eq}
-use Rattle.layer_buckets.specs.declared.cell.Cell.{Cell}
-use Rattle.asked_cells.specs.Asked.{AskedCell}
+use Rattle.asked_cells.specs.Asked.{AskedCell, LayerCell, layer_cell_eq}
 use Rattle.asked_cells.specs.Counted.{AreMeant, AreRight, Asks, HaveAsked, KeptValues, evaluations, is_asked, is_kept, kept_after, sum_of_new, total_nodes}
 
 -- ---- what is asked in two parts
 
 module _ (amount : AskedCell → ℕ) where
-  sum_same : (k g : Cell → Bool) (xs : List AskedCell) → ((c : Cell) → k c ≡ g c)
+  sum_same : (k g : LayerCell → Bool) (xs : List AskedCell) → ((c : LayerCell) → k c ≡ g c)
       → sum_of_new amount k xs ≡ sum_of_new amount g xs
   sum_same k g xs h = λ i. sum_of_new amount (λ c. h c i) xs
 
-  sum_more : (k : Cell → Bool) (xs ys : List AskedCell) → sum_of_new amount k (xs ++ ys)
+  sum_more : (k : LayerCell → Bool) (xs ys : List AskedCell) → sum_of_new amount k (xs ++ ys)
       ≡ sum_of_new amount k xs + sum_of_new amount (λ c. k c || is_asked xs c) ys
   sum_more k [] ys =
       let same : sum_of_new amount (λ c. k c || false) ys ≡ sum_of_new amount k ys =
       sum_same (λ c. k c || false) k ys (λ c. or-false (k c)) in
       omega (arith, same)
   sum_more k (x ∷ xs) ys =
-      let rest = sum_more (λ c. k c || cell_eq x.cell c) xs ys in
-      let same : sum_of_new amount (λ c. (k c || cell_eq x.cell c) || is_asked xs c) ys
-      ≡ sum_of_new amount (λ c. k c || (cell_eq x.cell c || is_asked xs c)) ys =
-      sum_same (λ c. (k c || cell_eq x.cell c) || is_asked xs c) (λ c. k c || (cell_eq x.cell c || is_asked xs c)) ys
-      (λ c. or_assoc (k c) (cell_eq x.cell c) (is_asked xs c)) in
+      let rest = sum_more (λ c. k c || layer_cell_eq x.cell c) xs ys in
+      let same : sum_of_new amount (λ c. (k c || layer_cell_eq x.cell c) || is_asked xs c) ys
+      ≡ sum_of_new amount (λ c. k c || (layer_cell_eq x.cell c || is_asked xs c)) ys =
+      sum_same (λ c. (k c || layer_cell_eq x.cell c) || is_asked xs c) (λ c. k c || (layer_cell_eq x.cell c || is_asked xs c)) ys
+      (λ c. or_assoc (k c) (layer_cell_eq x.cell c) (is_asked xs c)) in
       omega (arith, rest, same)
 
-pub asked_more : (xs ys : List AskedCell) (c : Cell) → is_asked (xs ++ ys) c ≡ (is_asked xs c || is_asked ys c)
+pub asked_more : (xs ys : List AskedCell) (c : LayerCell) → is_asked (xs ++ ys) c ≡ (is_asked xs c || is_asked ys c)
 asked_more [] ys c = refl
 asked_more (x ∷ xs) ys c =
-    ap (λ b. cell_eq x.cell c || b) (asked_more xs ys c) ∙ sym (or_assoc (cell_eq x.cell c) (is_asked xs c) (is_asked ys c))
+    ap (λ b. layer_cell_eq x.cell c || b) (asked_more xs ys c) ∙ sym (or_assoc (layer_cell_eq x.cell c) (is_asked xs c) (is_asked ys c))
 
 turn : (a b : Bool) (v : Evaluated) (o : Option Evaluated)
     → (if b then Some v else (if a then Some v else o)) ≡ (if a || b then Some v else o)
@@ -56,18 +54,18 @@ if_failed : {X Y : Type 0} (r : Result X Y) (P : X → Type 0) → IsErr r → I
 if_failed (Ok x) P failed = absurd (cc)
 if_failed (Err y) P failed = tt
 
-module _ (meaning : Cell → Evaluated) where
-  kept_more : (xs ys : List AskedCell) (k : KeptValues) (c : Cell)
+module _ (meaning : LayerCell → Evaluated) where
+  kept_more : (xs ys : List AskedCell) (k : KeptValues) (c : LayerCell)
       → kept_after meaning ys (kept_after meaning xs k) c ≡ kept_after meaning (xs ++ ys) k c
   kept_more xs ys k c = turn (is_asked xs c) (is_asked ys c) (meaning c) (k c)
       ∙ ap (λ b. if b then Some (meaning c) else k c) (sym (asked_more xs ys c))
 
-  kept_is : (xs : List AskedCell) (k new : KeptValues) → ((c : Cell) → new c ≡ kept_after meaning xs k c) → (c : Cell)
+  kept_is : (xs : List AskedCell) (k new : KeptValues) → ((c : LayerCell) → new c ≡ kept_after meaning xs k c) → (c : LayerCell)
       → is_kept new c ≡ (is_kept k c || is_asked xs c)
   kept_is xs k new h c = ap is_some (h c) ∙ some_or (is_asked xs c) (meaning c) (k c)
 
   -- what is kept after cells were asked is right where it was before
-  pub right_after : (xs : List AskedCell) (k new : KeptValues) → ((c : Cell) → new c ≡ kept_after meaning xs k c)
+  pub right_after : (xs : List AskedCell) (k new : KeptValues) → ((c : LayerCell) → new c ≡ kept_after meaning xs k c)
       → AreRight meaning k → AreRight meaning new
   right_after xs k new h right c e same =
       right_by (is_asked xs c) (meaning c) e (k c) (right c e) (sym (h c) ∙ same)
@@ -84,11 +82,11 @@ module _ (meaning : Cell → Evaluated) where
 
   -- Of the cells to be asked these are left, and so many were evaluated of the others.
   pub record Remain (left asked : List AskedCell) (old now : KeptValues) (n before after : ℕ) : Type 0 where
-    pub kept : (c : Cell) → kept_after meaning left now c ≡ kept_after meaning asked old c
-    pub counted : n + evaluations now left ≡ evaluations old asked
+    pub kept : (c : LayerCell) → kept_after meaning left now c ≡ kept_after meaning asked old c
+    pub counted : n + evaluations (is_kept now) left ≡ evaluations (is_kept old) asked
     pub least : before + n ≤ after
-    pub most : after + total_nodes now left ≤ before + total_nodes old asked
-    pub stays : (c : Cell) (value : Evaluated) → old c ≡ Some value → now c ≡ Some value
+    pub most : after + total_nodes (is_kept now) left ≤ before + total_nodes (is_kept old) asked
+    pub stays : (c : LayerCell) (value : Evaluated) → old c ≡ Some value → now c ≡ Some value
     pub right : AreRight meaning now
     pub meant : AreMeant meaning left
 
@@ -116,17 +114,17 @@ module _ (meaning : Cell → Evaluated) where
     first_meant = meant_first xs left r.meant
 
     within : {X : Type 0} (result : Result ℕ X) → Asks meaning xs now new result mid after
-        → after + sum_of_new (λ (a : AskedCell). a.nodes) (λ c. is_kept now c || is_asked xs c) left ≤ before + total_nodes old asked
+        → after + sum_of_new (λ (a : AskedCell). a.nodes) (λ c. is_kept now c || is_asked xs c) left ≤ before + total_nodes (is_kept old) asked
     within result a =
         let more = sum_more (λ (a : AskedCell). a.nodes) (is_kept now) xs left in
         omega (arith, more, a.most, r.most)
 
     -- An allocation fails.
-    pub stops_most : {X : Type 0} (result : Result ℕ X) → Asks meaning xs now new result mid after → after ≤ before + total_nodes old asked
+    pub stops_most : {X : Type 0} (result : Result ℕ X) → Asks meaning xs now new result mid after → after ≤ before + total_nodes (is_kept old) asked
     stops_most result a = let w = within result a in omega (arith, w)
 
     pub stops_stays : {X : Type 0} (result : Result ℕ X) → Asks meaning xs now new result mid after
-        → (c : Cell) (value : Evaluated) → old c ≡ Some value → new c ≡ Some value
+        → (c : LayerCell) (value : Evaluated) → old c ≡ Some value → new c ≡ Some value
     stops_stays result a c value e = a.stays c value (r.stays c value e)
 
     -- Cells have been asked.
@@ -136,9 +134,9 @@ module _ (meaning : Cell → Evaluated) where
         let h : HaveAsked meaning xs now new m mid after = a.ok in
         let is = kept_is xs now new h.kept in
         let more = sum_more (λ (a : AskedCell). 1) (is_kept now) xs left in
-        let same : evaluations new left ≡ sum_of_new (λ (a : AskedCell). 1) (λ c. is_kept now c || is_asked xs c) left =
+        let same : evaluations (is_kept new) left ≡ sum_of_new (λ (a : AskedCell). 1) (λ c. is_kept now c || is_asked xs c) left =
         sum_same (λ (a : AskedCell). 1) (is_kept new) (λ c. is_kept now c || is_asked xs c) left is in
-        let nodes : total_nodes new left ≡ sum_of_new (λ (a : AskedCell). a.nodes) (λ c. is_kept now c || is_asked xs c) left =
+        let nodes : total_nodes (is_kept new) left ≡ sum_of_new (λ (a : AskedCell). a.nodes) (λ c. is_kept now c || is_asked xs c) left =
         sum_same (λ (a : AskedCell). a.nodes) (is_kept new) (λ c. is_kept now c || is_asked xs c) left is in
         let w = within (Ok m) a in
         record {
@@ -241,10 +239,10 @@ module _ (meaning : Cell → Evaluated) where
 
   -- an asked cell is kept
   pub asked_kept : (asked : List AskedCell) (old new : KeptValues) (n before after : ℕ)
-      → HaveAsked meaning asked old new n before after → (c : Cell) → is_asked asked c ≡ true → new c ≡ Some (meaning c)
+      → HaveAsked meaning asked old new n before after → (c : LayerCell) → is_asked asked c ≡ true → new c ≡ Some (meaning c)
   asked_kept asked old new n before after h c is =
       h.kept c ∙ ap (λ b. if b then Some (meaning c) else old c) is
 
 -- the first cells have no more nodes than all
-pub fewer_asked : (xs ys : List AskedCell) (old : KeptValues) → total_nodes old xs ≤ total_nodes old (xs ++ ys)
+pub fewer_asked : (xs ys : List AskedCell) (old : KeptValues) → total_nodes (is_kept old) xs ≤ total_nodes (is_kept old) (xs ++ ys)
 fewer_asked xs ys old = let more = sum_more (λ (a : AskedCell). a.nodes) (is_kept old) xs ys in omega (arith, more)

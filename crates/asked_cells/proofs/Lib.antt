@@ -1,5 +1,6 @@
 pub mod AskLaws
 pub mod CellLaws
 pub mod FeatureLaws
+pub mod MeantLaws
 pub mod SceneLaws
 pub mod SourceLaws

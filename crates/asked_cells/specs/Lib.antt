@@ -1,7 +1,7 @@
 -- To be believed.
+pub mod Expressions
 pub mod Asked
 pub mod Counted
 pub mod Asking
-pub mod StyleAsked
 -- What clauses see of the program's values.
 pub mod SeenCells

@@ -1,13 +1,15 @@
 //! What is asked of a layer that is shown.
 
-ghost use Rattle.std.specs.Prelude.{◌≡◌, Some, None, length, map};
-ghost use Rattle.layer_buckets.specs.Seen.{HasFeature, IsSound, features_of, kept_at, source_of};
+ghost use Rattle.std.specs.Prelude.{◌≡◌, Some, None, length, map, if◌then◌else◌};
+ghost use Rattle.fixed_num.specs.Number.{floor_of};
+ghost use Rattle.layer_buckets.specs.Seen.{HasFeature, IsSound, features_of, source_of};
 ghost use Rattle.layer_buckets.specs.declared.cell.CellItem.TheVariants.{Filter};
 ghost use Rattle.listing_text.specs.declared.show.Show.TheVariants.{Plain};
 ghost use Rattle.style_layout.specs.CodeView.{feature_seen, property_seen, tile_seen};
 ghost use Rattle.style_layout.specs.Shown.{layer_features, numbered};
 ghost use Rattle.asked_cells.specs.Asked.{IsDecided, common_asked, common_cell, each_asked, feature_asked, feature_number, features_asked, filter_asked, is_listed, item_asked, passed_asked, shown_asked, value_asked, values_asked};
 ghost use Rattle.asked_cells.specs.Asking.{AsksAll, AsksIf, HasSlots, IsAnswer, IsCommonAnswer, LeavesSources, common_answer};
+ghost use Rattle.asked_cells.specs.Counted.{kept_in};
 ghost use Rattle.asked_cells.specs.SeenCells.{HasCellFeature, cell_feature, layer_at, scene_at};
 
 use crate::cell_world::CellWorld;
@@ -19,9 +21,7 @@ use layer_buckets::{Cell, CellItem};
 use outside_io::Steps;
 use std::alloc::AllocError;
 use std::sync::ledger::Ledger;
-use style_layout::{
-    Evaluator, LayerFeature, LayerFeatures, Property, SourceTile, state_of, zoom_at,
-};
+use style_layout::{Evaluator, LayerFeature, LayerFeatures, Property, SourceTile, Zoom, state_of};
 
 impl<E: CountedEvaluator + Drop> ViewCells<E> {
     /// Asks the values that are listed with a layer, and the cells of its features.
@@ -36,10 +36,10 @@ impl<E: CountedEvaluator + Drop> ViewCells<E> {
         requires features { features_of self.old.buckets at.now.number
             ≡ Some (length (layer_features (map tile_seen tiles.now) (layer_at at.now))) }
         ensures sound { IsSound self.new.buckets }
-        ensures sources { LeavesSources self.old.buckets self.new.buckets }
-        ensures asks { AsksIf E.slots
-            (λ t. IsDecided t (scene_at V.tests at.now) (t.source at.now.number Filter) (layer_at at.now))
-            (λ t. shown_asked t (scene_at V.tests at.now) at.now.number (map tile_seen tiles.now) Plain
+        ensures sources { LeavesSources at.now.number self.old.buckets self.new.buckets }
+        ensures asks { AsksIf E.slots at.now.number
+            (λ x. IsDecided (scene_at V.tests at.now) (x Filter) (layer_at at.now))
+            (λ x. shown_asked x (scene_at V.tests at.now) (map tile_seen tiles.now) Plain
             (layer_at at.now))
             self.old.buckets self.new.buckets result steps.old steps.new }
     {
@@ -60,10 +60,10 @@ impl<E: CountedEvaluator + Drop> ViewCells<E> {
         requires features { features_of self.old.buckets at.now.number
             ≡ Some (length (layer_features (map tile_seen tiles.now) (layer_at at.now))) }
         ensures sound { IsSound self.new.buckets }
-        ensures sources { LeavesSources self.old.buckets self.new.buckets }
-        ensures asks { AsksIf E.slots
-            (λ t. IsDecided t (scene_at V.tests at.now) (t.source at.now.number Filter) (layer_at at.now))
-            (λ t. features_asked t (scene_at V.tests at.now) at.now.number (map tile_seen tiles.now)
+        ensures sources { LeavesSources at.now.number self.old.buckets self.new.buckets }
+        ensures asks { AsksIf E.slots at.now.number
+            (λ x. IsDecided (scene_at V.tests at.now) (x Filter) (layer_at at.now))
+            (λ x. features_asked x (scene_at V.tests at.now) (map tile_seen tiles.now)
             (layer_at at.now))
             self.old.buckets self.new.buckets result steps.old steps.new }
     {
@@ -82,8 +82,8 @@ impl<E: CountedEvaluator + Drop> ViewCells<E> {
         requires sound { IsSound self.old.buckets }
         requires slots { HasSlots E.slots self.old.buckets at.now.number }
         ensures sound { IsSound self.new.buckets }
-        ensures sources { LeavesSources self.old.buckets self.new.buckets }
-        ensures asks { AsksAll E.slots (λ t. common_asked t (scene_at V.tests at.now) at.now.number)
+        ensures sources { LeavesSources at.now.number self.old.buckets self.new.buckets }
+        ensures asks { AsksAll E.slots at.now.number (λ x. common_asked x (scene_at V.tests at.now))
             self.old.buckets self.new.buckets result steps.old steps.new }
     {
         let source = self.buckets.source(at.number, CellItem::Filter);
@@ -104,20 +104,19 @@ impl<E: CountedEvaluator + Drop> ViewCells<E> {
         requires slots { HasSlots E.slots self.old.buckets at.now.number }
         requires feature { HasCellFeature self.old.buckets at.now.number (cell_feature feature) }
         ensures sound { IsSound self.new.buckets }
-        ensures sources { LeavesSources self.old.buckets self.new.buckets }
-        ensures asks { AsksAll E.slots
-            (λ t. filter_asked t (scene_at V.tests at.now) at.now.number (cell_feature feature.entry))
+        ensures sources { LeavesSources at.now.number self.old.buckets self.new.buckets }
+        ensures asks { AsksAll E.slots at.now.number
+            (λ x. filter_asked x (scene_at V.tests at.now) (cell_feature feature.entry))
             self.old.buckets self.new.buckets result steps.old steps.new }
     {
-        let zoom = at.scene.zoom.floor();
-        self.ask_item(at, zoom, feature, CellItem::Filter, steps)
+        self.ask_item(at, feature, CellItem::Filter, steps)
     }
 
     // What the filter answers of all features, where it has no cell for each: its one cell is asked before.
     fn common_answer<V>(&self, at: &LayerAt<'_, V>) -> Option<bool>
         requires { IsSound self.now.buckets }
         ensures { result ≡ common_answer (source_of self.now.buckets at.now.number Filter) (layer_at at.now).filter
-            (kept_at self.now.buckets (common_cell at.now.number)) }
+            (kept_in self.now.buckets at.now.number common_cell) }
     {
         let source = self.buckets.source(at.number, CellItem::Filter);
         if has_feature_cells(source) {
@@ -147,10 +146,10 @@ impl<E: CountedEvaluator + Drop> ViewCells<E> {
         requires features { features_of self.old.buckets at.now.number
             ≡ Some (length (layer_features (map tile_seen tiles.now) (layer_at at.now))) }
         ensures sound { IsSound self.new.buckets }
-        ensures sources { LeavesSources self.old.buckets self.new.buckets }
-        ensures asks { AsksIf E.slots
-            (λ t. IsCommonAnswer t (scene_at V.tests at.now) at.now.number (layer_at at.now) answer)
-            (λ t. each_asked t (scene_at V.tests at.now) at.now.number (layer_at at.now)
+        ensures sources { LeavesSources at.now.number self.old.buckets self.new.buckets }
+        ensures asks { AsksIf E.slots at.now.number
+            (λ x. IsCommonAnswer x (scene_at V.tests at.now) (layer_at at.now) answer)
+            (λ x. each_asked x (scene_at V.tests at.now) (layer_at at.now)
             (numbered 0 (layer_features (map tile_seen tiles.now) (layer_at at.now))))
             self.old.buckets self.new.buckets result steps.old steps.new }
     {
@@ -180,10 +179,10 @@ impl<E: CountedEvaluator + Drop> ViewCells<E> {
         requires slots { HasSlots E.slots self.old.buckets at.now.number }
         requires feature { HasFeature (features_of self.old.buckets at.now.number) (Some feature.now.number) }
         ensures sound { IsSound self.new.buckets }
-        ensures sources { LeavesSources self.old.buckets self.new.buckets }
-        ensures asks { AsksIf E.slots
-            (λ t. IsAnswer t (scene_at V.tests at.now) at.now.number (layer_at at.now) answer (feature_seen feature.now))
-            (λ t. feature_asked t (scene_at V.tests at.now) at.now.number (layer_at at.now) (feature_seen feature.now))
+        ensures sources { LeavesSources at.now.number self.old.buckets self.new.buckets }
+        ensures asks { AsksIf E.slots at.now.number
+            (λ x. IsAnswer x (scene_at V.tests at.now) (layer_at at.now) answer (feature_seen feature.now))
+            (λ x. feature_asked x (scene_at V.tests at.now) (layer_at at.now) (feature_seen feature.now))
             self.old.buckets self.new.buckets result steps.old steps.new }
     {
         match answer {
@@ -203,10 +202,10 @@ impl<E: CountedEvaluator + Drop> ViewCells<E> {
         requires slots { HasSlots E.slots self.old.buckets at.now.number }
         requires feature { HasFeature (features_of self.old.buckets at.now.number) (Some feature.now.number) }
         ensures sound { IsSound self.new.buckets }
-        ensures sources { LeavesSources self.old.buckets self.new.buckets }
-        ensures asks { AsksIf E.slots
-            (λ t. IsAnswer t (scene_at V.tests at.now) at.now.number (layer_at at.now) None (feature_seen feature.now))
-            (λ t. feature_asked t (scene_at V.tests at.now) at.now.number (layer_at at.now) (feature_seen feature.now))
+        ensures sources { LeavesSources at.now.number self.old.buckets self.new.buckets }
+        ensures asks { AsksIf E.slots at.now.number
+            (λ x. IsAnswer x (scene_at V.tests at.now) (layer_at at.now) None (feature_seen feature.now))
+            (λ x. feature_asked x (scene_at V.tests at.now) (layer_at at.now) (feature_seen feature.now))
             self.old.buckets self.new.buckets result steps.old steps.new }
     {
         let first = self.ask_filter(at, Some(feature), steps)?;
@@ -232,9 +231,9 @@ impl<E: CountedEvaluator + Drop> ViewCells<E> {
         requires slots { HasSlots E.slots self.old.buckets at.now.number }
         requires feature { HasFeature (features_of self.old.buckets at.now.number) (Some feature.now.number) }
         ensures sound { IsSound self.new.buckets }
-        ensures sources { LeavesSources self.old.buckets self.new.buckets }
-        ensures asks { AsksAll E.slots (λ t. passed_asked t (scene_at V.tests at.now) at.now.number
-            passes (feature_seen feature.now) (layer_at at.now).properties)
+        ensures sources { LeavesSources at.now.number self.old.buckets self.new.buckets }
+        ensures asks { AsksAll E.slots at.now.number (λ x. passed_asked x (scene_at V.tests at.now) passes
+            (feature_seen feature.now) (layer_at at.now).properties)
             self.old.buckets self.new.buckets result steps.old steps.new }
     {
         if passes {
@@ -255,8 +254,8 @@ impl<E: CountedEvaluator + Drop> ViewCells<E> {
         requires slots { HasSlots E.slots self.old.buckets at.now.number }
         requires feature { HasCellFeature self.old.buckets at.now.number (cell_feature feature) }
         ensures sound { IsSound self.new.buckets }
-        ensures sources { LeavesSources self.old.buckets self.new.buckets }
-        ensures asks { AsksAll E.slots (λ t. values_asked t (scene_at V.tests at.now) at.now.number
+        ensures sources { LeavesSources at.now.number self.old.buckets self.new.buckets }
+        ensures asks { AsksAll E.slots at.now.number (λ x. values_asked x (scene_at V.tests at.now)
             (cell_feature feature.entry) (layer_at at.now).properties)
             self.old.buckets self.new.buckets result steps.old steps.new }
     {
@@ -274,8 +273,8 @@ impl<E: CountedEvaluator + Drop> ViewCells<E> {
         requires slots { HasSlots E.slots self.old.buckets at.now.number }
         requires feature { HasCellFeature self.old.buckets at.now.number (cell_feature feature) }
         ensures sound { IsSound self.new.buckets }
-        ensures sources { LeavesSources self.old.buckets self.new.buckets }
-        ensures asks { AsksAll E.slots (λ t. values_asked t (scene_at V.tests at.now) at.now.number
+        ensures sources { LeavesSources at.now.number self.old.buckets self.new.buckets }
+        ensures asks { AsksAll E.slots at.now.number (λ x. values_asked x (scene_at V.tests at.now)
             (cell_feature feature.entry) (map property_seen properties.now))
             self.old.buckets self.new.buckets result steps.old steps.new }
     {
@@ -299,15 +298,13 @@ impl<E: CountedEvaluator + Drop> ViewCells<E> {
         requires slots { HasSlots E.slots self.old.buckets at.now.number }
         requires feature { HasCellFeature self.old.buckets at.now.number (cell_feature feature) }
         ensures sound { IsSound self.new.buckets }
-        ensures sources { LeavesSources self.old.buckets self.new.buckets }
-        ensures asks { AsksAll E.slots (λ t. value_asked t (scene_at V.tests at.now) at.now.number
+        ensures sources { LeavesSources at.now.number self.old.buckets self.new.buckets }
+        ensures asks { AsksAll E.slots at.now.number (λ x. value_asked x (scene_at V.tests at.now)
             (cell_feature feature.entry) (property_seen property.now))
             self.old.buckets self.new.buckets result steps.old steps.new }
     {
         if is_listed(feature, property) {
-            let zoom = zoom_at(at.scene.zoom, property.row.place);
-            let item = CellItem::Property(property.row.number);
-            self.ask_item(at, zoom, feature, item, steps)
+            self.ask_item(at, feature, CellItem::Property(property.row.number), steps)
         } else {
             Ok(0)
         }
@@ -317,7 +314,6 @@ impl<E: CountedEvaluator + Drop> ViewCells<E> {
     fn ask_item<V: Evaluator, L: Ledger>(
         &mut self,
         at: &LayerAt<'_, V>,
-        zoom: Fixed,
         feature: Option<&LayerFeature<'_>>,
         item: CellItem,
         steps: &mut Steps<L>,
@@ -326,14 +322,14 @@ impl<E: CountedEvaluator + Drop> ViewCells<E> {
         requires slots { HasSlots E.slots self.old.buckets at.now.number }
         requires feature { HasCellFeature self.old.buckets at.now.number (cell_feature feature) }
         ensures sound { IsSound self.new.buckets }
-        ensures sources { LeavesSources self.old.buckets self.new.buckets }
-        ensures asks { AsksAll E.slots
-            (λ t. item_asked t (scene_at V.tests at.now) at.now.number zoom (cell_feature feature.entry) item)
+        ensures sources { LeavesSources at.now.number self.old.buckets self.new.buckets }
+        ensures asks { AsksAll E.slots at.now.number
+            (λ x. item_asked x (scene_at V.tests at.now) (cell_feature feature.entry) item)
             self.old.buckets self.new.buckets result steps.old steps.new }
     {
         match self.buckets.source(at.number, item) {
             None => Ok(0),
-            Some(_) => {
+            Some(source) => {
                 let cell = Cell {
                     layer: at.number,
                     feature: number_of(feature),
@@ -341,7 +337,7 @@ impl<E: CountedEvaluator + Drop> ViewCells<E> {
                 };
                 let world = CellWorld {
                     scene: at.scene,
-                    zoom,
+                    zoom: zoom_for(at.scene.zoom, source.paint),
                     feature,
                 };
                 self.buckets
@@ -349,6 +345,13 @@ impl<E: CountedEvaluator + Drop> ViewCells<E> {
             }
         }
     }
+}
+
+// The zoom that a value sees: a paint value the zoom, and every other its floor.
+fn zoom_for(zoom: Zoom, paint: bool) -> Fixed
+    ensures { result ≡ (if paint then zoom else floor_of zoom) }
+{
+    if paint { zoom.exact() } else { zoom.floor() }
 }
 
 // Whether a value is listed with the feature, or with the layer.

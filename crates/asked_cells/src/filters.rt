@@ -3,7 +3,8 @@
 ghost use Rattle.std.specs.Prelude.{◌≡◌, ◌+◌, IfOk};
 ghost use Rattle.layer_buckets.specs.Outcomes.{seen_outcome};
 ghost use Rattle.style_layout.specs.CodeView.{filter_seen};
-ghost use Rattle.asked_cells.specs.Asked.{constant_answer, has_feature_cells, passes_by};
+ghost use Rattle.asked_cells.specs.Asked.{constant_answer};
+ghost use Rattle.asked_cells.specs.Asking.{has_feature_cells, passes_by};
 
 use expr_syntax::Expr;
 use layer_buckets::Source;
@@ -12,7 +13,7 @@ use std::alloc::AllocError;
 use style_layout::LayerFilter;
 
 /// What a filter that has no cell answers of every feature: a truth value, or true where there is no filter.
-pub(crate) fn constant_answer(filter: &LayerFilter) -> bool
+pub fn constant_answer(filter: &LayerFilter) -> bool
     ensures { result ≡ constant_answer (filter_seen filter.now) }
 {
     match filter {
@@ -23,7 +24,7 @@ pub(crate) fn constant_answer(filter: &LayerFilter) -> bool
 }
 
 /// Whether a filter has a cell for each feature: where it reads one or its state.
-pub(crate) fn has_feature_cells(source: Option<Source>) -> bool
+pub fn has_feature_cells(source: Option<Source>) -> bool
     ensures { result ≡ has_feature_cells source }
 {
     match source {
@@ -33,7 +34,7 @@ pub(crate) fn has_feature_cells(source: Option<Source>) -> bool
 }
 
 /// Whether the value of a filter lets a feature pass. A fault is false.
-pub(crate) fn is_passed(value: Option<Result<&Value, EvalFault>>) -> bool
+pub fn is_passed(value: Option<Result<&Value, EvalFault>>) -> bool
     ensures { result ≡ passes_by (seen_outcome value.entry) }
 {
     match value {
@@ -44,7 +45,7 @@ pub(crate) fn is_passed(value: Option<Result<&Value, EvalFault>>) -> bool
 
 /// A sum of evaluations. Each evaluated cell takes memory, so one beyond `u64::MAX` is refused as a failed
 /// allocation is.
-pub(crate) fn sum_of(first: u64, second: u64) -> Result<u64, AllocError>
+pub fn sum_of(first: u64, second: u64) -> Result<u64, AllocError>
     ensures { IfOk result (λ sum. sum ≡ first + second) }
 {
     match first.checked_add(second) {

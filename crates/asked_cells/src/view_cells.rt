@@ -4,15 +4,11 @@ ghost use Rattle.std.specs.Prelude.{◌≡◌, ℕ, ◌<◌, Some, None, IfOk, O
 ghost use Rattle.layer_buckets.specs.Seen.{IsSound, evaluator_of, features_of, kept_at, source_of};
 ghost use Rattle.layer_buckets.specs.declared.cell.Cell.{Cell};
 ghost use Rattle.layer_buckets.specs.declared.cell.CellItem.{CellItem};
-ghost use Rattle.layer_buckets.specs.declared.cell.CellItem.TheVariants.{Filter};
 ghost use Rattle.style_layout.specs.CodeView.{layer_seen, tile_seen};
 ghost use Rattle.style_layout.specs.Shown.{layer_features};
-ghost use Rattle.asked_cells.specs.Asked.{IsDecided, layer_asked};
-ghost use Rattle.asked_cells.specs.Asking.{AsksIf, HasSlots, LeavesSources};
+ghost use Rattle.asked_cells.specs.Asking.{AsksLayer, HasSlots, LeavesSources};
 ghost use Rattle.asked_cells.specs.SeenCells.{layer_at, scene_at};
-ghost use Rattle.asked_cells.specs.StyleAsked.{AreDecided, AreReady, style_asked};
 
-use crate::filters::sum_of;
 use expr_nodes::{CountedEvaluator, Workspace};
 use layer_buckets::Buckets;
 use listing_text::Show;
@@ -89,12 +85,9 @@ impl<E: CountedEvaluator + Drop> ViewCells<E> {
         requires features { features_of self.old.buckets at.now.number
             ≡ Some (length (layer_features (map tile_seen tiles.now) (layer_at at.now))) }
         ensures sound { IsSound self.new.buckets }
-        ensures sources { LeavesSources self.old.buckets self.new.buckets }
-        ensures asks { AsksIf E.slots
-            (λ t. IsDecided t (scene_at V.tests at.now) (t.source at.now.number Filter) (layer_at at.now))
-            (λ t. layer_asked t (scene_at V.tests at.now) at.now.number (map tile_seen tiles.now)
-            (layer_at at.now))
-            self.old.buckets self.new.buckets result steps.old steps.new }
+        ensures sources { LeavesSources at.now.number self.old.buckets self.new.buckets }
+        ensures asks { AsksLayer E.slots at.now.number (scene_at V.tests at.now) (map tile_seen tiles.now)
+            (layer_at at.now) self.old.buckets self.new.buckets result steps.old steps.new }
     {
         match at.layer.show(at.scene.zoom.exact()) {
             Show::Hidden => Ok(0),
@@ -102,29 +95,6 @@ impl<E: CountedEvaluator + Drop> ViewCells<E> {
             Show::OutsideFilter => self.ask_values(at, None, steps),
             Show::Plain => self.ask_plain(at, tiles, steps),
         }
-    }
-
-    /// Asks the cells that a listing asks of layers, one layer after another, as `ask_layer` does.
-    pub fn ask_style<V: Evaluator, L: Ledger>(
-        &mut self,
-        layers: &[LayerAt<'_, V>],
-        tiles: &[SourceTile<'_>],
-        steps: &mut Steps<L>,
-    ) -> Result<u64, AllocError>
-        requires sound { IsSound self.old.buckets }
-        requires ready { AreReady E.slots (map tile_seen tiles.now) self.old.buckets layers.now }
-        ensures sound { IsSound self.new.buckets }
-        ensures sources { LeavesSources self.old.buckets self.new.buckets }
-        ensures asks { AsksIf E.slots (λ t. AreDecided V.tests t layers.now)
-            (λ t. style_asked V.tests t (map tile_seen tiles.now) layers.now)
-            self.old.buckets self.new.buckets result steps.old steps.new }
-    {
-        let mut number = 0;
-        for at in layers {
-            let more = self.ask_layer(at, tiles, steps)?;
-            number = sum_of(number, more)?;
-        }
-        Ok(number)
     }
 }
 

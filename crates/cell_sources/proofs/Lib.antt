@@ -1,3 +1,7 @@
 pub mod SourcedLaws
 pub mod ValueExpressions
 pub mod FilterExpressions
+pub mod LayerProperties
+pub mod CellsAlike
+pub mod ReadWithoutGlobals
+pub mod SameExpressions

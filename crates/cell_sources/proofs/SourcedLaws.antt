@@ -1,8 +1,8 @@
 -- Sources stay what they are where expressions come, and what one call leaves and then another leaves both.
-use Rattle.std.proofs.Common.{◌≡◌, ◌∙◌, ℕ, zero, suc, ◌+◌, ◌<◌, ◌≤◌, List, [], ◌∷◌, ◌++◌, length, refl, ap, sym, subst, inl, inr, arith}
-use Rattle.std.specs.Prelude.{◌⊎◌, Option, Some, None, if◌then◌else◌}
+use Rattle.std.proofs.Common.{◌≡◌, ◌≢◌, ◌∙◌, ℕ, zero, suc, ◌+◌, ◌<◌, ◌≤◌, List, [], ◌∷◌, ◌++◌, length, refl, ap, sym, subst, inl, inr, arith, true, false}
+use Rattle.std.specs.Prelude.{◌⊎◌, Bool, Option, Some, None, if◌then◌else◌}
 use Rattle.std.specs.List.{slice_get}
-use Rattle.std.proofs.lemmas.Bool.{false_from_ne_true}
+use Rattle.std.proofs.lemmas.Bool.{false≢true, false_from_ne_true}
 use Rattle.std.proofs.lemmas.List.{append-nil, append_assoc}
 use Rattle.std.proofs.lemmas.Option.{slice_get_within}
 use Rattle.expr_syntax.specs.Mentioned.{mentions}
@@ -15,8 +15,8 @@ use Rattle.layer_buckets.specs.declared.buckets.Buckets.{Buckets}
 use Rattle.layer_buckets.specs.declared.cell.CellItem.{CellItem}
 use Rattle.layer_buckets.specs.declared.cell.CellItem.TheVariants as items
 use Rattle.layer_buckets.specs.declared.cell.Source.{Source}
-use Rattle.cell_sources.specs.CellExpressions.{CellExpression}
-use Rattle.cell_sources.specs.Sourced.{HasExpressions, HasFirst, IsLonger, IsSourced, LeavesOthers, SetsItem}
+use Rattle.asked_cells.specs.Expressions.{CellExpression, HasExpressions, IsSourced, LayerExpressions}
+use Rattle.cell_sources.specs.Sourced.{HasFirst, IsLonger, KeepsNoMore, LeavesOthers, SetsItem}
 
 get_front : {A : Type 0} (xs ys : List A) (i : ℕ) → i < length xs → slice_get (xs ++ ys) i ≡ slice_get xs i
 get_front [] ys i h = absurd (omega (arith, h))
@@ -59,6 +59,9 @@ longer_itself xs = ([], sym (append-nil xs))
 
 pub longer_again : {A : Type 0} (xs ys zs : List A) → IsLonger xs ys → IsLonger ys zs → IsLonger xs zs
 longer_again xs ys zs (more, is) (others, also) = (more ++ others, also ∙ ap (λ l. l ++ others) is ∙ append_assoc xs more others)
+
+pub keeps_more : {E : Type 0} (a b c : Buckets E) → KeepsNoMore a b → KeepsNoMore b c → KeepsNoMore a c
+keeps_more a b c first more cell value is = first cell value (more cell value is)
 
 module _ {E : Type 0} (slots : E → List Sized) (layer : ℕ) where
   pub others_themselves : (b : Buckets E) → LeavesOthers slots layer b b
@@ -105,7 +108,7 @@ module _ {E : Type 0} (slots : E → List Sized) (layer : ℕ) where
   }
 
   -- one property more, and the filter at last
-  module _ (expression_of : CellItem → Option CellExpression) where
+  module _ (expression_of : LayerExpressions) where
     pub none_first : (b : Buckets E) → ((item : CellItem) → source_of b layer item ≡ None) → HasFirst slots layer 0 expression_of b
     none_first b bare = record {
       first = λ n h. absurd (omega (arith, h));
@@ -149,3 +152,28 @@ module _ {E : Type 0} (slots : E → List Sized) (layer : ℕ) where
           left.expressions (has.first n below))
       by_place (inr later) = subst (λ e. IsSourced (slots (evaluator_of b)) (items.Property n) e (source_of b layer (items.Property n))) (sym (past n later))
           (stays ∙ has.later n later)
+
+  -- ---- expressions after an item of a layer got its source
+
+  module _ (a b : Buckets E) (left : LeavesOthers slots layer a b) where
+    -- of the layer, where no other item has another expression now
+    pub expressions_after : (old new : LayerExpressions) (item : CellItem) → HasExpressions slots layer old a
+        → SetsItem slots layer item (new item) a b → ((other : CellItem) → item ≢ other → new other ≡ old other)
+        → HasExpressions slots layer new b
+    expressions_after old new item had set same other = by (is_item layer item layer other) refl
+      where
+        by : (own : Bool) → is_item layer item layer other ≡ own → IsSourced (slots (evaluator_of b)) other (new other) (source_of b layer other)
+        by true is =
+            subst (λ i. IsSourced (slots (evaluator_of b)) i (new i) (source_of b layer i)) (is_item_true layer layer item other is).1 set.own
+        by false is =
+            let apart : item ≢ other = λ e. false≢true (sym is ∙ is_item_same layer layer item other refl e) in
+            let before = subst (λ e. IsSourced (slots (evaluator_of a)) other e (source_of a layer other)) (sym (same other apart)) (had other) in
+            subst (IsSourced (slots (evaluator_of b)) other (new other)) (sym (set.others other apart))
+            (sourced_longer (slots (evaluator_of a)) (slots (evaluator_of b)) other (new other) (source_of a layer other) left.expressions before)
+
+    -- of another layer
+    pub others_after : (l : ℕ) (expressions : LayerExpressions) → layer ≢ l → HasExpressions slots l expressions a
+        → HasExpressions slots l expressions b
+    others_after l expressions apart had item =
+        subst (IsSourced (slots (evaluator_of b)) item (expressions item)) (sym (left.source l item apart))
+        (sourced_longer (slots (evaluator_of a)) (slots (evaluator_of b)) item (expressions item) (source_of a l item) left.expressions (had item))

@@ -1,17 +1,14 @@
 -- The expression that gives the value of an item of a layer, whatever form the value has. Source: own.
-use Rattle.std.specs.Prelude.{ℕ, List, codes, Bool, true, false, Option, Some, None, Ok, Err, option_map, if◌then◌else◌}
+use Rattle.std.specs.Prelude.{ℕ, ◌<◌, List, length, codes, Bool, true, false, Option, Some, None, Ok, Err, option_map, if◌then◌else◌}
 use Rattle.std.specs.List.{slice_get}
 use Rattle.std.specs.Option.{option_and_then}
 use Rattle.decimal_json.specs.Tree.{Tree, text}
 use Rattle.decimal_json.specs.Tree as trees
 use Rattle.decimal_json.specs.Accessors.{member}
 use Rattle.prop_values.specs.Data.{Data}
-use Rattle.prop_values.specs.declared.kinds.Want.{Want}
 use Rattle.prop_values.specs.declared.kinds.Want.TheVariants as wants
 use Rattle.property_tables.specs.Rows.{RowData, rows_of}
 use Rattle.property_tables.specs.declared.layer_type.LayerType.{LayerType}
-use Rattle.property_tables.specs.declared.property_row.Place.{Place}
-use Rattle.property_tables.specs.declared.property_row.Place.TheVariants.{Layout, Paint}
 use Rattle.expr_syntax.specs.Reading.{Reading, reading_with}
 use Rattle.expr_syntax.specs.ReadView.{uses_globals}
 use Rattle.expr_syntax.specs.Term.{Term}
@@ -25,17 +22,10 @@ use Rattle.legacy_functions.specs.Tokens.{token_expression}
 use Rattle.value_forms.specs.Forms.{form_of}
 use Rattle.value_forms.specs.declared.forms.Form.{Form}
 use Rattle.value_forms.specs.declared.forms.Form.TheVariants as forms
+use Rattle.asked_cells.specs.Expressions.{CellExpression, LayerExpressions, is_paint}
 use Rattle.layer_buckets.specs.declared.cell.CellItem.{CellItem}
 use Rattle.layer_buckets.specs.declared.cell.CellItem.TheVariants as items
 use Rattle.style_layout.specs.Layers.{has_features, is_visibility, set_value}
-
--- An expression under a want. It sees the zoom as a paint value does or its floor, and it was read by the values of the
--- global state or needs none.
-pub record CellExpression : Type 0 where
-  pub term : Term
-  pub want : Want
-  pub paint : Bool
-  pub globals : Bool
 
 -- Of a document without findings an expression reads without a fault.
 abbrev pub term_read : Reading → Option Term
@@ -69,10 +59,6 @@ formed_tree forms.Literal row t = None
 
 abbrev pub value_tree : RowData → Tree → Option Tree
 value_tree row t = formed_tree (form_of row t) row t
-
-abbrev pub is_paint : Place → Bool
-is_paint Paint = true
-is_paint Layout = false
 
 abbrev pub expression_of_value : RowData → Bool → Term → CellExpression
 expression_of_value row globals e = record { term = e; want = row.want; paint = is_paint row.place; globals = globals }
@@ -119,6 +105,11 @@ filter_expression globals t = read_as_filter globals (filter_tree t)
 
 -- ---- a layer
 
+-- A layer of a type has a filter, and a property for each row of the type.
+abbrev pub IsItemOf : LayerType → CellItem → Type 0
+IsItemOf type items.Filter = Unit {0}
+IsItemOf type (items.Property number) = number < length (rows_of type)
+
 module _ (globals : List (List ℕ × Data)) (type : LayerType) (layer : Tree) where
   -- `visibility` says whether the layer is shown, and has no value of its own.
   abbrev pub row_expression : RowData → Option CellExpression
@@ -127,7 +118,7 @@ module _ (globals : List (List ℕ × Data)) (type : LayerType) (layer : Tree) w
 
   -- What gives the value of an item of a layer. A property that is not set and a literal need nothing, and neither does
   -- the filter of a type that shows no features.
-  abbrev pub item_expression : CellItem → Option CellExpression
+  abbrev pub item_expression : LayerExpressions
   item_expression items.Filter =
       if has_features type then option_and_then (filter_expression globals) (member (codes "filter") layer) else None
   item_expression (items.Property number) = option_and_then row_expression (slice_get (rows_of type) number)

@@ -6,7 +6,8 @@ ghost use Rattle.property_tables.specs.RowView.{row_seen};
 ghost use Rattle.legacy_functions.specs.Form.{form};
 ghost use Rattle.legacy_functions.specs.View.{function_of, row_of};
 ghost use Rattle.legacy_filters.specs.Form.{reading};
-ghost use Rattle.cell_sources.specs.CellExpressions.{filter_expression, filter_read, is_paint, read_as_filter, read_as_value, value_expression, value_read, function_tree, tokens_tree, legacy_tree};
+ghost use Rattle.asked_cells.specs.Expressions.{is_paint};
+ghost use Rattle.cell_sources.specs.CellExpressions.{filter_expression, filter_read, read_as_filter, read_as_value, value_expression, value_read, function_tree, tokens_tree, legacy_tree};
 ghost use Rattle.cell_sources.specs.Views.{expression_seen};
 
 use decimal_json::Json;
@@ -19,7 +20,7 @@ use value_forms::{Form, form_of};
 
 /// An expression by which the cells of an item are evaluated.
 #[derive(Drop)]
-pub(crate) struct CellExpression {
+pub(crate) struct ItemExpression {
     pub(crate) expression: Expr,
     pub(crate) want: Want,
     /// It sees the zoom as a paint value does, and else its floor.
@@ -34,7 +35,7 @@ pub(crate) fn value_expression(
     row: &Row,
     globals: &Entries,
     json: &Json,
-) -> Result<Option<CellExpression>, AllocError>
+) -> Result<Option<ItemExpression>, AllocError>
     ensures { IfOk result (λ made. option_map expression_seen made ≡ value_expression (row_seen row.now) globals.now (tree_of json.now)) }
 {
     match form_of(row, json) {
@@ -50,11 +51,11 @@ fn value_read(
     row: &Row,
     globals: &Entries,
     json: &Json,
-) -> Result<Option<CellExpression>, AllocError>
+) -> Result<Option<ItemExpression>, AllocError>
     ensures { IfOk result (λ made. option_map expression_seen made ≡ value_read (row_seen row.now) globals.now (tree_of json.now)) }
 {
     match read_with(alloc, json, globals)? {
-        Ok(Reading::Inside(expression)) => Ok(Some(CellExpression {
+        Ok(Reading::Inside(expression)) => Ok(Some(ItemExpression {
             expression,
             want: row.want,
             paint: is_paint(row.place),
@@ -78,7 +79,7 @@ fn function_read(
     row: &Row,
     globals: &Entries,
     json: &Json,
-) -> Result<Option<CellExpression>, AllocError>
+) -> Result<Option<ItemExpression>, AllocError>
     ensures { IfOk result (λ made. option_map expression_seen made
         ≡ read_as_value (row_seen row.now) globals.now (function_tree (row_seen row.now) (form (row_seen row.now) (tree_of json.now)))) }
 {
@@ -94,7 +95,7 @@ fn migrated_read(
     row: &Row,
     globals: &Entries,
     function: &Function,
-) -> Result<Option<CellExpression>, AllocError>
+) -> Result<Option<ItemExpression>, AllocError>
     requires { row_of function.now ≡ row_seen row.now }
     ensures { IfOk result (λ made. option_map expression_seen made
         ≡ read_as_value (row_seen row.now) globals.now (function_tree (row_seen row.now) (Some (Some (function_of function.now))))) }
@@ -108,7 +109,7 @@ fn tokens_read(
     row: &Row,
     globals: &Entries,
     json: &Json,
-) -> Result<Option<CellExpression>, AllocError>
+) -> Result<Option<ItemExpression>, AllocError>
     ensures { IfOk result (λ made. option_map expression_seen made
         ≡ read_as_value (row_seen row.now) globals.now (tokens_tree (tree_of json.now))) }
 {
@@ -126,7 +127,7 @@ pub(crate) fn filter_expression(
     alloc: Global,
     globals: &Entries,
     json: &Json,
-) -> Result<Option<CellExpression>, AllocError>
+) -> Result<Option<ItemExpression>, AllocError>
     ensures { IfOk result (λ made. option_map expression_seen made ≡ filter_expression globals.now (tree_of json.now)) }
 {
     if let Json::Bool(_) = json {
@@ -142,7 +143,7 @@ fn legacy_read(
     alloc: Global,
     globals: &Entries,
     json: &Json,
-) -> Result<Option<CellExpression>, AllocError>
+) -> Result<Option<ItemExpression>, AllocError>
     ensures { IfOk result (λ made. option_map expression_seen made
         ≡ read_as_filter globals.now (legacy_tree (reading (tree_of json.now)))) }
 {
@@ -159,11 +160,11 @@ fn filter_read(
     alloc: Global,
     globals: &Entries,
     json: &Json,
-) -> Result<Option<CellExpression>, AllocError>
+) -> Result<Option<ItemExpression>, AllocError>
     ensures { IfOk result (λ made. option_map expression_seen made ≡ filter_read globals.now (tree_of json.now)) }
 {
     match read_with(alloc, json, globals)? {
-        Ok(Reading::Inside(expression)) => Ok(Some(CellExpression {
+        Ok(Reading::Inside(expression)) => Ok(Some(ItemExpression {
             expression,
             want: Want::Boolean,
             paint: false,

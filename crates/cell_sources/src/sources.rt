@@ -1,6 +1,6 @@
 //! The sources of a layer's items.
 
-ghost use Rattle.std.specs.Prelude.{◌≡◌, ◌<◌, ℕ, ◌++◌, ◌∷◌, [], None, Some, true, is_some, length, option_map, slice_get, IfOk, OnOk, OnErr};
+ghost use Rattle.std.specs.Prelude.{◌≡◌, ◌<◌, ℕ, ◌++◌, ◌∷◌, [], None, Some, true, is_some, length, option_map, slice_get, if◌then◌else◌, IfOk, OnOk, OnErr};
 ghost use Rattle.decimal_json.specs.Tree.{object, fields_of};
 ghost use Rattle.property_tables.specs.Rows.{rows_of};
 ghost use Rattle.property_tables.specs.RowView.{row_seen};
@@ -11,11 +11,12 @@ ghost use Rattle.layer_buckets.specs.declared.cell.Cell.{Cell};
 ghost use Rattle.layer_buckets.specs.declared.cell.CellItem.{CellItem};
 ghost use Rattle.layer_buckets.specs.declared.cell.CellItem.TheVariants as items;
 ghost use Rattle.style_layout.specs.Layers.{has_features};
-ghost use Rattle.cell_sources.specs.CellExpressions.{item_expression, row_expression};
-ghost use Rattle.cell_sources.specs.Sourced.{HasExpressions, LeavesOthers, SetsItem};
+ghost use Rattle.asked_cells.specs.Expressions.{HasExpressions};
+ghost use Rattle.cell_sources.specs.CellExpressions.{IsItemOf, item_expression, row_expression};
+ghost use Rattle.cell_sources.specs.Sourced.{KeepsNoMore, KeepsOthers, LeavesOthers, SetsItem};
 ghost use Rattle.cell_sources.specs.Views.{expression_seen};
 
-use crate::expressions::{CellExpression, filter_expression, value_expression};
+use crate::expressions::{ItemExpression, filter_expression, value_expression};
 use decimal_json::Members;
 use dependency_sets::mentions;
 use expr_nodes::{BoxedExpression, CountedEvaluator};
@@ -36,8 +37,8 @@ pub struct LayerValues<'a> {
 }
 
 /// Gives each item of a layer the source of its expression, and puts the expressions into the evaluator. The layer is
-/// there and has no source yet. Takes time linear in the layer. Where an allocation fails, some of the items have
-/// theirs, and other layers are as they were.
+/// there and has no source yet. Takes time linear in the layer. What is kept was kept before. Where an allocation
+/// fails, some of the items have theirs, and other layers are as they were.
 pub fn add_sources(
     alloc: Global,
     number: u32,
@@ -51,12 +52,58 @@ pub fn add_sources(
     ensures others { LeavesOthers ⟦<Pool as CountedEvaluator>⟧.slots number buckets.old buckets.new }
     ensures sources { OnOk result (HasExpressions ⟦<Pool as CountedEvaluator>⟧.slots number
         (item_expression layer.now.globals.now layer.now.layer_type (object (fields_of layer.now.members.now))) buckets.new) }
+    ensures kept { KeepsNoMore buckets.old buckets.new }
 {
     for row in 0..row_count(layer.layer_type) {
         add_property(alloc, number, layer, row, buckets)?;
     }
     let expression = layer_filter(alloc, layer)?;
     add_item(alloc, number, CellItem::Filter, expression, buckets)
+}
+
+/// After an edit of an item of a layer: drops the values of the item, and gives it the source of its expression, or
+/// takes its source away where it has none. The layer is there. Takes time linear in the item's value in the style and
+/// in its kept values. An expression that the item had before stays in the evaluator. Where an allocation fails, the
+/// item has no source.
+pub fn set_item(
+    alloc: Global,
+    number: u32,
+    layer: &LayerValues<'_>,
+    item: CellItem,
+    buckets: &mut Buckets<Pool>,
+) -> Result<(), AllocError>
+    requires sound { IsSound buckets.old }
+    requires there { is_some (features_of buckets.old number) ≡ true }
+    requires row { IsItemOf layer.now.layer_type item }
+    ensures sound { IsSound buckets.new }
+    ensures others { LeavesOthers ⟦<Pool as CountedEvaluator>⟧.slots number buckets.old buckets.new }
+    ensures source { OnOk result (SetsItem ⟦<Pool as CountedEvaluator>⟧.slots number item
+        (item_expression layer.now.globals.now layer.now.layer_type (object (fields_of layer.now.members.now)) item)
+        buckets.old buckets.new) }
+    ensures err { OnErr result (SetsItem ⟦<Pool as CountedEvaluator>⟧.slots number item None
+        buckets.old buckets.new) }
+    ensures kept { (cell : Cell) → kept_at buckets.new cell
+        ≡ (if is_item number item cell.layer cell.item then None else kept_at buckets.old cell) }
+{
+    buckets.remove_source(number, &item);
+    let expression = item_expression(alloc, layer, item)?;
+    add_item(alloc, number, item, expression, buckets)
+}
+
+// The expression of an item of a layer.
+fn item_expression(
+    alloc: Global,
+    layer: &LayerValues<'_>,
+    item: CellItem,
+) -> Result<Option<ItemExpression>, AllocError>
+    requires { IsItemOf layer.now.layer_type item }
+    ensures { IfOk result (λ made. option_map expression_seen made
+        ≡ item_expression layer.now.globals.now layer.now.layer_type (object (fields_of layer.now.members.now)) item) }
+{
+    match item {
+        CellItem::Filter => layer_filter(alloc, layer),
+        CellItem::Property(row) => property_expression(alloc, layer, row),
+    }
 }
 
 fn add_property(
@@ -75,6 +122,7 @@ fn add_property(
     ensures source { OnOk result (SetsItem ⟦<Pool as CountedEvaluator>⟧.slots number (items.Property row)
         (item_expression layer.now.globals.now layer.now.layer_type (object (fields_of layer.now.members.now)) (items.Property row))
         buckets.old buckets.new) }
+    ensures kept { KeepsNoMore buckets.old buckets.new }
 {
     let expression = property_expression(alloc, layer, row)?;
     add_item(alloc, number, CellItem::Property(row), expression, buckets)
@@ -85,7 +133,7 @@ fn property_expression(
     alloc: Global,
     layer: &LayerValues<'_>,
     row: u16,
-) -> Result<Option<CellExpression>, AllocError>
+) -> Result<Option<ItemExpression>, AllocError>
     requires { row < length (rows_of layer.now.layer_type) }
     ensures { IfOk result (λ made. option_map expression_seen made
         ≡ item_expression layer.now.globals.now layer.now.layer_type (object (fields_of layer.now.members.now)) (items.Property row)) }
@@ -107,7 +155,7 @@ fn row_expression(
     alloc: Global,
     layer: &LayerValues<'_>,
     row: &Row,
-) -> Result<Option<CellExpression>, AllocError>
+) -> Result<Option<ItemExpression>, AllocError>
     ensures { IfOk result (λ made. option_map expression_seen made
         ≡ row_expression layer.now.globals.now layer.now.layer_type (object (fields_of layer.now.members.now)) (row_seen row.now)) }
 {
@@ -123,7 +171,7 @@ fn row_expression(
 fn layer_filter(
     alloc: Global,
     layer: &LayerValues<'_>,
-) -> Result<Option<CellExpression>, AllocError>
+) -> Result<Option<ItemExpression>, AllocError>
     ensures { IfOk result (λ made. option_map expression_seen made
         ≡ item_expression layer.now.globals.now layer.now.layer_type (object (fields_of layer.now.members.now)) items.Filter) }
 {
@@ -153,7 +201,7 @@ fn add_item(
     alloc: Global,
     number: u32,
     item: CellItem,
-    expression: Option<CellExpression>,
+    expression: Option<ItemExpression>,
     buckets: &mut Buckets<Pool>,
 ) -> Result<(), AllocError>
     requires sound { IsSound buckets.old }
@@ -163,6 +211,8 @@ fn add_item(
     ensures others { LeavesOthers ⟦<Pool as CountedEvaluator>⟧.slots number buckets.old buckets.new }
     ensures source { OnOk result (SetsItem ⟦<Pool as CountedEvaluator>⟧.slots number item
         (option_map expression_seen expression) buckets.old buckets.new) }
+    ensures err { OnErr result ((l : ℕ) (i : CellItem) → source_of buckets.new l i ≡ source_of buckets.old l i) }
+    ensures kept { KeepsOthers number item buckets.old buckets.new }
 {
     match expression {
         Some(expression) => add_source(alloc, number, item, expression, buckets),
@@ -175,7 +225,7 @@ fn add_source(
     alloc: Global,
     number: u32,
     item: CellItem,
-    expression: CellExpression,
+    expression: ItemExpression,
     buckets: &mut Buckets<Pool>,
 ) -> Result<(), AllocError>
     requires sound { IsSound buckets.old }
@@ -183,6 +233,8 @@ fn add_source(
     ensures sound { IsSound buckets.new }
     ensures others { LeavesOthers ⟦<Pool as CountedEvaluator>⟧.slots number buckets.old buckets.new }
     ensures source { OnOk result (SetsItem ⟦<Pool as CountedEvaluator>⟧.slots number item (Some (expression_seen expression)) buckets.old buckets.new) }
+    ensures err { OnErr result ((l : ℕ) (i : CellItem) → source_of buckets.new l i ≡ source_of buckets.old l i) }
+    ensures kept { KeepsOthers number item buckets.old buckets.new }
 {
     let mentions = mentions(&expression.expression);
     let made = boxed(alloc, expression.expression, expression.want)?;

@@ -1,15 +1,15 @@
 use Rattle.std.proofs.Common.{◌≡◌, ℕ, List, [], length, map, false}
 use Rattle.operator_values.specs.Evaluated.{Evaluated}
 use Rattle.tile_reader.specs.declared.tile.Feature.{Feature}
-use Rattle.layer_buckets.specs.Seen.{IsSound, kept_at}
-use Rattle.layer_buckets.specs.declared.cell.Cell.{Cell}
+use Rattle.layer_buckets.specs.Seen.{IsSound}
 use Rattle.style_layout.specs.CodeView.{layer_seen, scene_seen, tile_seen}
 use Rattle.style_layout.specs.Layers.{has_features}
 use Rattle.style_layout.specs.Shown.{layer_features, numbered}
 use Rattle.style_layout.specs.Walk.{HasFewLeft, features_left}
-use Rattle.asked_cells.specs.Asked.{CellSources, each_asked}
-use Rattle.asked_cells.specs.Asking.{HasSources, IsCommonAnswer, LeavesSources}
-use Rattle.asked_cells.specs.Counted.{AreMeant, AreRight}
+use Rattle.asked_cells.specs.Asked.{LayerCell, each_asked}
+use Rattle.asked_cells.specs.Asking.{IsCommonAnswer, LeavesSources}
+use Rattle.asked_cells.specs.Counted.{AreMeant, AreRight, kept_in}
+use Rattle.asked_cells.specs.Expressions.{HasExpressions, LayerExpressions}
 use Rattle.asked_cells.proofs.AskLaws.{Remain}
 use Rattle.asked_cells.proofs.FeatureLaws.{AreBelow}
 use Rattle.asked_cells.proofs.view_cells.ViewCells.ask_each.Given as goal
@@ -19,18 +19,18 @@ invariant-loop-found g l =
     let scene = scene_seen g.V.Evaluator.tests l.at.scene.now in
     let layer = layer_seen l.at.layer.now in
     let all = layer_features (map tile_seen l.fn.tiles) layer in
-    let asked = λ (t : CellSources) (nfs : List (ℕ × Feature)). each_asked t scene l.at.number layer nfs in
+    let asked = λ (x : LayerExpressions) (nfs : List (ℕ × Feature)). each_asked x scene layer nfs in
     record {
       sound : IsSound l.self.buckets;
-      sources : LeavesSources l.fn.self.buckets l.self.buckets;
+      sources : LeavesSources l.at.number l.fn.self.buckets l.self.buckets;
       few : HasFewLeft l.features;
       below : AreBelow (length all) (features_left l.features);
       none : has_features layer.type ≡ false → features_left l.features ≡ [];
-      asks : (t : CellSources) (meaning : Cell → Evaluated) → HasSources g.E.CountedEvaluator.slots t l.fn.self.buckets
-          → AreRight meaning (kept_at l.fn.self.buckets) → IsCommonAnswer t scene l.at.number layer l.answer
-          → AreMeant meaning (asked t (numbered 0 all))
-          → Remain meaning (asked t (features_left l.features)) (asked t (numbered 0 all))
-          (kept_at l.fn.self.buckets) (kept_at l.self.buckets) l.number l.fn.steps l.steps;
+      asks : (x : LayerExpressions) (meaning : LayerCell → Evaluated) → HasExpressions g.E.CountedEvaluator.slots l.at.number x l.fn.self.buckets
+          → AreRight meaning (kept_in l.fn.self.buckets l.at.number) → IsCommonAnswer x scene layer l.answer
+          → AreMeant meaning (asked x (numbered 0 all))
+          → Remain meaning (asked x (features_left l.features)) (asked x (numbered 0 all))
+          (kept_in l.fn.self.buckets l.at.number) (kept_in l.self.buckets l.at.number) l.number l.fn.steps l.steps;
     }
 
 abbrev pub decreases-loop-found : goal.decreases-loop-found

@@ -1,25 +1,25 @@
 use Rattle.std.proofs.Common.{List, drop, map}
 use Rattle.operator_values.specs.Evaluated.{Evaluated}
-use Rattle.layer_buckets.specs.Seen.{IsSound, kept_at}
-use Rattle.layer_buckets.specs.declared.cell.Cell.{Cell}
+use Rattle.layer_buckets.specs.Seen.{IsSound}
 use Rattle.style_layout.specs.CodeView.{property_seen, scene_seen}
 use Rattle.style_layout.specs.declared.properties.Property.{Property}
-use Rattle.asked_cells.specs.Asked.{CellSources, values_asked}
-use Rattle.asked_cells.specs.Asking.{HasSources, LeavesSources}
-use Rattle.asked_cells.specs.Counted.{AreMeant, AreRight}
+use Rattle.asked_cells.specs.Asked.{LayerCell, values_asked}
+use Rattle.asked_cells.specs.Asking.{LeavesSources}
+use Rattle.asked_cells.specs.Counted.{AreMeant, AreRight, kept_in}
+use Rattle.asked_cells.specs.Expressions.{HasExpressions, LayerExpressions}
 use Rattle.asked_cells.specs.SeenCells.{cell_feature}
 use Rattle.asked_cells.proofs.AskLaws.{Remain}
 use Rattle.asked_cells.proofs.view_cells.ViewCells.ask_listed.Given as goal
 
 abbrev pub invariant-loop-property : goal.invariant-loop-property
 invariant-loop-property g l =
-    let asked = λ (t : CellSources) (ps : List Property).
-    values_asked t (scene_seen g.V.Evaluator.tests l.at.scene.now) l.at.number (cell_feature l.feature) (map property_seen ps) in
+    let asked = λ (x : LayerExpressions) (ps : List Property).
+    values_asked x (scene_seen g.V.Evaluator.tests l.at.scene.now) (cell_feature l.feature) (map property_seen ps) in
     record {
       sound : IsSound l.self.buckets;
-      sources : LeavesSources l.fn.self.buckets l.self.buckets;
-      asks : (t : CellSources) (meaning : Cell → Evaluated) → HasSources g.E.CountedEvaluator.slots t l.fn.self.buckets
-          → AreRight meaning (kept_at l.fn.self.buckets) → AreMeant meaning (asked t l.properties)
-          → Remain meaning (asked t (drop l.property-index l.properties)) (asked t l.properties)
-          (kept_at l.fn.self.buckets) (kept_at l.self.buckets) l.number l.fn.steps l.steps;
+      sources : LeavesSources l.at.number l.fn.self.buckets l.self.buckets;
+      asks : (x : LayerExpressions) (meaning : LayerCell → Evaluated) → HasExpressions g.E.CountedEvaluator.slots l.at.number x l.fn.self.buckets
+          → AreRight meaning (kept_in l.fn.self.buckets l.at.number) → AreMeant meaning (asked x l.properties)
+          → Remain meaning (asked x (drop l.property-index l.properties)) (asked x l.properties)
+          (kept_in l.fn.self.buckets l.at.number) (kept_in l.self.buckets l.at.number) l.number l.fn.steps l.steps;
     }

@@ -1,0 +1,5 @@
+pub mod OrderLaws
+pub mod CellLaws
+pub mod ValueLaws
+pub mod FeatureLaws
+pub mod ListingLaws

@@ -1,0 +1,11 @@
+pub mod Lists
+pub mod HoldingLaws
+pub mod ChangeLaws
+pub mod DropLaws
+pub mod GlobalLaws
+pub mod ListLaws
+pub mod OneLayers
+pub mod SceneLaws
+pub mod StateLaws
+pub mod Stepping
+pub mod TurnLaws

@@ -1,0 +1,57 @@
+use Rattle.std.proofs.Common.{◌≡◌, length, map, sym, ap, subst, ◌∙◌}
+use Rattle.std.specs.Prelude.{insert, is_some, Some, None}
+use Rattle.decimal_json.specs.View.{tree_of}
+use Rattle.expr_nodes.specs.Evaluators.{sized_node}
+use Rattle.layer_buckets.specs.Seen.{features_of}
+use Rattle.style_layout.specs.Shown.{layer_features}
+use Rattle.style_layout.specs.CodeView.{layer_seen}
+use Rattle.asked_cells.specs.Expressions.{HasExpressions}
+use Rattle.cell_sources.specs.CellExpressions.{item_expression}
+use Rattle.kept_layers.specs.Changes.{globals_of, tiles_of}
+use Rattle.kept_layers.specs.Holding.{AreApart, AreThere, HasLayer, IsRight, Pairwise, style_kept}
+use Rattle.kept_layers.specs.KeptLayers.{layer_expressions}
+use Rattle.kept_layers.proofs.ChangeLaws.{added_features, added_kept, added_leaves, more_held, more_kept, more_right}
+use Rattle.kept_layers.proofs.HoldingLaws.{absent_other, bare_left, none_is_not, there_insert, there_left}
+use Rattle.kept_layers.proofs.Lists.{apart_insert}
+use Rattle.kept_layers.proofs.kept_layers.KeptLayers.add.Goals as goal
+
+pub returns : goal.returns
+returns c =
+    let old = c.args.self.now.cells.buckets in
+    let mid = c.add_layer.new.self.buckets in
+    let new = c.add_sources.new.buckets in
+    let ns = c.args.self.now.numbers.items in
+    let n = c.in_ok-number.number in
+    let place = c.args.place in
+    let one = c.args.one.now in
+    let t = tree_of one.layer.now in
+    let numbered = c.requires.numbered in
+    let count = length (layer_features (tiles_of one) (layer_seen one.prepared.now)) in
+    let a = c.in_ok-add_layer.ensures in
+    let e = c.in_ok-add_sources.ensures in
+    let items = c.in-Ok.ensures.items in
+    let absent : features_of old n ≡ None = c.in_ok-number.ensures in
+    let left = added_leaves (map sized_node) n count old mid new a.evaluator a.sources a.kept a.ok e.others e.kept in
+    let features = added_features (map sized_node) n count old mid new a.evaluator a.sources a.kept a.ok e.others e.kept in
+    let none = added_kept (map sized_node) n count old mid new a.evaluator a.sources a.kept a.ok e.others e.kept (numbered.bare n absent) in
+    let other = absent_other old n ns absent numbered.there in
+    let v = c.values-values.ensures in
+    let sources : HasExpressions (map sized_node) n (layer_expressions (globals_of one) t) new =
+    subst (λ x. HasExpressions (map sized_node) n x new) (λ i. item_expression (v.globals i) (v.layer_type i) (v.members i)) e.sources in
+    let this : HasLayer (map sized_node) (tiles_of one) (globals_of one) new n t = record {
+      sources = sources;
+      features = features ∙ ap (λ l. Some (length (layer_features (tiles_of one) l))) c.requires.layer.prepared;
+    } in
+    record {
+      numbered = record {
+        sound = e.sound;
+        apart = subst AreApart (sym items) (apart_insert n ns place other numbered.apart);
+        there = subst (AreThere new) (sym items) (there_insert new n ns place (ap is_some features) (there_left (map sized_node) n old new left ns other numbered.there));
+        bare = bare_left (map sized_node) n old new left numbered.bare (λ gone. absurd (none_is_not (features_of new n) gone (ap is_some features)));
+      };
+      kept = ap (style_kept new) items ∙ more_kept (map sized_node) n place old new ns left other none;
+      holds = λ ts held. subst (λ l. Pairwise (HasLayer (map sized_node) (tiles_of one) (globals_of one) new) l (insert ts place t)) (sym items)
+          (more_held (map sized_node) n place old new ns left other (tiles_of one) (globals_of one) t ts this held);
+      right = λ scene ts held right. subst (λ l. Pairwise (IsRight (map sized_node) (tiles_of one) (globals_of one) new scene) l (insert ts place t)) (sym items)
+          (more_right (map sized_node) n place old new ns left other (tiles_of one) (globals_of one) scene t ts none right);
+    }

@@ -1,0 +1,53 @@
+use Rattle.std.proofs.Common.{ℕ, ◌∙◌, None, ap, if◌then◌else◌}
+use Rattle.std.specs.Prelude.{map}
+use Rattle.expr_nodes.specs.Evaluators.{sized_node}
+use Rattle.layer_buckets.specs.Seen.{names_cell, source_of}
+use Rattle.layer_buckets.specs.declared.cell.Stale.TheVariants.{Images}
+use Rattle.asked_cells.specs.Asked.{cell_in}
+use Rattle.asked_cells.specs.Counted.{kept_in}
+use Rattle.decimal_json.specs.Tree.{Tree}
+use Rattle.kept_layers.specs.Holding.{HasLayer, Still}
+use Rattle.kept_layers.specs.KeptLayers.{is_stale_image, layer_expressions}
+use Rattle.kept_layers.proofs.DropLaws.{AreDropped, all_dropped, all_kept, all_right, all_still, bare_still, images_stale, none_or, there_still}
+use Rattle.kept_layers.proofs.SceneLaws.{images_mean}
+use Rattle.kept_layers.proofs.kept_layers.KeptLayers.turn_images.Goals as goal
+
+pub returns-clause-numbered : goal.returns-clause-numbered
+returns-clause-numbered c =
+    let old = c.args.self.now.cells.buckets in
+    let new = c.drop_cells.new.self in
+    let still : Still old new = record {
+      evaluator = c.drop_cells.ensures.evaluator;
+      source = c.drop_cells.ensures.sources;
+      features = c.drop_cells.ensures.features;
+    } in
+    record {
+      sound = c.drop_cells.ensures.sound;
+      apart = c.requires.numbered.apart;
+      there = there_still old new still c.args.self.now.numbers.items c.requires.numbered.there;
+      bare = bare_still old new still
+          (λ l cell none. c.drop_cells.ensures.kept (cell_in l cell) ∙ none_or (names_cell old Images (cell_in l cell)) (kept_in old l cell) none)
+          c.requires.numbered.bare;
+    }
+
+pub returns-clause-drops : goal.returns-clause-drops
+returns-clause-drops c = λ tiles globals ts held.
+    let old = c.args.self.now.cells.buckets in
+    let new = c.drop_cells.new.self in
+    let ns = c.args.self.now.numbers.items in
+    let still : Still old new = record {
+      evaluator = c.drop_cells.ensures.evaluator;
+      source = c.drop_cells.ensures.sources;
+      features = c.drop_cells.ensures.features;
+    } in
+    let each : (n : ℕ) (t : Tree) → HasLayer (map sized_node) tiles globals old n t → AreDropped (map sized_node) tiles globals old new (is_stale_image globals) n t =
+    λ n t held cell. c.drop_cells.ensures.kept (cell_in n cell)
+    ∙ ap (λ b. if b then None else kept_in old n cell)
+    (images_stale (map sized_node old.evaluator) cell.item (layer_expressions globals t cell.item) (source_of old n cell.item) (held.sources cell.item)) in
+    let drops = all_dropped (map sized_node) tiles globals old new (is_stale_image globals) each ns ts held in
+    record {
+      kept = all_kept (map sized_node) tiles globals old new (is_stale_image globals) ns ts drops;
+      holds = all_still (map sized_node) tiles globals old new still ns ts held;
+      right = λ before after turns right. all_right (map sized_node) tiles globals old new (is_stale_image globals) before after
+          (λ t cell fresh. images_mean c.agreeing_worlds_give_one_meaning.ensures tiles globals before after turns t cell fresh) ns ts drops right;
+    }

@@ -1,0 +1,127 @@
+use Rattle.std.proofs.Common.{◌≡◌, ◌<◌, ℕ, length, map, get_or, sym, ap, subst, ◌∙◌, arith}
+use Rattle.std.specs.Prelude.{◌&&◌, ◌+◌, nat_eq, slice_index_or, false, Option, None, if◌then◌else◌}
+use Rattle.std.specs.Str.{bytes_eq}
+use Rattle.std.proofs.lemmas.List.{length-map}
+use Rattle.decimal_json.specs.Tree.{null}
+use Rattle.expr_nodes.specs.Evaluators.{sized_node}
+use Rattle.layer_buckets.proofs.Places.{and_true}
+use Rattle.layer_buckets.specs.Cells.{reads_state}
+use Rattle.layer_buckets.specs.Seen.{IsSound, kept_at, source_of}
+use Rattle.layer_buckets.specs.declared.cell.Cell.{Cell}
+use Rattle.style_layout.specs.CodeView.{layer_seen, layers_seen}
+use Rattle.style_layout.specs.Shown.{layer_features}
+use Rattle.kept_layers.specs.Holding.{AreApart, AreThere, HasLayer, IsRight, Pairwise, style_kept}
+use Rattle.kept_layers.specs.KeptLayers.{id_at, is_feature, is_id, is_stale_state, prepared_layer, prepared_layers}
+use Rattle.kept_layers.specs.View.{globals_in, tiles_in, trees_in}
+use Rattle.kept_layers.proofs.DropLaws.{all_kept, all_right, all_still, bare_still, there_still}
+use Rattle.kept_layers.proofs.Lists.{get_same, pairs_lengths}
+use Rattle.kept_layers.proofs.OneLayers.{few_at, prepared_at}
+use Rattle.kept_layers.proofs.SceneLaws.{state_means}
+use Rattle.kept_layers.proofs.StateLaws.{not_shown}
+use Rattle.kept_layers.proofs.TurnLaws.{AreTurned, all_turned, layer_turned, passed_by}
+use Rattle.kept_layers.specs.declared.kept_layers.KeptLayers.{KeptLayers}
+use Rattle.kept_layers.proofs.kept_layers.KeptLayers.turn_state.Goals as goal
+use Rattle.kept_layers.proofs.kept_layers.KeptLayers.turn_state.Goals.{then-shows, else-shows}
+
+pub layer-shown-requires : goal.layer-shown-requires
+layer-shown-requires c =
+    let s = c.args.style.now in
+    let old = c.args.self.now.cells.buckets in
+    let same = pairs_lengths (HasLayer (map sized_node) (tiles_in s) (globals_in s) old) c.args.self.now.numbers.items (trees_in s) c.requires.holds in
+    let counted = ap length c.requires.prepared.prepared in
+    omega (arith, same, counted, length-map (trees_in s) (prepared_layer (globals_in s)), c.loop-place-test.true, c.len-place-end.ensures)
+
+pub drop_features-requires-clause-few : goal.drop_features-requires-clause-few
+drop_features-requires-clause-few c =
+    let s = c.args.style.now in
+    let old = c.args.self.now.cells.buckets in
+    let place = c.loop-place.place in
+    let same = pairs_lengths (HasLayer (map sized_node) (tiles_in s) (globals_in s) old) c.args.self.now.numbers.items (trees_in s) c.requires.holds in
+    let found = c.layer-shown.ensures ∙ ap (λ ls. slice_index_or ls place (layer_seen c.layer-shown.result.now)) c.requires.prepared.prepared in
+    let counted : place < length (prepared_layers (globals_in s) (trees_in s)) =
+    omega (arith, same, length-map (trees_in s) (prepared_layer (globals_in s)), c.loop-place-test.true, c.len-place-end.ensures) in
+    subst (λ l. length (layer_features (tiles_in s) l) < 4294967295) (sym found)
+    (few_at (tiles_in s) (prepared_layers (globals_in s) (trees_in s)) place 4294967295 (layer_seen c.layer-shown.result.now) counted c.requires.prepared.few)
+
+pub loop-place-preserved : goal.loop-place-preserved
+loop-place-preserved c =
+    let s = c.args.style.now in
+    let old = c.args.self.now.cells.buckets in
+    let now = c.loop-place.self.cells.buckets in
+    let ns = c.args.self.now.numbers.items in
+    let ts = trees_in s in
+    let place = c.loop-place.place in
+    let i = c.loop-place.invariant in
+    let within : place < length ns = omega (arith, c.loop-place-test.true, c.len-place-end.ensures) in
+    let same = pairs_lengths (HasLayer (map sized_node) (tiles_in s) (globals_in s) old) ns ts c.requires.holds in
+    let counted : place < length ts = omega (arith, same, within) in
+    let shown = layer_seen c.layer-shown.result.now in
+    let is_shown : shown ≡ prepared_layer (globals_in s) (get_or ts place null) = c.layer-shown.ensures
+    ∙ prepared_at (globals_in s) ts (layers_seen s.style.now) place null shown counted c.requires.prepared.prepared in
+    let Turned : KeptLayers → Type 0 = λ k. record {
+      numbers : k.numbers ≡ c.args.self.now.numbers;
+      sound : IsSound k.cells.buckets;
+      turned : AreTurned (map sized_node) (tiles_in s) (globals_in s) c.args.source.now c.args.source_layer.now c.args.id old ns ts (place + 1) k.cells.buckets;
+    } in
+    elim c.if-shows.branch [
+      | then-shows w ↦
+          let both = and_true (bytes_eq c.args.source.now shown.source) (bytes_eq c.args.source_layer.now shown.source_layer) (sym w.if-shows.ensures) in
+          let here : w.index-number.result.now ≡ get_or ns place 0 = w.index-number.ensures ∙ (ap (λ v. get_or v.items place w.index-number.result.now) i.numbers
+          ∙ get_same ns place w.index-number.result.now 0 within) in
+          let kept : (cell : Cell) → kept_at w.drop_features.new.self.cells.buckets cell
+          ≡ (if (nat_eq (get_or ns place 0) cell.layer && is_id c.args.id (id_at (tiles_in s) shown cell.feature))
+          && reads_state (source_of now cell.layer cell.item) then None else kept_at now cell) =
+          subst (λ n. (cell : Cell) → kept_at w.drop_features.new.self.cells.buckets cell
+          ≡ (if (nat_eq n cell.layer && is_id c.args.id (id_at (tiles_in s) shown cell.feature))
+          && reads_state (source_of now cell.layer cell.item) then None else kept_at now cell)) here w.drop_features.ensures.kept in
+          subst Turned (sym w.self-is) (record {
+            numbers = w.drop_features.ensures.numbers ∙ i.numbers;
+            sound = w.drop_features.ensures.sound;
+            turned = layer_turned (map sized_node) (tiles_in s) (globals_in s) c.args.source.now c.args.source_layer.now c.args.id old ns ts place now i.turned within
+                c.requires.numbered.apart c.requires.holds w.drop_features.new.self.cells.buckets shown is_shown both.0 both.1 w.drop_features.ensures.still kept;
+          })
+      | else-shows w ↦
+          let none : (o : Option ℕ) → is_feature c.args.source.now c.args.source_layer.now c.args.id (prepared_layer (globals_in s) (get_or ts place null)) o ≡ false =
+          λ o. ap (λ l. is_feature c.args.source.now c.args.source_layer.now c.args.id l o) (sym is_shown)
+          ∙ not_shown c.args.source.now c.args.source_layer.now c.args.id shown o (sym w.if-shows.ensures) in
+          subst Turned (sym w.self-is) (record {
+            numbers = i.numbers;
+            sound = i.sound;
+            turned = passed_by (map sized_node) (tiles_in s) (globals_in s) c.args.source.now c.args.source_layer.now c.args.id old ns ts place now i.turned within
+                c.requires.numbered.apart c.requires.holds none;
+          })
+    ]
+
+pub returns-clause-numbered : goal.returns-clause-numbered
+returns-clause-numbered c =
+    let old = c.args.self.now.cells.buckets in
+    let now = c.loop-place.self.cells.buckets in
+    let i = c.loop-place.invariant in
+    let numbered = c.requires.numbered in
+    record {
+      sound = i.sound;
+      apart = subst (λ v. AreApart v.items) (sym i.numbers) numbered.apart;
+      there = subst (λ v. AreThere now v.items) (sym i.numbers) (there_still old now i.turned.still c.args.self.now.numbers.items numbered.there);
+      bare = bare_still old now i.turned.still i.turned.fewer numbered.bare;
+    }
+
+pub returns-clause-drops : goal.returns-clause-drops
+returns-clause-drops c =
+    let s = c.args.style.now in
+    let old = c.args.self.now.cells.buckets in
+    let now = c.loop-place.self.cells.buckets in
+    let ns = c.args.self.now.numbers.items in
+    let i = c.loop-place.invariant in
+    let stale = is_stale_state (tiles_in s) (globals_in s) c.args.source.now c.args.source_layer.now c.args.id in
+    let same = pairs_lengths (HasLayer (map sized_node) (tiles_in s) (globals_in s) old) ns (trees_in s) c.requires.holds in
+    let drops = all_turned (map sized_node) (tiles_in s) (globals_in s) c.args.source.now c.args.source_layer.now c.args.id old ns (trees_in s)
+    c.loop-place.place now (omega (arith, c.loop-place-test.false, c.len-place-end.ensures)) same i.turned in
+    record {
+      kept = ap (λ v. style_kept now v.items) i.numbers ∙ all_kept (map sized_node) (tiles_in s) (globals_in s) old now stale ns (trees_in s) drops;
+      holds = subst (λ v. Pairwise (HasLayer (map sized_node) (tiles_in s) (globals_in s) now) v.items (trees_in s)) (sym i.numbers)
+          (all_still (map sized_node) (tiles_in s) (globals_in s) old now i.turned.still ns (trees_in s) c.requires.holds);
+      right = λ before after turns right. subst (λ v. Pairwise (IsRight (map sized_node) (tiles_in s) (globals_in s) now after) v.items (trees_in s)) (sym i.numbers)
+          (all_right (map sized_node) (tiles_in s) (globals_in s) old now stale before after
+          (λ t cell fresh. state_means c.agreeing_worlds_give_one_meaning.ensures (tiles_in s) (globals_in s) c.args.source.now c.args.source_layer.now c.args.id
+          before after turns t cell fresh) ns (trees_in s) drops right);
+    }

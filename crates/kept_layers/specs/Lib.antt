@@ -1,0 +1,8 @@
+-- To be believed.
+pub mod KeptLayers
+-- What holds of kept cells, and what clauses see of the program's values.
+pub mod Holding
+pub mod View
+pub mod Changes
+-- What only contracts of private functions and proofs use.
+pub mod Turning

@@ -1,0 +1,36 @@
+//! The kept cells of a style under edit, as one view of it has them: a listing evaluates those that are not kept, and
+//! each change drops those that it makes stale.
+//!
+//! ```text
+//! let mut kept = KeptLayers::of(alloc, &style)?;                   // nothing is kept
+//! kept.list(alloc, &style, &scene, &mut steps, &mut out)?          // 3: so many evaluations; out has the listing
+//! kept.turn_state("t", "p", 7, &style);                            // the state of a feature is another
+//! kept.list(alloc, &style, &scene, &mut steps, &mut out)?          // 1
+//! kept.change(alloc, 0, CellItem::Filter, &style.one(0))?;         // the filter of the first layer was edited
+//! kept.remove(0);                                                  // and then the layer
+//! ```
+//!
+//! What is promised, where `kept_seen` is which cells of each layer are kept:
+//! - `list` appends the listing of the layout, whole, in the scene that is handed in. It gives how many of the cells that the
+//!   listing asks were not kept (`evaluations_of`), keeps those, and takes at least as many steps, and at most as
+//!   many as their expressions have nodes, also where an allocation fails.
+//! - `turn_zoom`, `turn_images` and `turn_state` drop exactly the cells whose expressions read what changed: the zoom, where
+//!   they see another one; the test of images; the state of the feature. `turn_globals` drops exactly those whose
+//!   expressions use the global state, and reads these anew. `change` drops the cells of one item of a layer, and
+//!   reads its expression anew. `add`, `remove` and `move_layer` drop no cell of another layer.
+//! - What is kept is what the cells mean in the scene that is shown (`IsRightIn`), before and after each call.
+//!
+//! Layers have numbers in the buckets (`layer_buckets`) that stay theirs while they move; a number is used again once
+//! its layer is gone. Expressions of items that were edited stay in the pool of nodes until the view goes.
+//!
+//! The text to believe is in `specs/`: `KeptLayers`.
+#![tactic(auto)]
+
+mod changes;
+mod globals;
+mod kept_layers;
+mod listing;
+mod style_layers;
+
+pub use kept_layers::KeptLayers;
+pub use style_layers::{OneLayer, StyleLayers};
