@@ -10,11 +10,11 @@ use Rattle.prop_values.specs.declared.kinds.Want.{Want}
 use Rattle.prop_values.specs.declared.kinds.Want.TheVariants as wants
 use Rattle.expr_syntax.specs.Chosen.{output_of}
 use Rattle.expr_syntax.specs.Elements.{head_name}
+use Rattle.expr_syntax.specs.Mentioned.{count}
 use Rattle.expr_syntax.specs.Names.{row}
 use Rattle.expr_syntax.specs.Operators.{operator_name, want_of}
 use Rattle.expr_syntax.specs.Rows.{allows, element_place, is_even, is_label, is_last}
 use Rattle.expr_syntax.specs.Term.{Term, node, terms_of}
-use Rattle.expr_syntax.specs.TermSize.{nodes, terms_nodes}
 use Rattle.expr_syntax.specs.declared.expression.Operator.TheVariants.{Case, Match}
 use Rattle.expr_syntax.specs.declared.parts.Labelled.{Labelled}
 use Rattle.expr_syntax.specs.declared.rows.ElementLayout.TheVariants as layouts
@@ -30,6 +30,7 @@ use Rattle.eval_face.specs.World.{World}
 use Rattle.style_simplify.specs.Literals.{literal_value}
 use Rattle.style_simplify.specs.ShorterNodes.{and_condition, arguments_in, case_of, case_with, chosen_output, first_turn, open_pairs, shorter_case, shorter_match, some_condition, turn_at}
 use Rattle.style_simplify.specs.SimpleElements.{SimpleElement, node_of, part, tree_in}
+use Rattle.simplify_laws.proofs.Measures.{Weights, measure, measures}
 use Rattle.simplify_laws.proofs.ParsedTrees.{HereOr, Names, Values}
 use Rattle.simplify_laws.proofs.GoodElements.{AreGood, Good}
 use Rattle.simplify_laws.proofs.JoinsGood.{EachGood, good_change, not_first}
@@ -199,7 +200,7 @@ module _ (g : Values) (want : Want) (N : Names) (f : Bool) where
   Turn = type_of first_turn
 
   abbrev OpenCases : List SimpleElement → List Term → Type 0
-  OpenCases es vs = (ws : List Term) × CasesGood es ws × ((names : BoundOutcomes) (world : World) → branches.case_of (means (terms_of ws)) want names world ≡ branches.case_of (means (terms_of vs)) want names world) × (terms_nodes (terms_of ws) ≤ terms_nodes (terms_of vs))
+  OpenCases es vs = (ws : List Term) × CasesGood es ws × ((names : BoundOutcomes) (world : World) → branches.case_of (means (terms_of ws)) want names world ≡ branches.case_of (means (terms_of vs)) want names world) × ((w : Weights) → measures w (terms_of ws) ≤ measures w (terms_of vs))
 
   condition_is : (c : Bool) (v : Term) (e : SimpleElement) (t : Tree) → e.tree ≡ t → t ≡ boolean c → Good g wants.Boolean N false v e → (names : BoundOutcomes) (world : World) → mean v wants.Boolean names world ≡ Ok (values.boolean c)
   condition_is c v e t is b good names world =
@@ -207,7 +208,7 @@ module _ (g : Values) (want : Want) (N : Names) (f : Bool) where
       sym (good.same names world) ∙ ap (λ x. mean x wants.Boolean names world) p.0
 
   pub open_good : (pairs : List SimpleElement) (last : SimpleElement) (vs : List Term) → CasesGood (pairs ++ last ∷ []) vs → OpenCases (open_pairs first_turn pairs last) vs
-  open_good [] last vs h = (vs, h, (λ names world. refl), omega arith)
+  open_good [] last vs h = (vs, h, (λ names world. refl), (λ w. omega arith))
   open_good (e ∷ pairs) last [] h = absurd h
   open_good (e ∷ []) last (v ∷ []) h = absurd h
   open_good (e ∷ []) last (v ∷ w ∷ vs) h = absurd h.2
@@ -216,36 +217,36 @@ module _ (g : Values) (want : Want) (N : Names) (f : Bool) where
     where
       kept : (t : Tree) → e.tree ≡ t → ((rest : List SimpleElement) → and_condition (turn_at t) e (open_pairs (turn_at t) (x ∷ pairs) last) ≡ e ∷ x ∷ open_pairs first_turn pairs last) → OpenCases (open_pairs first_turn pairs last) vs → OpenCases (open_pairs first_turn (e ∷ x ∷ pairs) last) (v ∷ w ∷ vs)
       kept t is stays later =
-          let (ws, cases, same, fewer) = later in
+          let (ws, cases, same, lighter) = later in
           subst (λ zs. OpenCases zs (v ∷ w ∷ vs)) (sym (ap (λ u. and_condition (turn_at u) e (open_pairs (turn_at u) (x ∷ pairs) last)) is ∙ stays []))
-          (v ∷ w ∷ ws, (h.0, h.1, cases), (λ names world. ap (branch (mean v wants.Boolean names world) (mean w want names world)) (same names world)), omega (arith, fewer))
+          (v ∷ w ∷ ws, (h.0, h.1, cases), (λ names world. ap (branch (mean v wants.Boolean names world) (mean w want names world)) (same names world)), (λ w. let x = lighter w in omega (arith, x)))
 
       by : (t : Tree) → e.tree ≡ t → OpenCases (open_pairs first_turn pairs last) vs → OpenCases (open_pairs first_turn (e ∷ x ∷ pairs) last) (v ∷ w ∷ vs)
       by (boolean true) is later =
           subst (λ zs. OpenCases zs (v ∷ w ∷ vs)) (sym (ap (λ u. and_condition (turn_at u) e (open_pairs (turn_at u) (x ∷ pairs) last)) is))
-          (w ∷ [], h.1, (λ names world. sym (ap (λ r. branch r (mean w want names world) (branches.case_of (means (terms_of vs)) want names world)) (condition_is true v e (boolean true) is refl h.0 names world))), omega arith)
+          (w ∷ [], h.1, (λ names world. sym (ap (λ r. branch r (mean w want names world) (branches.case_of (means (terms_of vs)) want names world)) (condition_is true v e (boolean true) is refl h.0 names world))), (λ w. omega arith))
       by (boolean false) is later =
-          let (ws, cases, same, fewer) = later in
+          let (ws, cases, same, lighter) = later in
           subst (λ zs. OpenCases zs (v ∷ w ∷ vs)) (sym (ap (λ u. and_condition (turn_at u) e (open_pairs (turn_at u) (x ∷ pairs) last)) is))
-          (ws, cases, (λ names world. same names world ∙ sym (ap (λ r. branch r (mean w want names world) (branches.case_of (means (terms_of vs)) want names world)) (condition_is false v e (boolean false) is refl h.0 names world))), omega (arith, fewer))
+          (ws, cases, (λ names world. same names world ∙ sym (ap (λ r. branch r (mean w want names world) (branches.case_of (means (terms_of vs)) want names world)) (condition_is false v e (boolean false) is refl h.0 names world))), (λ w. let x = lighter w in omega (arith, x)))
       by null is later = kept null is (λ rest. refl) later
       by (number n) is later = kept (number n) is (λ rest. refl) later
       by (text s) is later = kept (text s) is (λ rest. refl) later
       by (list ts) is later = kept (list ts) is (λ rest. refl) later
       by (object fs) is later = kept (object fs) is (λ rest. refl) later
 
-  one_case : (e : SimpleElement) (ws : List Term) (vs : List Term) → CasesGood (e ∷ []) ws → ((names : BoundOutcomes) (world : World) → branches.case_of (means (terms_of ws)) want names world ≡ branches.case_of (means (terms_of vs)) want names world) → (terms_nodes (terms_of ws) ≤ terms_nodes (terms_of vs)) → Good g want N f (node Case (terms_of vs)) e
-  one_case e [] vs h same fewer = absurd h
-  one_case e (w ∷ []) vs h same fewer = good_change g want N f (node Case (terms_of vs)) w e same (omega (arith, fewer)) h
-  one_case e (w ∷ x ∷ ws) vs h same fewer = absurd h
+  one_case : (e : SimpleElement) (ws : List Term) (vs : List Term) → CasesGood (e ∷ []) ws → ((names : BoundOutcomes) (world : World) → branches.case_of (means (terms_of ws)) want names world ≡ branches.case_of (means (terms_of vs)) want names world) → ((w : Weights) → measures w (terms_of ws) ≤ measures w (terms_of vs)) → Good g want N f (node Case (terms_of vs)) e
+  one_case e [] vs h same lighter = absurd h
+  one_case e (v ∷ []) vs h same lighter = good_change g want N f (node Case (terms_of vs)) v e same (λ w. let x = lighter w in omega (arith, x)) h
+  one_case e (w ∷ x ∷ ws) vs h same lighter = absurd h
 
   more_cases : (t : Tree) (head e x : SimpleElement) (es : List SimpleElement) (ws vs : List Term) → head_name (tree t no_trees) ≡ Some (operator_name Case) → head ≡ part t → CasesGood (e ∷ x ∷ es) ws →
-      ((names : BoundOutcomes) (world : World) → branches.case_of (means (terms_of ws)) want names world ≡ branches.case_of (means (terms_of vs)) want names world) → (terms_nodes (terms_of ws) ≤ terms_nodes (terms_of vs)) →
+      ((names : BoundOutcomes) (world : World) → branches.case_of (means (terms_of ws)) want names world ≡ branches.case_of (means (terms_of vs)) want names world) → ((w : Weights) → measures w (terms_of ws) ≤ measures w (terms_of vs)) →
       Good g want N f (node Case (terms_of vs)) (node_of Case want false (head ∷ e ∷ x ∷ es))
-  more_cases t head e x es ws vs named head_is h same fewer =
+  more_cases t head e x es ws vs named head_is h same lighter =
       let new = e ∷ x ∷ es in
       let (odd, as_many) = cases_odd new ws h in
-      good_change g want N f (node Case (terms_of vs)) (node Case (terms_of ws)) (node_of Case want false (head ∷ new)) same (omega (arith, fewer))
+      good_change g want N f (node Case (terms_of vs)) (node Case (terms_of ws)) (node_of Case want false (head ∷ new)) same (λ w. let x = lighter w in let same_one = w.steady Case tt (count (terms_of ws)) (count (terms_of vs)) in omega (arith, x, same_one))
       (node_good g Case tt tt want N f (t ∷ map tree_in new) (head ∷ new) ws false (suc (length new))
       (record {
         head = ap (λ e. head_name (tree e.tree (trees_of (map tree_in new)))) head_is ∙ named;
@@ -304,11 +305,11 @@ module _ (g : Values) (want : Want) (N : Names) (f : Bool) where
   each_length (e ∷ es) (v ∷ vs) h = ap suc (each_length es vs h.1)
 
   output_good : (es : List SimpleElement) (vs : List Term) (k : ℕ) (made : SimpleElement) → EachGood g want N f es vs → slice_get es k ≡ Some made →
-      (v : Term) × Good g want N f v made × ((names : BoundOutcomes) (world : World) → mean v want names world ≡ output_at (means (terms_of vs)) k want names world) × (nodes v ≤ terms_nodes (terms_of vs))
+      (v : Term) × Good g want N f v made × ((names : BoundOutcomes) (world : World) → mean v want names world ≡ output_at (means (terms_of vs)) k want names world) × ((w : Weights) → measure w v ≤ measures w (terms_of vs))
   output_good [] vs k made h q = absurd (cc)
   output_good (e ∷ es) [] k made h q = absurd h
-  output_good (e ∷ es) (v ∷ vs) zero made h q = let is : e ≡ made = cc in (v, subst (Good g want N f v) is h.0, (λ names world. refl), omega arith)
-  output_good (e ∷ es) (v ∷ vs) (suc k) made h q = let (w, good, same, fewer) = output_good es vs k made h.1 q in (w, good, same, omega (arith, fewer))
+  output_good (e ∷ es) (v ∷ vs) zero made h q = let is : e ≡ made = cc in (v, subst (Good g want N f v) is h.0, (λ names world. refl), (λ w. omega arith))
+  output_good (e ∷ es) (v ∷ vs) (suc k) made h q = let (u, good, same, lighter) = output_good es vs k made h.1 q in (u, good, same, (λ w. let x = lighter w in omega (arith, x)))
 
   -- the input, and the outputs among other elements
   pub match_good : (ls : List Labelled) (input : SimpleElement) (es : List SimpleElement) (v : Term) (vs : List Term) → Good g wants.Any N false v input → EachGood g want N f (arguments_in es) vs →
@@ -322,11 +323,11 @@ module _ (g : Values) (want : Want) (N : Names) (f : Bool) where
           let place = output_of ls d (length (input ∷ outs) - 2) in
           let next : place + 1 ≡ suc place = omega arith in
           let got : slice_get outs place ≡ Some made = sym (ap (slice_get (input ∷ outs)) next) ∙ k in
-          let (w, this, same, fewer) = output_good outs vs place made outputs got in
+          let (u, this, same, lighter) = output_good outs vs place made outputs got in
           let p = literal_parsed g input.tree d N false good.first good.second good.parsed is in
           let value : (names : BoundOutcomes) (world : World) → mean v wants.Any names world ≡ Ok d = λ names world. sym (good.same names world) ∙ ap (λ x. mean x wants.Any names world) p.0 in
           let counted : length (input ∷ outs) - 2 ≡ length (means (terms_of vs)) - 1 = omega (arith, each_length outs vs outputs, means_count vs) in
-          good_change g want N f (node (Match ls) (terms_of (v ∷ vs))) w made
+          good_change g want N f (node (Match ls) (terms_of (v ∷ vs))) u made
           (λ names world. same names world ∙ (ap (λ n. output_at (means (terms_of vs)) (output_of ls d n) want names world) counted
           ∙ sym (ap (λ r. then_value r (λ x. output_at (means (terms_of vs)) (output_of ls x (length (means (terms_of vs)) - 1)) want names world)) (value names world))))
-          (omega (arith, fewer)) this
+          (λ w. let x = lighter w in omega (arith, x)) this

@@ -1,8 +1,9 @@
 -- Simplified elements that mean what they meant, and what is known of them.
 use Rattle.std.proofs.Common.{◌≡◌, ◌∙◌, ◌≤◌, ℕ, ◌+◌, suc, List, [], ◌∷◌, ◌++◌, length, map, Bool, true, false, Option, Some, None, refl, ap, sym, subst, arith}
-use Rattle.std.proofs.lemmas.Bool.{and_parts, or_parts, or_left, or_right}
+use Rattle.std.proofs.lemmas.Bool.{and_parts, not-true, or_parts, or_left, or_right}
 use Rattle.std.specs.Prelude.{not, ◌&&◌, if◌then◌else◌}
-use Rattle.decimal_json.specs.Tree.{Tree, trees_of}
+use Rattle.decimal_json.specs.Sound.{HasDistinctKeys}
+use Rattle.decimal_json.specs.Tree.{Tree, object, Trees, no_trees, tree, trees_of, Fields, no_fields, field, members_of}
 use Rattle.prop_values.specs.declared.kinds.Kind.{Kind}
 use Rattle.prop_values.specs.declared.kinds.Want.{Want}
 use Rattle.expr_syntax.specs.BoundNames.{is_among}
@@ -11,19 +12,20 @@ use Rattle.expr_syntax.specs.Operators.{wanted_by, want_of}
 use Rattle.expr_syntax.specs.Reading.{is_part}
 use Rattle.expr_syntax.specs.Rows.{element_place, is_last}
 use Rattle.expr_syntax.specs.Term.{Term, terms_of}
-use Rattle.expr_syntax.specs.TermSize.{nodes, terms_nodes}
 use Rattle.expr_syntax.specs.declared.expression.Operator.{Operator}
 use Rattle.expr_syntax.specs.declared.expression.Operator.TheVariants.{Interpolate}
 use Rattle.expr_syntax.specs.declared.rows.ElementLayout.{ElementLayout}
 use Rattle.expr_syntax.specs.declared.rows.ElementPlace.{ElementPlace}
 use Rattle.expr_syntax.specs.declared.rows.ElementPlace.TheVariants.{Part, Argument, Output}
-use Rattle.expr_types.specs.Typing.{argument_want, handed}
+use Rattle.expr_types.specs.Typing.{KindScope, argument_want, handed}
 use Rattle.eval_face.specs.Meaning.{mean, means}
 use Rattle.eval_face.specs.Names.{BoundOutcomes, named}
 use Rattle.eval_face.specs.World.{World}
 use Rattle.style_simplify.specs.Choices.{NodeChoices, chosen, if_may, is_image, may_replace, same_found}
+use Rattle.style_simplify.specs.Simple.{choices}
 use Rattle.style_simplify.specs.SimpleElements.{SimpleElement, all_asks, and_kind, argument_kinds, is_reading, part, some_reads, tree_in}
 use Rattle.simplify_laws.proofs.ParsedTrees.{Names, Values, HereOr, Parsed, ParsedArguments}
+use Rattle.simplify_laws.proofs.Measures.{Weights, measure, measures}
 use Rattle.simplify_laws.proofs.Alike.{AreAlike, given, given_want}
 
 -- each asked name is among some
@@ -59,7 +61,7 @@ pub one_scope : (b : Bool) (N : Names) → (if b then N else N) ≡ N
 one_scope true N = refl
 one_scope false N = refl
 
-both_kinds : (o : Option Kind) (p : Option (List Kind)) (ks : List Kind) → and_kind o p ≡ Some ks → (k : Kind) × (js : List Kind) × (o ≡ Some k) × (p ≡ Some js)
+pub both_kinds : (o : Option Kind) (p : Option (List Kind)) (ks : List Kind) → and_kind o p ≡ Some ks → (k : Kind) × (js : List Kind) × (o ≡ Some k) × (p ≡ Some js)
 both_kinds (Some k) (Some js) ks h = (k, js, refl, refl)
 both_kinds (Some k) None ks h = absurd (cc)
 both_kinds None p ks h = absurd (cc)
@@ -77,7 +79,7 @@ module _ (g : Values) where
     pub second : Term
     pub parsed : Parsed g e.tree N f first second
     pub same : (names : BoundOutcomes) (world : World) → mean second want names world ≡ mean t want names world
-    pub fewer : nodes second ≤ nodes t
+    pub lighter : (w : Weights) → measure w second ≤ measure w t
     pub known : (k : Kind) → e.kind ≡ Some k → Known want f e first second
     pub asked : (k : Kind) → e.kind ≡ Some k → AreAmong N e.asks
     pub argument : e.is_part ≡ false
@@ -86,6 +88,10 @@ module _ (g : Values) where
     pub node : Good want N f t c.node
     pub literal : (e : SimpleElement) → c.literal ≡ Some e → (k : Kind) → c.node.kind ≡ Some k → Good want N f t e
     pub shorter : (e : SimpleElement) → c.shorter ≡ Some e → (k : Kind) → c.node.kind ≡ Some k → Good want N f t e
+
+  -- choices of a node at a tree; where no `format` may be, what is no `image` node stays none
+  abbrev pub GoodNode : Want → Names → Bool → Tree → Term → NodeChoices → Type 0
+  GoodNode want N f t b c = GoodChoices want N f b c × (f ≡ false → is_image t ≡ false → is_image c.node.tree ≡ false)
 
   some_kind : (o p : Option Kind) → same_found o p ≡ true → (k : Kind) × (p ≡ Some k)
   some_kind (Some k) (Some j) h = (j, refl)
@@ -107,6 +113,37 @@ module _ (g : Values) where
   chosen_good want N f t is_content c h =
       if_good want N f t is_content c.node c.literal (if_may is_content c.node c.shorter c.node) h.literal
       (if_good want N f t is_content c.node c.shorter c.node h.shorter h.node)
+
+  -- a content of a `format` becomes no `image` node
+  if_no_image : (whole : SimpleElement) (o : Option SimpleElement) (other : SimpleElement) → is_image other.tree ≡ false → is_image (if_may true whole o other).tree ≡ false
+  if_no_image whole None other k = k
+  if_no_image whole (Some e) other k = by (may_replace true e whole) refl
+    where
+      by : (b : Bool) → may_replace true e whole ≡ b → is_image (if b then e else other).tree ≡ false
+      by false q = k
+      by true q = not-true (is_image e.tree) (and_parts (same_found e.kind whole.kind) (not (is_image e.tree)) q).1
+
+  pub chosen_no_image : (c : NodeChoices) → is_image c.node.tree ≡ false → is_image (chosen true c).tree ≡ false
+  chosen_no_image c h = if_no_image c.node c.literal (if_may true c.node c.shorter c.node) (if_no_image c.node c.shorter c.node h)
+
+  -- ---- trees
+
+  abbrev pub GoodTree : Tree → Type 0
+  GoodTree t = (N : Names) (f : Bool) (a b : Term) → Parsed g t N f a b → (want : Want) (ks : KindScope) → GoodNode want N f t b (choices a t want ks)
+
+  abbrev mutual
+    -- each item, and each member of an item
+    pub GoodTrees : Trees → Type 0
+    GoodTrees no_trees = Unit {0}
+    GoodTrees (tree t ts) = GoodTree t × GoodMembers t × GoodTrees ts
+
+    pub GoodMembers : Tree → Type 0
+    GoodMembers (object fs) = HasDistinctKeys (members_of fs) × GoodFields fs
+    GoodMembers t = Unit {0}
+
+    pub GoodFields : Fields → Type 0
+    GoodFields no_fields = Unit {0}
+    GoodFields (field k t fs) = GoodTree t × GoodFields fs
 
   -- ---- the elements of a node
 
@@ -132,7 +169,7 @@ module _ (g : Values) where
       pub seconds : List Term
       pub parsed : ParsedArguments g l n i (trees_of (map tree_in es)) N N f firsts seconds
       pub alike : (names : BoundOutcomes) (world : World) → AreAlike want names names world world op m k (means (terms_of seconds)) (means (terms_of vs))
-      pub fewer : terms_nodes (terms_of seconds) ≤ terms_nodes (terms_of vs)
+      pub lighter : (w : Weights) → measures w (terms_of seconds) ≤ measures w (terms_of vs)
       pub as_many : length seconds ≡ length vs
       pub counted : length es ≡ length ts
       pub taken : (test : ℕ → ℕ → Bool) → ((j : ℕ) → test n j ≡ true → is_part (element_place l n j) ≡ true) → taken test n i (trees_of (map tree_in es)) ≡ taken test n i (trees_of ts)
@@ -156,7 +193,7 @@ module _ (g : Values) where
         seconds = r.seconds;
         parsed = part_place (element_place l n i) f _ _ here r.parsed;
         alike = r.alike;
-        fewer = r.fewer;
+        lighter = r.lighter;
         as_many = r.as_many;
         counted = ap suc r.counted;
         taken = λ test h. by test (test n i) (r.taken test h);
@@ -181,7 +218,7 @@ module _ (g : Values) where
             seconds = one.second ∷ r.seconds;
             parsed = here _ _ (one.first, one.second, r.firsts, r.seconds, refl, refl, (subst (λ M. Parsed g e.tree M h one.first one.second) (sym (one_scope (is_last n i) N)) one.parsed, r.parsed));
             alike = λ names world. (subst (λ u. mean one.second u names world ≡ mean v u names world) (want_is op m k want) (one.same names world), r.alike names world);
-            fewer = omega (arith, one.fewer, r.fewer);
+            lighter = λ w. let x = one.lighter w in let y = r.lighter w in omega (arith, x, y);
             as_many = ap suc r.as_many;
             counted = ap suc r.counted;
             taken = λ test parts. by test (test n i) refl parts (r.taken test parts);
@@ -229,7 +266,7 @@ module _ (g : Values) where
           seconds = [];
           parsed = (refl, refl);
           alike = λ names world. tt;
-          fewer = omega arith;
+          lighter = λ w. omega arith;
           as_many = refl;
           counted = refl;
           taken = λ test parts. refl;

@@ -11,6 +11,7 @@ use Rattle.prop_values.specs.declared.kinds.Want.{Want}
 use Rattle.prop_values.specs.declared.kinds.Want.TheVariants as wants
 use Rattle.property_tables.specs.Fitting.{fit}
 use Rattle.expr_syntax.specs.Elements.{head_name, second}
+use Rattle.expr_syntax.specs.Mentioned.{count}
 use Rattle.expr_syntax.specs.Names.{row}
 use Rattle.expr_syntax.specs.Operators.{operator_name}
 use Rattle.expr_syntax.specs.Parts.{operator_of}
@@ -19,7 +20,6 @@ use Rattle.expr_syntax.specs.Scopes.{globals}
 use Rattle.expr_syntax.specs.Standing.{layout_outside}
 use Rattle.expr_syntax.proofs.CountLaws.{count_trees}
 use Rattle.expr_syntax.specs.Term.{Term, literal, node, terms_of}
-use Rattle.expr_syntax.specs.TermSize.{nodes, terms_nodes}
 use Rattle.expr_syntax.specs.declared.expression.Operator.{Operator}
 use Rattle.expr_syntax.specs.declared.expression.Operator.TheVariants.{All, Any, Coalesce}
 use Rattle.expr_syntax.specs.declared.rows.ElementLayout.{ElementLayout}
@@ -37,6 +37,7 @@ use Rattle.style_simplify.specs.Simple.{operator_reads}
 use Rattle.style_simplify.specs.ShorterNodes.{and_element, choice_role, condition_role, is_coalesce, is_container, is_deciding, joined, role_of, shorter_by, some_role, undecided}
 use Rattle.style_simplify.specs.SimpleElements.{SimpleElement, node_of, part, tree_in}
 use Rattle.simplify_laws.proofs.ParsedTrees.{HereOr, Names, Values, Parsed}
+use Rattle.simplify_laws.proofs.Measures.{LosesArguments, Weights, measure, measures}
 use Rattle.simplify_laws.proofs.Alike.{IsNameless}
 use Rattle.simplify_laws.proofs.GoodElements.{AreGood, Good}
 use Rattle.simplify_laws.proofs.LiteralsGood.{IsLiteral, literal_good, literal_parsed, value_laid}
@@ -71,13 +72,13 @@ first_is_each decides none op u want names world is m k [] = refl
 first_is_each decides none op u want names world is m k (x ∷ ms) = λ i. then_value (is m k x i) (λ d. or_later (decides d) (first_is_each decides none op u want names world is m (k + 1) ms i))
 
 module _ (g : Values) where
-  pub good_change : (want : Want) (N : Names) (f : Bool) (t u : Term) (e : SimpleElement) → ((names : BoundOutcomes) (world : World) → mean u want names world ≡ mean t want names world) → nodes u ≤ nodes t → Good g want N f u e → Good g want N f t e
-  good_change want N f t u e same fewer good = record {
+  pub good_change : (want : Want) (N : Names) (f : Bool) (t u : Term) (e : SimpleElement) → ((names : BoundOutcomes) (world : World) → mean u want names world ≡ mean t want names world) → ((w : Weights) → measure w u ≤ measure w t) → Good g want N f u e → Good g want N f t e
+  good_change want N f t u e same lighter good = record {
     first = good.first;
     second = good.second;
     parsed = good.parsed;
     same = λ names world. good.same names world ∙ same names world;
-    fewer = omega (arith, fewer, good.fewer);
+    lighter = λ w. let x = lighter w in let y = good.lighter w in omega (arith, x, y);
     known = good.known;
     asked = good.asked;
     argument = good.argument;
@@ -124,18 +125,18 @@ module _ (g : Values) where
       decided vs names world = each_of decides none u (means (terms_of vs)) names world
 
       abbrev Undecided : List SimpleElement → List Term → Type 0
-      Undecided es vs = (ws : List Term) × EachGood u N h (undecided op es) ws × ((names : BoundOutcomes) (world : World) → decided ws names world ≡ decided vs names world) × (terms_nodes (terms_of ws) ≤ terms_nodes (terms_of vs))
+      Undecided es vs = (ws : List Term) × EachGood u N h (undecided op es) ws × ((names : BoundOutcomes) (world : World) → decided ws names world ≡ decided vs names world) × ((w : Weights) → measures w (terms_of ws) ≤ measures w (terms_of vs))
 
       passed_more : (e : SimpleElement) (v : Term) (es : List SimpleElement) (vs : List Term) → Good g u N h v e → Undecided es vs → role_of op e.tree ≡ passed → Passes e.tree → Undecided (e ∷ es) (v ∷ vs)
       passed_more e v es vs good rest role passes =
-          let (ws, each, same, fewer) = rest in
+          let (ws, each, same, lighter) = rest in
           let (d, is, fits, absent) = passes N h good.first good.second good.parsed in (
             ws,
             subst (λ r. EachGood u N h (and_element r e (undecided op es)) ws) (sym role) each,
             (λ names world. same names world
                 ∙ sym (ap (λ x. then_value x (λ d. or_later (decides d) (decided vs names world))) (sym (good.same names world) ∙ (ap (λ t. mean t u names world) is ∙ fits))
                 ∙ ap (λ o. or_later o (decided vs names world)) absent)),
-            omega (arith, fewer),
+            (λ w. let x = lighter w in omega (arith, x)),
           )
 
       deciding_more : (e : SimpleElement) (v : Term) (es : List SimpleElement) (vs : List Term) → Good g u N h v e → role_of op e.tree ≡ deciding → Decides e.tree → Undecided (e ∷ es) (v ∷ vs)
@@ -146,20 +147,20 @@ module _ (g : Values) where
             v ∷ [],
             subst (λ r. EachGood u N h (and_element r e (undecided op es)) (v ∷ [])) (sym role) (good, tt),
             (λ names world. whole names world none ∙ sym (whole names world (decided vs names world))),
-            omega arith,
+            (λ w. omega arith),
           )
 
       open_more : (e : SimpleElement) (v : Term) (es : List SimpleElement) (vs : List Term) → Good g u N h v e → Undecided es vs → role_of op e.tree ≡ open_role → Undecided (e ∷ es) (v ∷ vs)
       open_more e v es vs good rest role =
-          let (ws, each, same, fewer) = rest in (
+          let (ws, each, same, lighter) = rest in (
             v ∷ ws,
             subst (λ r. EachGood u N h (and_element r e (undecided op es)) (v ∷ ws)) (sym role) (good, each),
             (λ names world. ap (λ x. then_value (mean v u names world) (λ d. or_later (decides d) x)) (same names world)),
-            omega (arith, fewer),
+            (λ w. let x = lighter w in omega (arith, x)),
           )
 
       pub undecided_good : (es : List SimpleElement) (vs : List Term) → EachGood u N h es vs → Undecided es vs
-      undecided_good [] [] good = ([], tt, (λ names world. refl), omega arith)
+      undecided_good [] [] good = ([], tt, (λ names world. refl), (λ w. omega arith))
       undecided_good [] (v ∷ vs) good = absurd good
       undecided_good (e ∷ es) [] good = absurd good
       undecided_good (e ∷ es) (v ∷ vs) good =
@@ -188,8 +189,8 @@ module _ (g : Values) where
           refl refl
 
       joined_by : (want : Want) (f : Bool) (t : Term) (head : SimpleElement) (nodes_good : NodesGood want f head) (none_null : is_coalesce op ≡ true → none ≡ Ok values.null) (vs : List Term) → Whole want t vs →
-          (rest : List SimpleElement) (ws : List Term) → EachGood u N h rest ws → ((names : BoundOutcomes) (world : World) → decided ws names world ≡ decided vs names world) → nodes (node op (terms_of ws)) ≤ nodes t → Good g want N f t (joined op want head rest)
-      joined_by want f t head nodes_good none_null vs whole rest ws each same fewer = by rest each
+          (rest : List SimpleElement) (ws : List Term) → EachGood u N h rest ws → ((names : BoundOutcomes) (world : World) → decided ws names world ≡ decided vs names world) → ((w : Weights) → measure w (node op (terms_of ws)) ≤ measure w t) → Good g want N f t (joined op want head rest)
+      joined_by want f t head nodes_good none_null vs whole rest ws each same lighter = by rest each
         where
           whole_now : Whole want t ws
           whole_now names world = ap (λ x. then_value x (fit want)) (same names world) ∙ whole names world
@@ -197,7 +198,7 @@ module _ (g : Values) where
           as_node : (rest : List SimpleElement) → EachGood u N h rest ws → (is_coalesce op ≡ true → 1 ≤ length rest) → Good g want N f t (node_of op want false (head ∷ rest))
           as_node rest each some =
               let (good, means_so) = nodes_good rest ws some each in
-              good_change want N f t (node op (terms_of ws)) (node_of op want false (head ∷ rest)) (λ names world. sym (means_so names world) ∙ whole_now names world) fewer good
+              good_change want N f t (node op (terms_of ws)) (node_of op want false (head ∷ rest)) (λ names world. sym (means_so names world) ∙ whole_now names world) lighter good
 
           nothing_left : (ws : List Term) → EachGood u N h [] ws → Whole want t ws → is_coalesce op ≡ true → Good g want N f t (literal_element want null)
           nothing_left [] each now chosen_one = literal_good g want N f t (literal_element want null) values.null (λ M k. (refl, refl)) (λ names world. sym (ap (λ x. then_value x (fit want)) (none_null chosen_one)) ∙ now names world) refl refl
@@ -222,11 +223,11 @@ module _ (g : Values) where
           by (e ∷ []) each = by_one e each
           by (e ∷ x ∷ es) each = as_node (e ∷ x ∷ es) each (λ z. omega arith)
 
-      pub joined_good : (want : Want) (f : Bool) (head : SimpleElement) (vs : List Term) (es : List SimpleElement) → NodesGood want f head → (is_coalesce op ≡ true → none ≡ Ok values.null) → Whole want (node op (terms_of vs)) vs → EachGood u N h es vs →
+      pub joined_good : LosesArguments op → (want : Want) (f : Bool) (head : SimpleElement) (vs : List Term) (es : List SimpleElement) → NodesGood want f head → (is_coalesce op ≡ true → none ≡ Ok values.null) → Whole want (node op (terms_of vs)) vs → EachGood u N h es vs →
           Good g want N f (node op (terms_of vs)) (joined op want head (undecided op es))
-      joined_good want f head vs es nodes_good none_null whole each =
-          let (ws, now, same, fewer) = undecided_good es vs each in
-          joined_by want f (node op (terms_of vs)) head nodes_good none_null vs whole (undecided op es) ws now same (omega (arith, fewer))
+      joined_good loses want f head vs es nodes_good none_null whole each =
+          let (ws, now, same, lighter) = undecided_good es vs each in
+          joined_by want f (node op (terms_of vs)) head nodes_good none_null vs whole (undecided op es) ws now same (λ w. let x = lighter w in let same_one = w.steady op loses (count (terms_of ws)) (count (terms_of vs)) in omega (arith, x, same_one))
 
   -- ---- the three operators
 
@@ -289,6 +290,7 @@ module _ (g : Values) where
     place_of = (row (operator_name op)).layout
 
     record IsJoin (want : Want) : Type 1 where
+      loses : LosesArguments op
       one : (m k : ℕ) → argument_want op m k want ≡ u
       here : (n j : ℕ) → 0 < j → (S : Type 0) (T : Bool → Type 0) → HereOr (element_place place_of n j) f S T → T h
       back : (n j : ℕ) → 0 < j → (S : Type 0) (T : Bool → Type 0) → T h → HereOr (element_place place_of n j) f S T
@@ -303,7 +305,7 @@ module _ (g : Values) where
     join_good : (want : Want) → IsJoin want → (m n : ℕ) (t : Tree) (ts : List Tree) (head : SimpleElement) (es : List SimpleElement) (vs : List Term) → head_name (tree t no_trees) ≡ Some (operator_name op) →
         head ≡ part t → AreGood g op m want place_of n N f 1 0 ts es vs → Good g want N f (node op (terms_of vs)) (joined op want head (undecided op es))
     join_good want is m n t ts head es vs named head_is good =
-        joined_good op u decides none roles N h want f head vs es
+        joined_good op u decides none roles N h is.loses want f head vs es
         (λ new ws some each. (
           node_good g op plain general want N f (t ∷ map tree_in new) (head ∷ new) ws false (suc (length new))
               (record {
@@ -343,6 +345,7 @@ module _ (g : Values) where
         subst (Good g want N f (node All (terms_of vs))) (some_joined (some_role All es) (joined All want head (undecided All es)) made h)
         (join_good All tt tt wants.Boolean if_false (Ok (values.boolean true)) all_roles N f false want
         (record {
+          loses = tt;
           one = λ m k. refl;
           here = λ n j some S T x. arguments_here n j some f S T x;
           back = λ n j some S T x. arguments_back n j some f S T x;
@@ -361,6 +364,7 @@ module _ (g : Values) where
         subst (Good g want N f (node Any (terms_of vs))) (some_joined (some_role Any es) (joined Any want head (undecided Any es)) made h)
         (join_good Any tt tt wants.Boolean if_true (Ok (values.boolean false)) any_roles N f false want
         (record {
+          loses = tt;
           one = λ m k. refl;
           here = λ n j some S T x. arguments_here n j some f S T x;
           back = λ n j some S T x. arguments_back n j some f S T x;
@@ -379,6 +383,7 @@ module _ (g : Values) where
         subst (Good g want N f (node Coalesce (terms_of vs))) (some_joined (some_role Coalesce es) (joined Coalesce want head (undecided Coalesce es)) made h)
         (join_good Coalesce tt tt wants.Any if_there (Ok values.null) coalesce_roles N f f want
         (record {
+          loses = tt;
           one = λ m k. refl;
           here = λ n j some S T x. choices_here n j some f S T x;
           back = λ n j some S T x. choices_back n j some f S T x;

@@ -1,5 +1,5 @@
 -- What becomes a literal means what it meant.
-use Rattle.std.proofs.Common.{◌≡◌, ◌∙◌, ◌≤◌, ℕ, ◌-◌, ℤ, List, [], ◌∷◌, Bool, true, false, Option, Some, None, Result, Ok, Err, refl, ap, sym, subst, arith}
+use Rattle.std.proofs.Common.{◌≡◌, ◌∙◌, ℕ, ◌-◌, ℤ, List, [], ◌∷◌, Bool, true, false, Option, Some, None, Result, Ok, Err, refl, ap, sym, subst}
 use Rattle.std.proofs.lemmas.Bool.{and_parts, leb-true, not-true}
 use Rattle.std.proofs.lemmas.Slice.Eq.{bytes_eq-Decides}
 use Rattle.std.specs.Prelude.{codes, not, nat_le, unsigned_abs, if◌then◌else◌}
@@ -22,8 +22,7 @@ use Rattle.expr_syntax.specs.Reading.{Reading, Read, read, reading, inside}
 use Rattle.expr_syntax.specs.Rows.{allows}
 use Rattle.expr_syntax.specs.Scopes.{globals}
 use Rattle.expr_syntax.specs.Standing.{is_outside}
-use Rattle.expr_syntax.specs.Term.{Term, literal, node}
-use Rattle.expr_syntax.specs.TermSize.{nodes}
+use Rattle.expr_syntax.specs.Term.{Term, literal}
 use Rattle.expr_syntax.specs.declared.names.Name.{Name}
 use Rattle.expr_syntax.specs.declared.names.Name.TheVariants.{Literal}
 use Rattle.expr_syntax.proofs.CountLaws.{count_trees}
@@ -39,12 +38,9 @@ use Rattle.style_simplify.specs.Literals.{bare_literal, is_literal_node, literal
 use Rattle.style_simplify.specs.SimpleElements.{SimpleElement}
 use Rattle.expr_syntax.specs.ReadTerms.{names_within}
 use Rattle.simplify_laws.proofs.ParsedTrees.{HasArguments, HasGlobal, HasSections, HasValue, HasVariable, LaidBy, Names, Parsed, ParsedArguments, ParsedSections, Values}
+use Rattle.simplify_laws.proofs.Measures.{not_below_bare}
 use Rattle.simplify_laws.proofs.ReadBack.{in_globals, parsed_reads}
 use Rattle.simplify_laws.proofs.GoodElements.{AreAmong, Good, GoodChoices, Known, SameAt}
-
-pub nodes_some : (t : Term) → 1 ≤ nodes t
-nodes_some (literal d) = omega arith
-nodes_some (node op ts) = omega arith
 
 text_is : (s u : List ℕ) → bytes_eq s u ≡ true → s ≡ u
 text_is s u h = (bytes_eq-Decides s u).0 h
@@ -81,7 +77,7 @@ module _ (g : Values) where
     second = literal d;
     parsed = parsed N f;
     same = same;
-    fewer = nodes_some t;
+    lighter = λ w. not_below_bare w t;
     known = λ k q. record { names = λ M a. parsed M f; depends = λ names names' v w a reads. refl; steady = λ z. refl };
     asked = λ k q. none_asked_of N e.asks none;
     argument = argument;

@@ -2,6 +2,7 @@
 use Rattle.std.proofs.Common.{◌≡◌, ◌∙◌, ◌≤◌, arith, ℕ, List, [], Bool, true, false, Option, Some, None, Result, Ok, Err, refl, ap, sym, subst}
 use Rattle.std.proofs.lemmas.Bool.{and_parts, not-true}
 use Rattle.std.specs.Prelude.{is_some, not, ◌&&◌, ◌||◌, if◌then◌else◌}
+use Rattle.decimal_json.specs.Sound.{IsSound}
 use Rattle.decimal_json.specs.Tree.{Tree, null, boolean, number, text, list, object, Trees, no_trees, tree}
 use Rattle.prop_values.specs.Data as values
 use Rattle.prop_values.specs.Data.{Data}
@@ -42,7 +43,8 @@ use Rattle.simplify_laws.proofs.ParsedTrees.{Parsed, Values}
 use Rattle.simplify_laws.proofs.ReadBack.{in_globals, parsed_reads}
 use Rattle.simplify_laws.proofs.Inside.{parsed_inside}
 use Rattle.simplify_laws.proofs.Parsing.{tree_parses}
-use Rattle.simplify_laws.specs.MeaningLaw.{HasNoNames, ReadsWithoutNames, SimplifiedFiltersHaveNoMoreNodes, SimplifiedFiltersAreOutsideAlike, SimplifiedFiltersPassTheSame, SimplifiedValuesHaveNoMoreNodes, SimplifiedValuesMeanTheSame}
+use Rattle.simplify_laws.specs.MeaningLaw.{SimplifiedFiltersHaveNoMoreNodes, SimplifiedFiltersAreOutsideAlike, SimplifiedFiltersPassTheSame, SimplifiedValuesHaveNoMoreNodes, SimplifiedValuesMeanTheSame}
+use Rattle.simplify_laws.proofs.Measures.{measured_nodes, node_weights}
 use Rattle.simplify_laws.proofs.GoodElements.{Good, GoodChoices, chosen_good}
 use Rattle.simplify_laws.proofs.TreesGood.{tree_good}
 
@@ -58,17 +60,17 @@ reads_of false (Err f) e h = absurd (cc)
 
 module _ (g : Values) where
   -- what was read without values of the global state is read with them
-  parsed_now : (t : Tree) (e : Term) → reading t ≡ Ok (Some e) → (b : Term) × Parsed g t [] true e b
+  pub parsed_now : (t : Tree) (e : Term) → reading t ≡ Ok (Some e) → (b : Term) × Parsed g t [] true e b
   parsed_now t e h =
       let (outside, reads) = reads_of (is_outside t) (read t (globals []) []) e h in
       tree_parses g _ refl t [] true e (globals []) [] (in_globals []) reads outside
 
-  read_now : (t : Tree) (a b : Term) → Parsed g t [] true a b → reading_with t g ≡ Ok (Some b)
+  pub read_now : (t : Tree) (a b : Term) → Parsed g t [] true a b → reading_with t g ≡ Ok (Some b)
   read_now t a b p =
       let outside : is_outside t ≡ false = parsed_inside _ refl g t [] true a b p in
       ap (λ x. if x then Ok None else inside (read t (globals g) [])) outside ∙ ap inside (parsed_reads g false t [] true a b p (globals g) [] (in_globals g))
 
-  head_is_name : (ts : Trees) (name : Name) → head_name ts ≡ Some name → is_expression (list ts) ≡ true
+  pub head_is_name : (ts : Trees) (name : Name) → head_name ts ≡ Some name → is_expression (list ts) ≡ true
   head_is_name no_trees name h = absurd (cc)
   head_is_name (tree (text s) ts) name h = ap is_some h
   head_is_name (tree null ts) name h = absurd (cc)
@@ -106,7 +108,7 @@ module _ (g : Values) where
     abbrev fallback : Option Data
     fallback = default_of row
 
-    array_form : (u : Trees) → takes_literals_alone row ≡ false → is_expression (list u) ≡ true → form_of row (list u) ≡ forms.Expression
+    pub array_form : (u : Trees) → takes_literals_alone row ≡ false → is_expression (list u) ≡ true → form_of row (list u) ≡ forms.Expression
     array_form u alone is = λ i. if alone i then forms.Literal else if is i then forms.Expression else if is_function (list u) then forms.Function else if is_token_text row (list u) then forms.TokenText else forms.Literal
 
     array_listed : (u : Tree) (a b : Term) → takes_literals_alone row ≡ false → Parsed g u [] true a b → is_array u ≡ true → listed_as u ≡ resolved fallback (mean b row.want [] w)
@@ -142,7 +144,7 @@ module _ (g : Values) where
             ∙ (ap (λ o. outcome_by (literal_value o) row fallback w) q
             ∙ sym (ap (λ x. resolved fallback (mean x row.want [] w)) b_is ∙ ap (resolved fallback) fits))
 
-    bare_form : (u : Tree) → takes_literals_alone row ≡ false → is_expression u ≡ false → is_function u ≡ false → is_token_text row u ≡ false → form_of row u ≡ forms.Literal
+    pub bare_form : (u : Tree) → takes_literals_alone row ≡ false → is_expression u ≡ false → is_function u ≡ false → is_token_text row u ≡ false → form_of row u ≡ forms.Literal
     bare_form u alone expression function tokens = λ i. if alone i then forms.Literal else if expression i then forms.Expression else if function i then forms.Function else if tokens i then forms.TokenText else forms.Literal
 
     bare_listed : (u : Tree) (a b : Term) → takes_literals_alone row ≡ false → Parsed g u [] true a b → is_array u ≡ false → (is_some (literal_of u row) && not (is_token_text row u)) ≡ true → listed_as u ≡ resolved fallback (mean b row.want [] w)
@@ -179,7 +181,7 @@ module _ (g : Values) where
             let one = good.node in
             array_listed c.node.tree one.first one.second alone one.parsed array ∙ ap (resolved fallback) (one.same [] w)
 
-    expression_parts : (t : Tree) → form_of row t ≡ forms.Expression → (takes_literals_alone row ≡ false) × (is_expression t ≡ true)
+    pub expression_parts : (t : Tree) → form_of row t ≡ forms.Expression → (takes_literals_alone row ≡ false) × (is_expression t ≡ true)
     expression_parts t h = by (takes_literals_alone row) (is_expression t) (is_function t) (is_token_text row t) h
       where
         by : (a b c d : Bool) → (if a then forms.Literal else if b then forms.Expression else if c then forms.Function else if d then forms.TokenText else forms.Literal) ≡ forms.Expression → (a ≡ false) × (b ≡ true)
@@ -189,7 +191,7 @@ module _ (g : Values) where
         by false false false true q = absurd (cc)
         by false false false false q = absurd (cc)
 
-    tree_array : (e : Term) (t : Tree) → is_expression t ≡ true → is_array (choices e t row.want []).node.tree ≡ true
+    pub tree_array : (e : Term) (t : Tree) → is_expression t ≡ true → is_array (choices e t row.want []).node.tree ≡ true
     tree_array e (list ts) h = node_array e ts row.want []
     tree_array e null h = absurd (cc)
     tree_array e (boolean b) h = absurd (cc)
@@ -197,20 +199,20 @@ module _ (g : Values) where
     tree_array e (text s) h = absurd (cc)
     tree_array e (object fs) h = absurd (cc)
 
-    expression_listed : (t : Tree) → form_of row t ≡ forms.Expression → (r : Reading) → reading t ≡ r → ReadsWithoutNames r → listed_as (expression_read row t r) ≡ listed_as t
-    expression_listed t form (Ok None) q h = refl
-    expression_listed t form (Err f) q h = refl
-    expression_listed t form (Ok (Some e)) q h =
+    expression_listed : (l : ℕ) (t : Tree) → IsSound l t → form_of row t ≡ forms.Expression → (r : Reading) → reading t ≡ r → listed_as (expression_read row t r) ≡ listed_as t
+    expression_listed l t sound form (Ok None) q = refl
+    expression_listed l t sound form (Err f) q = refl
+    expression_listed l t sound form (Ok (Some e)) q =
         let (alone, is) = expression_parts t form in
         let (b, parsed) = parsed_now t e q in
-        choice_listed (choices e t row.want []) b alone (tree_good g t [] true e b parsed h row.want []) (tree_array e t is)
+        choice_listed (choices e t row.want []) b alone (tree_good g l t sound [] true e b parsed row.want []).0 (tree_array e t is)
         ∙ sym (ap (λ f. outcome_by (formed_value f row g t) row fallback w) form ∙ ap (λ r. outcome_by (expression_value r) row fallback w) (read_now t e b parsed))
 
-    value_listed : (t : Tree) → ReadsWithoutNames (reading t) → (f : Form) → form_of row t ≡ f → listed_as (value_by_form f row t) ≡ listed_as t
-    value_listed t h forms.Expression form = expression_listed t form (reading t) refl h
-    value_listed t h forms.Function form = refl
-    value_listed t h forms.TokenText form = refl
-    value_listed t h forms.Literal form = refl
+    value_listed : (l : ℕ) (t : Tree) → IsSound l t → (f : Form) → form_of row t ≡ f → listed_as (value_by_form f row t) ≡ listed_as t
+    value_listed l t sound forms.Expression form = expression_listed l t sound form (reading t) refl
+    value_listed l t sound forms.Function form = refl
+    value_listed l t sound forms.TokenText form = refl
+    value_listed l t sound forms.Literal form = refl
 
   -- ---- filters
 
@@ -226,10 +228,10 @@ module _ (g : Values) where
         layer_filter_legacy : Tree → type_of (layer_filter g None)
         layer_filter_legacy t = legacy_of (filters.reading t)
 
-    filter_passes : (t : Tree) → is_legacy t ≡ false → (r : Reading) → reading t ≡ r → ReadsWithoutNames r → passing (filter_read t r) ≡ passing t
-    filter_passes t legacy (Ok None) q h = refl
-    filter_passes t legacy (Err f) q h = refl
-    filter_passes t legacy (Ok (Some e)) q h = by (is_legacy u) refl
+    filter_passes : (l : ℕ) (t : Tree) → IsSound l t → is_legacy t ≡ false → (r : Reading) → reading t ≡ r → passing (filter_read t r) ≡ passing t
+    filter_passes l t sound legacy (Ok None) q = refl
+    filter_passes l t sound legacy (Err f) q = refl
+    filter_passes l t sound legacy (Ok (Some e)) q = by (is_legacy u) refl
       where
         u : Tree
         u = (chosen false (choices e t wants.Boolean [])).tree
@@ -238,15 +240,15 @@ module _ (g : Values) where
         by true k = refl
         by false k =
             let (b, parsed) = parsed_now t e q in
-            let one = chosen_good g wants.Boolean [] true b false (choices e t wants.Boolean []) (tree_good g t [] true e b parsed h wants.Boolean []) in
+            let one = chosen_good g wants.Boolean [] true b false (choices e t wants.Boolean []) (tree_good g l t sound [] true e b parsed wants.Boolean []).0 in
             condition_passes u one.first one.second k one.parsed ∙ (ap passes (one.same [] w) ∙ sym (condition_passes t e b legacy parsed))
 
-    pub filter_same : (t : Tree) → ReadsWithoutNames (reading t) → passing (simplified_filter t) ≡ passing t
-    filter_same t h = by (is_legacy t) refl
+    pub filter_same : (l : ℕ) (t : Tree) → IsSound l t → passing (simplified_filter t) ≡ passing t
+    filter_same l t sound = by (is_legacy t) refl
       where
         by : (b : Bool) → is_legacy t ≡ b → passing (if b then t else filter_read t (reading t)) ≡ passing t
         by true q = refl
-        by false q = filter_passes t q (reading t) refl h
+        by false q = filter_passes l t sound q (reading t) refl
 
   -- a filter that is read is not outside
   abbrev is_shown_outside : Tree → Bool
@@ -257,10 +259,10 @@ module _ (g : Values) where
       ap (λ x. layouts.is_outside (if x then legacy_of (filters.reading t) else condition_of (reading_with t g))) legacy
       ∙ ap (λ r. layouts.is_outside (condition_of r)) (read_now t a b p)
 
-  filter_inside : (t : Tree) → is_legacy t ≡ false → (r : Reading) → reading t ≡ r → ReadsWithoutNames r → is_shown_outside (filter_read t r) ≡ is_shown_outside t
-  filter_inside t legacy (Ok None) q h = refl
-  filter_inside t legacy (Err f) q h = refl
-  filter_inside t legacy (Ok (Some e)) q h = by (is_legacy u) refl
+  filter_inside : (l : ℕ) (t : Tree) → IsSound l t → is_legacy t ≡ false → (r : Reading) → reading t ≡ r → is_shown_outside (filter_read t r) ≡ is_shown_outside t
+  filter_inside l t sound legacy (Ok None) q = refl
+  filter_inside l t sound legacy (Err f) q = refl
+  filter_inside l t sound legacy (Ok (Some e)) q = by (is_legacy u) refl
     where
       u : Tree
       u = (chosen false (choices e t wants.Boolean [])).tree
@@ -269,24 +271,24 @@ module _ (g : Values) where
       by true k = refl
       by false k =
           let (b, parsed) = parsed_now t e q in
-          let one = chosen_good g wants.Boolean [] true b false (choices e t wants.Boolean []) (tree_good g t [] true e b parsed h wants.Boolean []) in
+          let one = chosen_good g wants.Boolean [] true b false (choices e t wants.Boolean []) (tree_good g l t sound [] true e b parsed wants.Boolean []).0 in
           condition_inside u one.first one.second k one.parsed ∙ sym (condition_inside t e b legacy parsed)
 
-  pub outside_same : (t : Tree) → ReadsWithoutNames (reading t) → is_shown_outside (simplified_filter t) ≡ is_shown_outside t
-  outside_same t h = by (is_legacy t) refl
+  pub outside_same : (l : ℕ) (t : Tree) → IsSound l t → is_shown_outside (simplified_filter t) ≡ is_shown_outside t
+  outside_same l t sound = by (is_legacy t) refl
     where
       by : (b : Bool) → is_legacy t ≡ b → is_shown_outside (if b then t else filter_read t (reading t)) ≡ is_shown_outside t
       by true q = refl
-      by false q = filter_inside t q (reading t) refl h
+      by false q = filter_inside l t sound q (reading t) refl
 
 pub filters_stay_outside : SimplifiedFiltersAreOutsideAlike
-filters_stay_outside g t h = outside_same g t h
+filters_stay_outside g l t sound = outside_same g l t sound
 
 pub values_mean_the_same : SimplifiedValuesMeanTheSame
-values_mean_the_same row g t h w = value_listed g row w t h (form_of row t) refl
+values_mean_the_same row g l t sound w = value_listed g row w l t sound (form_of row t) refl
 
 pub filters_pass_the_same : SimplifiedFiltersPassTheSame
-filters_pass_the_same g t h w = filter_same g w t h
+filters_pass_the_same g l t sound w = filter_same g w l t sound
 
 -- ---- no more nodes
 
@@ -297,12 +299,13 @@ good_fewer : (want : Want) (t : Tree) (e b : Term) (s : SimpleElement) (x : Term
 good_fewer want t e b s x h parsed good q =
     let old : b ≡ e = same_reading (reading t) b e (read_now [] t e b parsed) h in
     let new : good.second ≡ x = same_reading (reading s.tree) good.second x (read_now [] s.tree good.first good.second good.parsed) q in
-    subst (λ z. nodes z ≤ nodes e) new (subst (λ z. nodes good.second ≤ nodes z) old good.fewer)
+    let less = good.lighter node_weights in
+    subst (λ z. nodes z ≤ nodes e) new (subst (λ z. nodes good.second ≤ nodes z) old (omega (arith, less, measured_nodes good.second, measured_nodes b)))
 
-accepted_fewer : (row : RowData) (t : Tree) (e : Term) → reading t ≡ Ok (Some e) → HasNoNames e → (x : Term) → reading (accepted_or_node row (choices e t row.want [])) ≡ Ok (Some x) → nodes x ≤ nodes e
-accepted_fewer row t e h plain x q =
+accepted_fewer : (row : RowData) (l : ℕ) (t : Tree) (e : Term) → IsSound l t → reading t ≡ Ok (Some e) → (x : Term) → reading (accepted_or_node row (choices e t row.want [])) ≡ Ok (Some x) → nodes x ≤ nodes e
+accepted_fewer row l t e sound h x q =
     let (b, parsed) = parsed_now [] t e h in
-    let good = tree_good [] t [] true e b parsed plain row.want [] in
+    let good = (tree_good [] l t sound [] true e b parsed row.want []).0 in
     by b parsed good (is_accepted row (chosen false (choices e t row.want [])).tree) q
   where
     by : (b : Term) → Parsed [] t [] true e b → GoodChoices [] row.want [] true b (choices e t row.want []) → (c : Bool) → reading (if c then (chosen false (choices e t row.want [])).tree else (choices e t row.want []).node.tree) ≡ Ok (Some x) → nodes x ≤ nodes e
@@ -313,12 +316,12 @@ stays_fewer : (t : Tree) (e x : Term) → reading t ≡ Ok (Some e) → reading 
 stays_fewer t e x h q = subst (λ z. nodes z ≤ nodes e) (same_reading (reading t) e x h q) (omega arith)
 
 pub values_have_no_more : SimplifiedValuesHaveNoMoreNodes
-values_have_no_more row t e x h plain q = by (form_of row t) q
+values_have_no_more row l t e x sound h q = by (form_of row t) q
   where
     read_by : (r : Reading) → reading t ≡ r → reading (expression_read row t r) ≡ Ok (Some x) → nodes x ≤ nodes e
     read_by (Ok (Some y)) k q =
         let same : e ≡ y = same_reading (reading t) e y h k in
-        accepted_fewer row t e h plain x (ap (λ z. reading (accepted_or_node row (choices z t row.want []))) same ∙ q)
+        accepted_fewer row l t e sound h x (ap (λ z. reading (accepted_or_node row (choices z t row.want []))) same ∙ q)
     read_by (Ok None) k q = stays_fewer t e x h q
     read_by (Err f) k q = stays_fewer t e x h q
 
@@ -329,7 +332,7 @@ values_have_no_more row t e x h plain q = by (form_of row t) q
     by forms.Literal q = stays_fewer t e x h q
 
 pub filters_have_no_more : SimplifiedFiltersHaveNoMoreNodes
-filters_have_no_more t e x h plain q = by (is_legacy t) q
+filters_have_no_more l t e x sound h q = by (is_legacy t) q
   where
     u_of : Term → Tree
     u_of y = (chosen false (choices y t wants.Boolean [])).tree
@@ -338,7 +341,7 @@ filters_have_no_more t e x h plain q = by (is_legacy t) q
     unless_by y same true q = stays_fewer t e x h q
     unless_by y same false q =
         let (b, parsed) = parsed_now [] t e h in
-        let good = chosen_good [] wants.Boolean [] true b false (choices e t wants.Boolean []) (tree_good [] t [] true e b parsed plain wants.Boolean []) in
+        let good = chosen_good [] wants.Boolean [] true b false (choices e t wants.Boolean []) (tree_good [] l t sound [] true e b parsed wants.Boolean []).0 in
         good_fewer wants.Boolean t e b (chosen false (choices e t wants.Boolean [])) x h parsed good (ap (λ z. reading (u_of z)) same ∙ q)
 
     read_by : (r : Reading) → reading t ≡ r → reading (filter_read t r) ≡ Ok (Some x) → nodes x ≤ nodes e

@@ -2,7 +2,7 @@
 use Rattle.std.proofs.Common.{◌≡◌, ◌∙◌, ◌≤◌, ◌<◌, ℕ, ℤ, ◌+◌, ◌-◌, zero, suc, List, [], ◌∷◌, length, map, Bool, true, false, Option, Some, None, Result, Ok, Err, refl, ap, sym, subst, arith}
 use Rattle.std.proofs.lemmas.Bool.{and_parts, or_parts, or_left, or_right, leb-true, eqb-true, eqb-false, ne_eqb}
 use Rattle.std.specs.Prelude.{not, ◌&&◌, ◌||◌, nat_eq, nat_le, if◌then◌else◌}
-use Rattle.decimal_json.specs.Tree.{Tree, list, Trees, no_trees, tree, trees_of}
+use Rattle.decimal_json.specs.Tree.{Tree, null, boolean, number, text, list, object, Trees, no_trees, tree, trees_of}
 use Rattle.prop_values.specs.declared.kinds.Item.{Item}
 use Rattle.prop_values.specs.declared.kinds.Kind.{Kind}
 use Rattle.prop_values.specs.declared.kinds.Want.{Want}
@@ -29,10 +29,13 @@ use Rattle.expr_syntax.specs.declared.rows.ElementLayout.{ElementLayout}
 use Rattle.expr_syntax.specs.declared.rows.ElementLayout.TheVariants as layouts
 use Rattle.expr_syntax.specs.declared.rows.ElementPlace.TheVariants.{Part, Argument}
 use Rattle.expr_syntax.proofs.CountLaws.{count_trees, label_parts, stop_parts, ramp_parts, binder_parts}
+use Rattle.expr_types.specs.Typing.{KindScope, argument_want}
 use Rattle.eval_face.specs.Meaning.{means}
-use Rattle.style_simplify.specs.Simple.{is_any_read, is_script, listed, operator_reads}
-use Rattle.style_simplify.specs.SimpleElements.{SimpleElement, all_asks, argument_kinds, kind_by, node_of, some_reads, tree_in}
+use Rattle.style_simplify.specs.Choices.{is_image}
+use Rattle.style_simplify.specs.Simple.{choices, elements, is_any_read, is_script, listed, operator_reads, simple_element, simples}
+use Rattle.style_simplify.specs.SimpleElements.{SimpleElement, all_asks, argument_kinds, kind_by, node_of, part, some_reads, tree_in}
 use Rattle.simplify_laws.proofs.ParsedTrees.{Names, Values, LaidBy, Parsed, ParsedArguments}
+use Rattle.simplify_laws.proofs.Measures.{same_weight}
 use Rattle.simplify_laws.proofs.Alike.{AreAlike, IsNameless, any_read, node_alike}
 use Rattle.simplify_laws.proofs.GoodElements.{AreAmong, AreGood, Good, Known, NewArguments, new_arguments}
 
@@ -251,6 +254,30 @@ pub means_count : (ts : List Term) → length (means (terms_of ts)) ≡ length t
 means_count [] = refl
 means_count (t ∷ ts) = ap suc (means_count ts)
 
+pub length_simples : (us : List Term) → length (simples (terms_of us)) ≡ length us
+length_simples [] = refl
+length_simples (u ∷ us) = ap suc (length_simples us)
+
+pub same_image : (t : Tree) (xs ys : Trees) → is_image (list (tree t xs)) ≡ is_image (list (tree t ys))
+same_image null xs ys = refl
+same_image (boolean b) xs ys = refl
+same_image (number n) xs ys = refl
+same_image (text s) xs ys = refl
+same_image (list ts) xs ys = refl
+same_image (object fs) xs ys = refl
+
+-- ---- the elements of a node, one by one
+
+module _ (op : Operator) (n m : ℕ) (want : Want) (ks : KindScope) where
+  pub part_made : (i k : ℕ) (us : List Term) (t : Tree) (ts : List Tree) → is_part (element_place (row (operator_name op)).layout n i) ≡ true →
+      elements op n m want ks i k (simples (terms_of us)) (t ∷ ts) ≡ part t ∷ elements op n m want ks (i + 1) k (simples (terms_of us)) ts
+  part_made i k [] t ts here = refl
+  part_made i k (u ∷ us) t ts here = ap (λ b. if b then part t ∷ elements op n m want ks (i + 1) k (simples (terms_of (u ∷ us))) ts else simple_element false (choices u) t (argument_want op m k want) ks ∷ elements op n m want ks (i + 1) (k + 1) (simples (terms_of us)) ts) here
+
+  pub argument_made : (i k : ℕ) (u : Term) (us : List Term) (t : Tree) (ts : List Tree) → is_part (element_place (row (operator_name op)).layout n i) ≡ false →
+      elements op n m want ks i k (simples (terms_of (u ∷ us))) (t ∷ ts) ≡ simple_element false (choices u) t (argument_want op m k want) ks ∷ elements op n m want ks (i + 1) (k + 1) (simples (terms_of us)) ts
+  argument_made i k u us t ts here = ap (λ b. if b then part t ∷ elements op n m want ks (i + 1) k (simples (terms_of (u ∷ us))) ts else simple_element false (choices u) t (argument_want op m k want) ks ∷ elements op n m want ks (i + 1) (k + 1) (simples (terms_of us)) ts) here
+
 pub within_same : (op : Operator) (N : Names) → IsNameless op → names_within op N ≡ N
 within_same (operators.Let bs) N plain = absurd plain
 within_same op N plain = refl
@@ -312,7 +339,7 @@ module _ (g : Values) where
           same = λ names world.
               node_alike want names names world world op (means (terms_of r.seconds)) (means (terms_of vs)) plain (λ z. refl) (λ z. refl)
               (subst (λ m. AreAlike want names names world world op m 0 (means (terms_of r.seconds)) (means (terms_of vs))) (sym as_many) (r.alike names world));
-          fewer = omega (arith, r.fewer);
+          lighter = λ w. let x = r.lighter w in let same = same_weight w op r.seconds vs r.as_many in omega (arith, x, same);
           known = λ k q. known_by r as_many all (argument_kinds es) refl k q;
           asked = λ k q. asked_by r (argument_kinds es) refl k q;
           argument = refl;
