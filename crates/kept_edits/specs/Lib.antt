@@ -1,0 +1,4 @@
+-- To be believed.
+pub mod EditedKept
+-- What contracts ask.
+pub mod Following
