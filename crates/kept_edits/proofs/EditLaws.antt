@@ -16,7 +16,7 @@ use Rattle.expr_nodes.specs.Evaluators.{Sized}
 use Rattle.node_pool.specs.declared.pool.Pool.{Pool}
 use Rattle.property_tables.specs.declared.property_row.Place.TheVariants.{Layout, Paint}
 use Rattle.layer_buckets.specs.declared.cell.CellItem.TheVariants.{Filter}
-use Rattle.style_edits.specs.ByPlace.{changed_at, edited_at, moved_at}
+use Rattle.style_edits.specs.ByPlace.{changed_at, edited_at, moved_at, place_moved_to}
 use Rattle.style_edits.specs.Layer.{with_filter, with_property, with_range}
 use Rattle.style_edits.specs.Faults.{named_layer, named_before}
 use Rattle.style_edits.specs.Layers.{is_itself}
@@ -27,14 +27,14 @@ use Rattle.kept_layers.specs.KeptLayers.{StyleKept, none_kept}
 use Rattle.kept_layers.specs.View.{AreNumbered, globals_in, kept_seen, tiles_in, trees_in}
 use Rattle.kept_layers.specs.declared.kept_layers.KeptLayers.{KeptLayers}
 use Rattle.kept_layers.specs.declared.style_layers.StyleLayers.{StyleLayers}
-use Rattle.kept_edits.specs.EditedKept.{edited_kept, item_named, moved_from, place_moved_to, without_item}
+use Rattle.kept_edits.specs.EditedKept.{edited_kept, item_named, moved_from, without_item}
 use Rattle.kept_edits.specs.Following.{AddsBefore, ChangesAt, HasFollowed, IsEditOf, IsPlaceIn, MovesAt, RemovesAt}
 use Rattle.kept_edits.proofs.ItemLaws.{filter_item, range_item}
 use Rattle.kept_edits.proofs.PlaceLaws.{before_within, edited_as, itself_placed, layer_within, moved_place, moved_within, place_before, place_within}
 use Rattle.kept_edits.proofs.EditedItems.{property_alike, property_changes}
 use Rattle.kept_edits.proofs.FollowLaws.{added, changed, kept_count, moved, removed, same}
 
-same_place : (count i : ℕ) → place_moved_to count i (Some i) ≡ i
+same_place : (count i : ℕ) → place_moved_to i (Some i) count ≡ i
 same_place count i = grind arith
 
 own_kept : (o : Option ℕ) (ks : StyleKept) → IfSome o (λ i. i < length ks) → moved_from o o ks ≡ ks
@@ -99,7 +99,7 @@ module _ (slots : Pool → List Sized) (style : StyleLayers) (places : EditPlace
       → length (moved_at o b before) ≡ length before
   moved_count None b within there = refl
   moved_count (Some from) b within there =
-      let to = place_moved_to (length before) from b in
+      let to = place_moved_to from b (length before) in
       let left = remove before from in
       let less = length-remove before from within in
       let inside : to ≤ length left = omega (arith, less, moved_within (length before) from b within there) in

@@ -9,7 +9,7 @@ use Rattle.prop_values.specs.Data.{Data}
 use Rattle.expr_nodes.specs.Evaluators.{Sized}
 use Rattle.node_pool.specs.declared.pool.Pool.{Pool}
 use Rattle.layer_buckets.specs.declared.cell.CellItem.{CellItem}
-use Rattle.style_edits.specs.ByPlace.{changed_at, inserted_at, moved_at, removed_at}
+use Rattle.style_edits.specs.ByPlace.{changed_at, inserted_at, moved_at, place_moved_to, removed_at}
 use Rattle.style_layout.specs.Shown.{SourceTile}
 use Rattle.kept_layers.specs.Changes.{ChangesLayer}
 use Rattle.kept_layers.specs.Holding.{ChangesItem, HasLayer, IsRight}
@@ -19,7 +19,7 @@ use Rattle.kept_layers.specs.declared.kept_layers.KeptLayers.{KeptLayers}
 use Rattle.kept_layers.specs.declared.style_layers.OneLayer.{OneLayer}
 use Rattle.kept_layers.specs.declared.style_layers.StyleLayers.{StyleLayers}
 use Rattle.kept_layers.proofs.Lists.{pairs_at, pairs_change, pairs_lengths}
-use Rattle.kept_edits.specs.EditedKept.{moved_from, place_moved_to, removed_kept, without_cells, without_item}
+use Rattle.kept_edits.specs.EditedKept.{moved_from, removed_kept, without_cells, without_item}
 use Rattle.kept_edits.specs.Following.{AddsBefore, ChangesAt, ChangesItemAt, HasFollowed, IsLayerAt, MovesAt, RemovesAt}
 use Rattle.kept_edits.proofs.ItemLaws.{ChangesNoItem, still_held, still_right}
 use Rattle.kept_edits.proofs.PlaceLaws.{moved_place, place_before, place_within}
@@ -145,7 +145,7 @@ module _ (slots : Pool → List Sized) (style : StyleLayers) (before : List Tree
       → HasFollowed slots style before (moved_from o b (kept_seen old)) old new
   moved None b within trees e = same trees e
   moved (Some from) b within trees c =
-      let to = place_moved_to (length (kept_seen old)) from b in
+      let to = place_moved_to from b (length (kept_seen old)) in
       let listed : trees_in style ≡ insert (remove before from) to (get_or before from null) = trees ∙ moved_place before from (length (kept_seen old)) b within counted in
       record {
         numbered = c.numbered;

@@ -6,8 +6,7 @@ use Rattle.std.proofs.lemmas.Slice.Eq.{bytes_eq-Decides}
 use Rattle.decimal_json.specs.Tree.{Tree, null}
 use Rattle.decimal_json.specs.View.{moved_items}
 use Rattle.edit_script.specs.Edit.{Edit}
-use Rattle.style_edits.specs.ByPlace as at
-use Rattle.style_edits.specs.ByPlace.{edited_at, inserted_at, is_own_place, moved_at}
+use Rattle.style_edits.specs.ByPlace.{edited_at, inserted_at, is_own_place, moved_at, place_moved_to}
 use Rattle.style_edits.specs.Edited.{edited_layers}
 use Rattle.style_edits.specs.Faults.{named_layer, named_before}
 use Rattle.style_edits.specs.Layers.{is_itself}
@@ -17,7 +16,6 @@ use Rattle.style_edits.proofs.EditLaws.{edited_by_place}
 use Rattle.style_edits.proofs.ListLaws.{insert_last, insert_removed}
 use Rattle.style_edits.proofs.PlaceLaws.{placed_within}
 use Rattle.kept_layers.proofs.HoldingLaws.{nat_same}
-use Rattle.kept_edits.specs.EditedKept.{place_moved_to}
 
 -- ---- the places of an edit of these layers
 
@@ -46,25 +44,25 @@ place_within None n count e within = omega (arith, e)
 -- ---- a layer that is moved
 
 -- before itself it stays
-own_is : (from count : ℕ) (b : Option ℕ) → is_own_place from b ≡ true → place_moved_to count from b ≡ from
+own_is : (from count : ℕ) (b : Option ℕ) → is_own_place from b ≡ true → place_moved_to from b count ≡ from
 own_is from count (Some i) e = let same : i ≡ from = nat_same i from e in grind (arith, same)
 own_is from count None e = absurd (cc)
 
 pub moved_place : (ts : List Tree) (from count : ℕ) (b : Option ℕ) → from < length ts → count ≡ length ts
-    → moved_at (Some from) b ts ≡ insert (remove ts from) (place_moved_to count from b) (get_or ts from null)
+    → moved_at (Some from) b ts ≡ insert (remove ts from) (place_moved_to from b count) (get_or ts from null)
 moved_place ts from count b within e = by b (is_own_place from b) refl where
   by_test : Option ℕ → Bool → List Tree
-  by_test b own = if own then ts else moved_items from (at.place_moved_to from b (length ts)) ts
+  by_test b own = if own then ts else moved_items from (place_moved_to from b (length ts)) ts
 
   by : (b : Option ℕ) (own : Bool) → is_own_place from b ≡ own
-      → moved_at (Some from) b ts ≡ insert (remove ts from) (place_moved_to count from b) (get_or ts from null)
+      → moved_at (Some from) b ts ≡ insert (remove ts from) (place_moved_to from b count) (get_or ts from null)
   by b true own =
       ap (by_test b) own
       ∙ (sym (insert_removed ts from null within) ∙ ap (λ n. insert (remove ts from) n (get_or ts from null)) (sym (own_is from count b own)))
   by (Some i) false own = ap (by_test (Some i)) own
   by None false own = ap (λ n. insert (remove ts from) (n - 1) (get_or ts from null)) (sym e)
 
-pub moved_within : (count from : ℕ) (b : Option ℕ) → from < count → IfSome b (λ i. i < count) → place_moved_to count from b < count
+pub moved_within : (count from : ℕ) (b : Option ℕ) → from < count → IfSome b (λ i. i < count) → place_moved_to from b count < count
 moved_within count from (Some i) within there = grind (arith, within, there)
 moved_within count from None within there = omega (arith, within)
 

@@ -1,5 +1,5 @@
 -- What an edit of layers makes of what is kept of them. Source: own.
-use Rattle.std.specs.Prelude.{ℕ, ◌-◌, List, length, insert, remove, slice_index_or, nat_lt, Option, Some, None, unwrap_or, if◌then◌else◌}
+use Rattle.std.specs.Prelude.{ℕ, List, length, insert, remove, slice_index_or, Option, Some, None, unwrap_or, if◌then◌else◌}
 use Rattle.decimal_json.specs.Tree.{Tree, null}
 use Rattle.edit_script.specs.Edit as edits
 use Rattle.edit_script.specs.Edit.{Edit}
@@ -8,6 +8,7 @@ use Rattle.property_tables.specs.declared.property_row.Place.{Place}
 use Rattle.property_tables.specs.declared.property_row.Place.TheVariants.{Layout, Paint}
 use Rattle.layer_buckets.specs.declared.cell.CellItem.{CellItem}
 use Rattle.layer_buckets.specs.declared.cell.CellItem.TheVariants.{Filter, Property}
+use Rattle.style_edits.specs.ByPlace.{place_moved_to}
 use Rattle.style_edits.specs.Layers.{is_itself}
 use Rattle.style_edits.specs.declared.places.EditPlaces.{EditPlaces}
 use Rattle.kept_layers.specs.KeptLayers.{StyleKept, kept_without, none_kept, type_of}
@@ -29,16 +30,11 @@ abbrev pub without_item : Option ℕ → (Tree → Option CellItem) → List Tre
 without_item (Some place) item ts ks = without_cells place (item (slice_index_or ts place null)) ks
 without_item None item ts ks = ks
 
--- the place of a layer after it was moved before another, or to the end, from a place among so many
-abbrev pub place_moved_to : (count from : ℕ) → Option ℕ → ℕ
-place_moved_to count from (Some before) = if nat_lt from before then before - 1 else before
-place_moved_to count from None = count - 1
-
 abbrev pub moved_kept : (from to : ℕ) → StyleKept → StyleKept
 moved_kept from to ks = insert (remove ks from) to (slice_index_or ks from none_kept)
 
 abbrev pub moved_from : Option ℕ → Option ℕ → StyleKept → StyleKept
-moved_from (Some from) before ks = moved_kept from (place_moved_to (length ks) from before) ks
+moved_from (Some from) before ks = moved_kept from (place_moved_to from before (length ks)) ks
 moved_from None before ks = ks
 
 abbrev pub removed_kept : Option ℕ → StyleKept → StyleKept

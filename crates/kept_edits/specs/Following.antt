@@ -6,6 +6,7 @@ use Rattle.edit_script.specs.Edit.{Edit}
 use Rattle.expr_nodes.specs.Evaluators.{Sized}
 use Rattle.layer_buckets.specs.declared.cell.CellItem.{CellItem}
 use Rattle.node_pool.specs.declared.pool.Pool.{Pool}
+use Rattle.style_edits.specs.ByPlace.{place_moved_to}
 use Rattle.style_edits.specs.Edited.{edited_layers}
 use Rattle.style_edits.specs.Places.{places_in}
 use Rattle.style_edits.specs.declared.places.EditPlaces.{EditPlaces}
@@ -16,7 +17,6 @@ use Rattle.kept_layers.specs.View.{AreNumbered, HoldsLayers, IsRightIn, globals_
 use Rattle.kept_layers.specs.declared.kept_layers.KeptLayers.{KeptLayers}
 use Rattle.kept_layers.specs.declared.style_layers.OneLayer.{OneLayer}
 use Rattle.kept_layers.specs.declared.style_layers.StyleLayers.{StyleLayers}
-use Rattle.kept_edits.specs.EditedKept.{place_moved_to}
 
 module _ (slots : Pool → List Sized) (style : StyleLayers) where
   -- The layers of the style are these after an edit, the edit named layers at these places, and what is kept is of the
@@ -80,5 +80,5 @@ module _ (slots : Pool → List Sized) where
   -- it is moved before another, or to the end
   abbrev pub MovesAt : Option ℕ → Option ℕ → KeptLayers → KeptLayers → Type 0
   MovesAt (Some from) before old new =
-      MovesLayer slots from (place_moved_to (length (kept_seen old)) from before) old new
+      MovesLayer slots from (place_moved_to from before (length (kept_seen old))) old new
   MovesAt None before old new = new ≡ old

@@ -3,8 +3,9 @@
 ghost use Rattle.std.specs.Prelude.{◌≡◌, ◌<◌, ◌+◌, List, length, IfSome, OnOk};
 ghost use Rattle.decimal_json.specs.Tree.{Tree};
 ghost use Rattle.edit_script.specs.View.{command_seen};
+ghost use Rattle.style_edits.specs.ByPlace.{place_moved_to};
 ghost use Rattle.kept_layers.specs.View.{AreNumbered, IsPrepared, kept_seen, trees_in};
-ghost use Rattle.kept_edits.specs.EditedKept.{edited_kept, item_named, place_moved_to};
+ghost use Rattle.kept_edits.specs.EditedKept.{edited_kept, item_named};
 ghost use Rattle.kept_edits.specs.Following.{AddsBefore, ChangesAt, HasFollowed, IsEditOf, IsEdited, IsPlaceIn, MovesAt, RemovesAt};
 
 use decimal_json::Text;
@@ -144,15 +145,15 @@ fn move_layer(kept: &mut KeptLayers, layer: Option<usize>, before: Option<usize>
     ensures { MovesAt ⟦<Pool as CountedEvaluator>⟧.slots layer before kept.old kept.new }
 {
     if let Some(from) = layer {
-        kept.move_layer(from, place_moved_to(count, from, before));
+        kept.move_layer(from, place_moved_to(from, before, count));
     }
 }
 
 // Where a layer is after it was moved before another, or to the end.
-fn place_moved_to(count: usize, from: usize, before: Option<usize>) -> usize
+fn place_moved_to(from: usize, before: Option<usize>, count: usize) -> usize
     requires from { from < count }
     requires before { IfSome before (λ i. i < count) }
-    ensures place { result ≡ place_moved_to count from before }
+    ensures place { result ≡ place_moved_to from before count }
     ensures within { result < count }
 {
     match before {
