@@ -63,11 +63,15 @@ impl KeptLayers {
         Ok(())
     }
 
-    // The first number that no layer has. Each layer takes memory, so that there is none is refused as a failed
-    // allocation is.
+    // A number that no layer has: that of the layers, which is free as long as none was removed, or the first that
+    // is. Each layer takes memory, so that there is none is refused as a failed allocation is.
     fn unused_number(&self) -> Result<u32, AllocError>
         ensures { IfOk result (λ number. features_of self.now.cells.buckets number ≡ None) }
     {
+        let count = u32::try_from(self.numbers.len()).unwrap_or(u32::MAX);
+        if self.cells.buckets.features(count).is_none() {
+            return Ok(count);
+        }
         for number in 0..u32::MAX {
             if self.cells.buckets.features(number).is_none() {
                 return Ok(number);
