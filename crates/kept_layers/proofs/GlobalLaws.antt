@@ -6,6 +6,7 @@ use Rattle.decimal_json.specs.Tree.{Tree, null}
 use Rattle.prop_values.specs.Data.{Data}
 use Rattle.operator_values.specs.Evaluated.{Evaluated}
 use Rattle.expr_nodes.specs.Evaluators.{Sized}
+use Rattle.node_pool.specs.declared.pool.Pool.{Pool}
 use Rattle.layer_buckets.specs.Cells as cells
 use Rattle.layer_buckets.specs.Cells.{is_item}
 use Rattle.layer_buckets.specs.Seen.{evaluator_of, features_of, kept_at, source_of}
@@ -23,12 +24,15 @@ use Rattle.asked_cells.specs.Expressions.{CellExpression, IsSourced, LayerExpres
 use Rattle.cell_sources.specs.CellLaws.{DifferByGlobals, GlobalsChangeNoOther, reads_globals}
 use Rattle.cell_sources.specs.Sourced.{IsLonger, LeavesOthers, SetsItem}
 use Rattle.cell_sources.proofs.SourcedLaws.{longer_again, longer_itself, sourced_longer}
-use Rattle.kept_layers.proofs.DropLaws.{AreDropped}
+use Rattle.kept_layers.proofs.DropLaws.{AreDropped, all_kept}
 use Rattle.kept_layers.proofs.HoldingLaws.{no_value}
 use Rattle.kept_layers.proofs.Lists.{apart_at, pairs_at, pairs_from}
-use Rattle.kept_layers.specs.Holding.{AreApart, AreHeld, AreRightIn, HasLayer, IsRight, Pairwise}
+use Rattle.kept_layers.specs.Changes.{TurnsGlobals}
+use Rattle.kept_layers.specs.Holding.{AreApart, AreHeld, AreRightIn, HasLayer, IsRight, NoneReadsGlobals, Pairwise, style_kept}
 use Rattle.kept_layers.specs.KeptLayers.{is_stale_global, layer_expressions, prepared_layer, type_of}
 use Rattle.kept_layers.specs.Turning.{IsTurned, LeavesItem, TurnsItem, kept_of_item}
+use Rattle.kept_layers.specs.View.{AreNumbered}
+use Rattle.kept_layers.specs.declared.kept_layers.KeptLayers.{KeptLayers}
 
 pub on_ok_both : {T X P Q R : Type 0} (r : Result T X) → (P → Q → R) → OnOk r P → OnOk r Q → OnOk r R
 on_ok_both (Ok value) f p q = f p q
@@ -41,7 +45,7 @@ globals_stale slots item None source is = ap cells.reads_globals is
 globals_stale slots item (Some e) source (slot, is, at) = ap cells.reads_globals is
 
 -- a number is below another, or it is that one or comes later
-below_or_past : (p k : ℕ) → (p < k) ⊎ (k ≤ p)
+pub below_or_past : (p k : ℕ) → (p < k) ⊎ (k ≤ p)
 below_or_past p zero = inr (omega arith)
 below_or_past zero (suc k) = inl (omega arith)
 below_or_past (suc p) (suc k) = step (below_or_past p k) where
@@ -49,7 +53,7 @@ below_or_past (suc p) (suc k) = step (below_or_past p k) where
   step (inl h) = inl (omega (arith, h))
   step (inr h) = inr (omega (arith, h))
 
-below_or_last : (p k : ℕ) → p < k + 1 → (p ≡ k) ⊎ (p < k)
+pub below_or_last : (p k : ℕ) → p < k + 1 → (p ≡ k) ⊎ (p < k)
 below_or_last p k h = step (below_or_past p k) where
   step : (p < k) ⊎ (k ≤ p) → (p ≡ k) ⊎ (p < k)
   step (inl less) = inr less
@@ -219,6 +223,16 @@ module _ {E : Type 0} (slots : E → List Sized) (after : List (List ℕ × Data
     others = λ p h within item. left_itself (get_or ns p 0) item old;
   }
 
+  -- where no expression reads the global state, all layers are as if they were turned
+  pub none_to_turn : NoneReadsGlobals old → (place : ℕ) → LayersAreTurned place old
+  none_to_turn none place = record {
+    features = λ l. refl;
+    longer = longer_itself (slots (evaluator_of old));
+    first = λ p h within item. left_turns slots (get_or ns p 0) item (layer_expressions after (get_or ts p null) item) old old (none (get_or ns p 0) item)
+        (longer_itself (slots (evaluator_of old))) (left_itself (get_or ns p 0) item old);
+    others = λ p h within item. left_itself (get_or ns p 0) item old;
+  }
+
   module _ (place : ℕ) (now new : Buckets E) (turned : LayersAreTurned place now) (within : place < length ns) (apart : AreApart ns)
       (leaves : LeavesOthers slots (get_or ns place 0) now new)
       (turns : (item : CellItem) → TurnsItem slots (get_or ns place 0) item (layer_expressions after (get_or ts place null) item) now new) where
@@ -289,3 +303,24 @@ module _ {E : Type 0} (slots : E → List Sized) (after : List (List ℕ × Data
         value_by scene (get_or ns p 0) (get_or ts p null) c value (is_stale_global before (get_or ts p null) c) refl
         (sym ((turned_at p within c.item).kept c.feature) ∙ is)
         (pairs_at (IsRight slots tiles before old scene) ns ts p 0 null within right c value))
+
+-- ---- all layers are turned
+
+module _ (slots : Pool → List Sized) (change : GlobalsChangeNoOther) (tiles : List SourceTile) (before after : List (List ℕ × Data)) (ts : List Tree)
+    (old new : KeptLayers) (held : AreHeld slots tiles before old.cells.buckets old.numbers.items ts) (same : length old.numbers.items ≡ length ts)
+    (numbers : new.numbers ≡ old.numbers) (place : ℕ) (end : length old.numbers.items ≤ place)
+    (turned : LayersAreTurned slots after old.cells.buckets old.numbers.items ts place new.cells.buckets) where
+  pub turns_globals : AreNumbered new → TurnsGlobals slots tiles before after ts old new
+  turns_globals numbered =
+      let was = old.cells.buckets in
+      let now = new.cells.buckets in
+      let ns = old.numbers.items in
+      record {
+        numbered = numbered;
+        kept = ap (λ v. style_kept now v.items) numbers ∙ all_kept slots tiles before was now (is_stale_global before) ns ts
+            (all_dropped slots after was ns ts change tiles before held place now end same turned);
+        holds = subst (λ v. Pairwise (HasLayer slots tiles after now) v.items ts) (sym numbers)
+            (all_held slots after was ns ts change tiles before held place now end same turned);
+        right = λ scene right. subst (λ v. Pairwise (IsRight slots tiles after now scene) v.items ts) (sym numbers)
+            (all_right slots after was ns ts change tiles before held place now end same turned scene right);
+      }

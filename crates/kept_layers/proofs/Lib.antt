@@ -4,6 +4,7 @@ pub mod ChangeLaws
 pub mod DropLaws
 pub mod GlobalLaws
 pub mod ListLaws
+pub mod NumberedLaws
 pub mod OneLayers
 pub mod SceneLaws
 pub mod StateLaws

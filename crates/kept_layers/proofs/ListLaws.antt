@@ -1,16 +1,17 @@
 -- One layer after another is asked and listed.
-use Rattle.std.proofs.Common.{◌≡◌, ℕ, suc, ◌+◌, ◌<◌, ◌≤◌, List, [], ◌∷◌, ◌++◌, length, map, take, drop, get_or, Bool, true, false, ◌||◌, Option, Some, None, is_some, Result, Ok, Err, refl, sym, ap, ◌∙◌, subst, arith, if◌then◌else◌}
+use Rattle.std.proofs.Common.{◌≡◌, ℕ, suc, ◌+◌, ◌<◌, ◌≤◌, List, [], ◌∷◌, ◌++◌, length, map, take, drop, get_or, Bool, true, false, ◌||◌, nat_eq, Option, Some, None, is_some, Result, Ok, Err, refl, sym, ap, ◌∙◌, subst, arith, if◌then◌else◌}
 use Rattle.std.specs.Prelude.{IfOk, flat_map, slice_set}
 use Rattle.std.specs.Result.{IsErr}
+use Rattle.std.proofs.lemmas.Bool.{ne_eqb}
 use Rattle.std.proofs.lemmas.Option.{slice_get_within}
 use Rattle.std.proofs.lemmas.List.{append_assoc, append-nil, drop_all, drop_more, get_or-map, length-map, set-get_or}
 use Rattle.decimal_json.specs.Tree.{Tree, null}
 use Rattle.prop_values.specs.Data.{Data}
 use Rattle.operator_values.specs.Evaluated.{Evaluated}
 use Rattle.expr_nodes.specs.Evaluators.{Sized}
-use Rattle.node_pool.specs.declared.pool.Pool.{Pool}
-use Rattle.layer_buckets.specs.Seen.{evaluator_of, features_of, slot_in_source, source_of}
+use Rattle.layer_buckets.specs.Seen.{evaluator_of, features_of, kept_at, slot_in_source, source_of}
 use Rattle.layer_buckets.specs.declared.buckets.Buckets.{Buckets}
+use Rattle.layer_buckets.specs.declared.cell.Cell.{Cell}
 use Rattle.layer_buckets.specs.declared.cell.CellItem.{CellItem}
 use Rattle.layer_buckets.specs.declared.cell.CellItem.TheVariants as items
 use Rattle.layer_buckets.specs.declared.cell.Source.{Source}
@@ -19,7 +20,7 @@ use Rattle.style_layout.specs.Forms.{Property, Scene}
 use Rattle.style_layout.specs.Layers.{StyleLayer}
 use Rattle.style_layout.specs.Shown.{SourceTile, layer_features}
 use Rattle.style_layout.specs.StyleLayout.{cell_count, layer_out}
-use Rattle.asked_cells.specs.Asked.{AskedCell, IsDecided, LayerCell, cell_in, has_own_cells, meaning}
+use Rattle.asked_cells.specs.Asked.{AskedCell, IsDecided, LayerCell, cell_in, has_own_cells, layer_asked, meaning}
 use Rattle.asked_cells.specs.Asking.{AsksLayer, HasSlots, LeavesSources}
 use Rattle.asked_cells.specs.Counted.{Asks, HaveAsked, is_asked, kept_in}
 use Rattle.asked_cells.specs.Expressions.{CellExpression, IsSourced, LayerExpressions}
@@ -28,15 +29,15 @@ use Rattle.cell_sources.specs.CellLaws.{AreReadBy, FiltersAreDecided, Properties
 use Rattle.cell_sources.specs.Sourced.{IsLonger}
 use Rattle.cell_sources.proofs.SourcedLaws.{longer_itself}
 use Rattle.cell_listing.specs.Listable.{AllReadAsListed, IsListable, ReadsAsListed}
-use Rattle.kept_layers.proofs.HoldingLaws.{Leaves, bare_left, kept_left, none_is_not, right_left, there_all}
+use Rattle.kept_layers.proofs.DropLaws.{held_still}
+use Rattle.kept_layers.proofs.HoldingLaws.{Leaves, bare_left, kept_left, nat_itself, no_value, none_is_not, right_left, there_all}
 use Rattle.kept_layers.proofs.Lists.{map_at, pairs_at, pairs_change, pairs_lengths, pairs_same}
 use Rattle.kept_layers.proofs.OneLayers.{few_at, prepared_at}
 use Rattle.kept_layers.proofs.Stepping.{of_end, of_next, sum_end, sum_next}
-use Rattle.kept_layers.specs.Changes.{HaveListed, Lists}
-use Rattle.kept_layers.specs.Holding.{AbsentAreBare, AreApart, AreHeld, AreRightIn, AreThere, HasLayer, IsRight, kept_of, style_kept}
+use Rattle.kept_layers.specs.Changes.{Counts, IsCounted}
+use Rattle.kept_layers.specs.Holding.{AbsentAreBare, AreApart, AreHeld, AreRightIn, AreThere, HasLayer, IsRight, Still, kept_of, style_kept}
 use Rattle.kept_layers.specs.KeptLayers.{LayerKept, StyleKept, asked_of, evaluations_in, evaluations_of, kept_after, kept_with, layer_expressions, none_kept, nodes_in, nodes_of, prepared_layer, prepared_layers, sum_of_each, type_of}
-use Rattle.kept_layers.specs.View.{kept_seen}
-use Rattle.kept_layers.specs.declared.kept_layers.KeptLayers.{KeptLayers}
+use Rattle.kept_layers.specs.LayerListing.{IsKeptLayer}
 
 slot_by : (slots : List Sized) (item : CellItem) (e : Option CellExpression) (source : Option Source) → IsSourced slots item e source
     → is_some source ≡ true → slot_in_source source < length slots
@@ -128,6 +129,23 @@ listable_after slots n old new scene tiles globals t number before after decided
       (kept_in old n) (kept_in new n) number before after have;
 }
 
+-- ---- the cells of a layer are dropped
+
+module _ {E : Type 0} (slots : E → List Sized) (n : ℕ) (a b : Buckets E) where
+  module _ (still : Still a b) (drops : (cell : Cell) → kept_at b cell ≡ (if nat_eq n cell.layer then None else kept_at a cell)) where
+    pub dropped_leaves : (old : Buckets E) → Leaves slots n old a → Leaves slots n old b
+    dropped_leaves old left = record {
+      features = λ l other. still.features l ∙ left.features l other;
+      source = λ l item other. still.source l item ∙ left.source l item other;
+      kept = λ l c other. drops (cell_in l c) ∙ (ap (λ t. if t then None else kept_in a l c) (ne_eqb n l other) ∙ left.kept l c other);
+      longer = subst (λ ev. IsLonger (slots (evaluator_of old)) (slots ev)) (sym still.evaluator) left.longer;
+    }
+
+  pub dropped_right : ((cell : Cell) → kept_at b cell ≡ (if nat_eq n cell.layer then None else kept_at a cell))
+      → (scene : Scene) (tiles : List SourceTile) (globals : List (List ℕ × Data)) (t : Tree) → IsRight slots tiles globals b scene n t
+  dropped_right drops scene tiles globals t c value is =
+      absurd (no_value value (sym (drops (cell_in n c) ∙ ap (λ y. if y then None else kept_in a n c) (nat_itself n)) ∙ is))
+
 -- ---- sums
 
 sum_stays : (nodes rest all mid after before total : ℕ) → nodes + rest ≡ all → after ≤ mid + nodes → mid + all ≤ before + total
@@ -158,29 +176,66 @@ within_map f ns k within = omega (arith, within, length-map ns f)
 past_map : {A : Type 0} (f : ℕ → A) (ns : List ℕ) (k : ℕ) → length ns ≤ k → length (map f ns) ≤ k
 past_map f ns k past = omega (arith, past, length-map ns f)
 
+-- ---- one layer is asked
+
+if_failed : {X Y : Type 0} (r : Result X Y) (P : X → Type 0) → IsErr r → IfOk r P
+if_failed (Ok x) P failed = absurd (cc)
+if_failed (Err y) P failed = tt
+
+-- an allocation fails once a layer was asked
+pub failed_asks : {E X Y : Type 0} (slots : E → List Sized) (n : ℕ) (scene : Scene) (tiles : List SourceTile) (layer : StyleLayer) (old new : Buckets E)
+    (before after : ℕ) (r : Result ℕ X) (s : Result ℕ Y) → IsErr s → AsksLayer slots n scene tiles layer old new r before after
+    → AsksLayer slots n scene tiles layer old new s before after
+failed_asks slots n scene tiles layer old new before after r s failed asks expressions sourced right decided =
+    let a = asks expressions sourced right decided in
+    record {
+      most = a.most;
+      stays = a.stays;
+      ok = if_failed s (λ m. HaveAsked (meaning scene tiles layer expressions) (layer_asked expressions scene tiles layer) (kept_in old n) (kept_in new n) m before after) failed;
+    }
+
+module _ {E : Type 0} (slots : E → List Sized) (scene : Scene) (tiles : List SourceTile) (globals : List (List ℕ × Data)) (t : Tree) (n : ℕ)
+    (layer : StyleLayer) (found : layer ≡ prepared_layer globals t) (old : Buckets E) (held : HasLayer slots tiles globals old n t) where
+  pub layer_slots : HasSlots slots old n
+  layer_slots = held_slots slots tiles globals old n t held
+
+  pub layer_counted : features_of old n ≡ Some (length (layer_features tiles layer))
+  layer_counted = held.features ∙ ap (λ l. Some (length (layer_features tiles l))) (sym found)
+
+  module _ (right : IsRight slots tiles globals old scene n t) (law : FiltersAreDecided) {X : Type 0} (new : Buckets E) (result : Result ℕ X)
+      (before after : ℕ) (asks : AsksLayer slots n scene tiles layer old new result before after) where
+    pub layer_asks : Asks (meaning scene tiles (prepared_layer globals t) (layer_expressions globals t)) (asked_of scene tiles globals t)
+        (kept_in old n) (kept_in new n) result before after
+    layer_asks = subst (λ l. AsksLayer slots n scene tiles l old new result before after) found asks
+        (layer_expressions globals t) held.sources right (decided_of law scene globals t)
+
+  module _ (right : IsRight slots tiles globals old scene n t) (law : FiltersAreDecided) {X : Type 0} (new : Buckets E) (m before after : ℕ)
+      (asks : AsksLayer slots {X = X} n scene tiles layer old new (Ok m) before after) (leaves : LeavesSources n old new) where
+    pub layer_listable : PropertiesAreGiven → PropertiesAreReadByExpressions → IsListable slots n scene tiles layer new
+    layer_listable given read = subst (λ l. IsListable slots n scene tiles l new) (sym found)
+        (listable_after slots n old new scene tiles globals t m before after law given read
+        (layer_asks right law new (Ok m) before after asks).ok (asked_held slots n old new leaves tiles globals n t held))
+
 -- ---- layers in their order
 
 module _ {E : Type 0} (slots : E → List Sized) (scene : Scene) (tiles : List SourceTile) (globals : List (List ℕ × Data))
     (ns : List ℕ) (ts : List Tree) where
-  -- So many of the layers have been asked, from what was kept first.
-  pub record ListsFirst (first : StyleKept) (k : ℕ) (b : Buckets E) (n before after : ℕ) : Type 0 where
-    pub kept : take k (style_kept b ns) ++ kept_after scene tiles globals (drop k ts) (drop k (style_kept b ns))
-        ≡ kept_after scene tiles globals ts first
+  -- So many of the layers have been asked and counted, from what was kept first. The others are as they were.
+  pub record CountsFirst (first : StyleKept) (k : ℕ) (b : Buckets E) (n before after : ℕ) : Type 0 where
     pub counted : n + evaluations_of scene tiles globals (drop k ts) (drop k (style_kept b ns)) ≡ evaluations_of scene tiles globals ts first
     pub least : before + n ≤ after
     pub most : after + nodes_of scene tiles globals (drop k ts) (drop k (style_kept b ns)) ≤ before + nodes_of scene tiles globals ts first
     pub holds : AreHeld slots tiles globals b ns ts
     pub right : AreRightIn slots tiles globals b scene ns ts
 
-  pub none_listed : (b : Buckets E) (before : ℕ) → AreHeld slots tiles globals b ns ts → AreRightIn slots tiles globals b scene ns ts
-      → ListsFirst (style_kept b ns) 0 b 0 before before
-  none_listed b before holds right =
+  pub none_counted : (b : Buckets E) (before : ℕ) → AreHeld slots tiles globals b ns ts → AreRightIn slots tiles globals b scene ns ts
+      → CountsFirst (style_kept b ns) 0 b 0 before before
+  none_counted b before holds right =
       let all = evaluations_of scene tiles globals ts (style_kept b ns) in
       let nodes = nodes_of scene tiles globals ts (style_kept b ns) in
       let counted : 0 + all ≡ all = omega arith in
       let most : before + nodes ≤ before + nodes = omega arith in
       record {
-        kept = refl;
         counted = counted;
         least = omega arith;
         most = most;
@@ -188,37 +243,55 @@ module _ {E : Type 0} (slots : E → List Sized) (scene : Scene) (tiles : List S
         right = right;
       }
 
+  -- What the first layers keep once they have been asked, with what the others will.
+  abbrev pub KeepsFirst : StyleKept → ℕ → Buckets E → Type 0
+  KeepsFirst first k b = take k (style_kept b ns) ++ kept_after scene tiles globals (drop k ts) (drop k (style_kept b ns))
+      ≡ kept_after scene tiles globals ts first
+
 same_lengths : {E : Type 0} (slots : E → List Sized) (tiles : List SourceTile) (globals : List (List ℕ × Data)) (ns : List ℕ) (ts : List Tree) (b : Buckets E)
     → AreHeld slots tiles globals b ns ts → length (style_kept b ns) ≡ length ts
 same_lengths slots tiles globals ns ts b holds = length-map ns (kept_of b) ∙ pairs_lengths (HasLayer slots tiles globals b) ns ts holds
 
 module _ {E : Type 0} {slots : E → List Sized} {scene : Scene} {tiles : List SourceTile} {globals : List (List ℕ × Data)} {ns : List ℕ} {ts : List Tree}
-    {first : StyleKept} {k : ℕ} {b : Buckets E} {n before after : ℕ} (listed : ListsFirst slots scene tiles globals ns ts first k b n before after) where
+    {first : StyleKept} {k : ℕ} {b : Buckets E} {n before after : ℕ} (counts : CountsFirst slots scene tiles globals ns ts first k b n before after) where
   -- no more than all are taken
   pub most_taken : after ≤ before + nodes_of scene tiles globals ts first
-  most_taken = no_more after (nodes_of scene tiles globals (drop k ts) (drop k (style_kept b ns))) (before + nodes_of scene tiles globals ts first) listed.most
+  most_taken = no_more after (nodes_of scene tiles globals (drop k ts) (drop k (style_kept b ns))) (before + nodes_of scene tiles globals ts first) counts.most
 
   -- the layers as they are prepared
   pub layers_length : (layers : List StyleLayer) → layers ≡ prepared_layers globals ts → length layers ≡ length ns
   layers_length layers prepared =
-      ap length prepared ∙ (length-map ts (prepared_layer globals) ∙ sym (pairs_lengths (HasLayer slots tiles globals b) ns ts listed.holds))
+      ap length prepared ∙ (length-map ts (prepared_layer globals) ∙ sym (pairs_lengths (HasLayer slots tiles globals b) ns ts counts.holds))
 
   -- all have been asked
-  pub all_kept_after : length ns ≤ k → style_kept b ns ≡ kept_after scene tiles globals ts first
-  all_kept_after past =
-      sym (of_end (kept_with scene tiles globals) null none_kept k ts (style_kept b ns) (past_map (kept_of b) ns k past) (same_lengths slots tiles globals ns ts b listed.holds))
-      ∙ listed.kept
+  module _ (past : length ns ≤ k) where
+    pub all_kept_after : KeepsFirst slots scene tiles globals ns ts first k b → style_kept b ns ≡ kept_after scene tiles globals ts first
+    all_kept_after keeps =
+        sym (of_end (kept_with scene tiles globals) null none_kept k ts (style_kept b ns) (past_map (kept_of b) ns k past) (same_lengths slots tiles globals ns ts b counts.holds))
+        ∙ keeps
 
-  pub all_counted : length ns ≤ k → n ≡ evaluations_of scene tiles globals ts first
-  all_counted past =
-      no_rest n (evaluations_of scene tiles globals (drop k ts) (drop k (style_kept b ns))) (evaluations_of scene tiles globals ts first)
-      (sum_end (evaluations_in scene tiles globals) null none_kept k ts (style_kept b ns) (past_map (kept_of b) ns k past)) listed.counted
+    pub all_counts : {X : Type 0} → Counts scene tiles globals ts first {X = X} (Ok n) before after
+    all_counts = record {
+      most = most_taken;
+      ok = record {
+        evaluated = no_rest n (evaluations_of scene tiles globals (drop k ts) (drop k (style_kept b ns))) (evaluations_of scene tiles globals ts first)
+            (sum_end (evaluations_in scene tiles globals) null none_kept k ts (style_kept b ns) (past_map (kept_of b) ns k past)) counts.counted;
+        least = counts.least;
+      };
+    }
+
+-- an allocation fails
+pub failed_counts : {X : Type 0} (scene : Scene) (tiles : List SourceTile) (globals : List (List ℕ × Data)) (ts : List Tree) (first : StyleKept)
+    (before after : ℕ) (result : Result ℕ X) → IsErr result → after ≤ before + nodes_of scene tiles globals ts first
+    → Counts scene tiles globals ts first result before after
+failed_counts scene tiles globals ts first before after result failed most =
+    record { most = most; ok = if_failed result (λ n. IsCounted scene tiles globals ts first n before after) failed }
 
 -- ---- the layer at a place
 
 -- Its number is x.
 module _ {E : Type 0} {slots : E → List Sized} {scene : Scene} {tiles : List SourceTile} {globals : List (List ℕ × Data)} {ns : List ℕ} {ts : List Tree}
-    {first : StyleKept} {k : ℕ} {old : Buckets E} {n before mid : ℕ} (listed : ListsFirst slots scene tiles globals ns ts first k old n before mid)
+    {first : StyleKept} {k : ℕ} {old : Buckets E} {n before mid : ℕ} (counts : CountsFirst slots scene tiles globals ns ts first k old n before mid)
     (x : ℕ) (within : k < length ns) (is : x ≡ get_or ns k x) where
   abbrev this : Tree
   this = get_or ts k null
@@ -229,18 +302,15 @@ module _ {E : Type 0} {slots : E → List Sized} {scene : Scene} {tiles : List S
   abbrev asked : List AskedCell
   asked = asked_of scene tiles globals this
 
-  pub this_held : HasLayer slots tiles globals old x (get_or ts k null)
-  this_held = subst (λ m. HasLayer slots tiles globals old m this) (sym is) (pairs_at (HasLayer slots tiles globals old) ns ts k x null within listed.holds)
+  this_held : HasLayer slots tiles globals old x this
+  this_held = subst (λ m. HasLayer slots tiles globals old m this) (sym is) (pairs_at (HasLayer slots tiles globals old) ns ts k x null within counts.holds)
 
   this_right : IsRight slots tiles globals old scene x this
   this_right = subst (λ m. IsRight slots tiles globals old scene m this) (sym is)
-      (pairs_at (IsRight slots tiles globals old scene) ns ts k x null within listed.right)
+      (pairs_at (IsRight slots tiles globals old scene) ns ts k x null within counts.right)
 
   pub this_there : is_some (features_of old x) ≡ true
   this_there = ap is_some this_held.features
-
-  pub this_slots : HasSlots slots old x
-  this_slots = held_slots slots tiles globals old x this this_held
 
   this_kept : get_or (style_kept old ns) k none_kept ≡ kept_of old x
   this_kept = get_or-map (kept_of old) ns k x none_kept within ∙ ap (kept_of old) (sym is)
@@ -249,10 +319,10 @@ module _ {E : Type 0} {slots : E → List Sized} {scene : Scene} {tiles : List S
   within_kept = within_map (kept_of old) ns k within
 
   within_trees : k < length ts
-  within_trees = subst (λ m. k < m) (pairs_lengths (HasLayer slots tiles globals old) ns ts listed.holds) within
+  within_trees = subst (λ m. k < m) (pairs_lengths (HasLayer slots tiles globals old) ns ts counts.holds) within
 
   same : length (style_kept old ns) ≡ length ts
-  same = same_lengths slots tiles globals ns ts old listed.holds
+  same = same_lengths slots tiles globals ns ts old counts.holds
 
   pub this_layer : (layers : List StyleLayer) (layer : StyleLayer) → layers ≡ prepared_layers globals ts → layer ≡ get_or layers k layer
       → layer ≡ prepared_layer globals (get_or ts k null)
@@ -263,24 +333,30 @@ module _ {E : Type 0} {slots : E → List Sized} {scene : Scene} {tiles : List S
       subst (λ ls. k < length ls) (sym prepared) (subst (λ m. k < m) (sym (length-map ts (prepared_layer globals))) within_trees)
 
   module _ (layer : StyleLayer) (found : layer ≡ prepared_layer globals (get_or ts k null)) where
-    pub this_features : features_of old x ≡ Some (length (layer_features tiles layer))
-    this_features = this_held.features ∙ ap (λ l. Some (length (layer_features tiles l))) (sym found)
-
-    pub this_few : cell_count tiles (prepared_layers globals ts) < 4294967295 → length (layer_features tiles layer) < 4294967296
+    this_few : cell_count tiles (prepared_layers globals ts) < 4294967295 → length (layer_features tiles layer) < 4294967296
     this_few few = one_more (length (layer_features tiles layer))
         (subst (λ l. length (layer_features tiles l) < 4294967295) (get_or-map (prepared_layer globals) ts k null layer within_trees ∙ sym found)
         (few_at tiles (prepared_layers globals ts) k 4294967295 layer within_prepared few)) where
           within_prepared : k < length (prepared_layers globals ts)
           within_prepared = subst (λ m. k < m) (sym (length-map ts (prepared_layer globals))) within_trees
 
-    module _ (law : FiltersAreDecided) (new : Buckets E) (after : ℕ) where
-      asks_this : {X : Type 0} (result : Result ℕ X) → AsksLayer slots x scene tiles layer old new result mid after
-          → Asks means asked (kept_in old x) (kept_in new x) result mid after
-      asks_this result asks = subst (λ l. AsksLayer slots x scene tiles l old new result mid after) found asks
-          (layer_expressions globals this) this_held.sources this_right (decided_of law scene globals this)
+    pub this_kept_layer : cell_count tiles (prepared_layers globals ts) < 4294967295 → IsKeptLayer slots scene tiles x layer old
+    this_kept_layer few = record {
+      globals = globals;
+      tree = this;
+      prepared = found;
+      held = this_held;
+      right = this_right;
+      few = this_few few;
+    }
+
+    module _ (law : FiltersAreDecided) (asked_new : Buckets E) (after : ℕ) where
+      asks_this : {X : Type 0} (result : Result ℕ X) → AsksLayer slots x scene tiles layer old asked_new result mid after
+          → Asks means asked (kept_in old x) (kept_in asked_new x) result mid after
+      asks_this result asks = layer_asks slots scene tiles globals this x layer found old this_held this_right law asked_new result mid after asks
 
       -- An allocation fails.
-      pub stops_here : {X : Type 0} (result : Result ℕ X) → AsksLayer slots x scene tiles layer old new result mid after
+      pub stops_here : {X : Type 0} (result : Result ℕ X) → AsksLayer slots x scene tiles layer old asked_new result mid after
           → after ≤ before + nodes_of scene tiles globals ts first
       stops_here result asks =
           let rest = sum_of_each (nodes_in scene tiles globals) (drop (suc k) ts) (drop (suc k) (slice_set (style_kept old ns) k none_kept)) in
@@ -290,86 +366,84 @@ module _ {E : Type 0} {slots : E → List Sized} {scene : Scene} {tiles : List S
           subst (λ kept. nodes_in scene tiles globals this kept + rest ≡ all) this_kept
           (sum_next (nodes_in scene tiles globals) null none_kept k ts (style_kept old ns) none_kept within_kept same) in
           no_more after rest (before + total)
-          (sum_stays (nodes_in scene tiles globals this (kept_of old x)) rest all mid after before total next (asks_this result asks).most listed.most)
+          (sum_stays (nodes_in scene tiles globals this (kept_of old x)) rest all mid after before total next (asks_this result asks).most counts.most)
 
-      module _ (apart : AreApart ns) (leaves : LeavesSources x old new) {X : Type 0} (m : ℕ)
-          (asks : AsksLayer slots {X = X} x scene tiles layer old new (Ok m) mid after) where
-        have : HaveAsked means asked (kept_in old x) (kept_in new x) m mid after
+      module _ (apart : AreApart ns) {X : Type 0} (m : ℕ) (asks : AsksLayer slots {X = X} x scene tiles layer old asked_new (Ok m) mid after) where
+        have : HaveAsked means asked (kept_in old x) (kept_in asked_new x) m mid after
         have = (asks_this (Ok m) asks).ok
 
-        abbrev this_with : LayerKept
-        this_with = kept_with scene tiles globals this (get_or (style_kept old ns) k none_kept)
+        -- Then what is kept of it may change, and what is kept of the other layers stays.
+        module _ (new : Buckets E) (left : Leaves slots x old new) (stays : (l : ℕ) (t : Tree) → HasLayer slots tiles globals old l t → HasLayer slots tiles globals new l t)
+            (still_right : IsRight slots tiles globals new scene x this) where
+          next_kept : style_kept new ns ≡ slice_set (style_kept old ns) k (kept_of new x)
+          next_kept = map_at (kept_of old) (kept_of new) ns k x within apart (λ l other. kept_left slots x old new left l (λ e. other (sym is ∙ e)))
+              ∙ ap (λ l. slice_set (style_kept old ns) k (kept_of new l)) (sym is)
 
-        next_kept : style_kept new ns ≡ slice_set (style_kept old ns) k this_with
-        next_kept = map_at (kept_of old) (kept_of new) ns k x within apart
-            (λ l other. kept_left slots x old new (asked_leaves slots x old new leaves) l (λ e. other (sym is ∙ e)))
-            ∙ ap (slice_set (style_kept old ns) k) (ap (kept_of new) (sym is)
-            ∙ (layer_kept slots x old new leaves scene tiles globals this m mid after have ∙ ap (kept_with scene tiles globals this) (sym this_kept)))
+          next_sum : (amount : Tree → LayerKept → ℕ)
+              → amount this (kept_of old x) + sum_of_each amount (drop (k + 1) ts) (drop (k + 1) (style_kept new ns))
+              ≡ sum_of_each amount (drop k ts) (drop k (style_kept old ns))
+          next_sum amount =
+              let all = sum_of_each amount (drop k ts) (drop k (style_kept old ns)) in
+              let at : amount this (get_or (style_kept old ns) k none_kept)
+              + sum_of_each amount (drop (suc k) ts) (drop (suc k) (slice_set (style_kept old ns) k (kept_of new x))) ≡ all =
+              sum_next amount null none_kept k ts (style_kept old ns) (kept_of new x) within_kept same in
+              let by_number : amount this (kept_of old x)
+              + sum_of_each amount (drop (suc k) ts) (drop (suc k) (slice_set (style_kept old ns) k (kept_of new x))) ≡ all =
+              subst (λ kept. amount this kept + sum_of_each amount (drop (suc k) ts) (drop (suc k) (slice_set (style_kept old ns) k (kept_of new x))) ≡ all) this_kept at in
+              let of_new : amount this (kept_of old x) + sum_of_each amount (drop (suc k) ts) (drop (suc k) (style_kept new ns)) ≡ all =
+              subst (λ ks. amount this (kept_of old x) + sum_of_each amount (drop (suc k) ts) (drop (suc k) ks) ≡ all) (sym next_kept) by_number in
+              subst (λ j. amount this (kept_of old x) + sum_of_each amount (drop j ts) (drop j (style_kept new ns)) ≡ all) (suc_more k) of_new
 
-        next_sum : (amount : Tree → LayerKept → ℕ)
-            → amount this (kept_of old x) + sum_of_each amount (drop (k + 1) ts) (drop (k + 1) (style_kept new ns))
-            ≡ sum_of_each amount (drop k ts) (drop k (style_kept old ns))
-        next_sum amount =
-            let all = sum_of_each amount (drop k ts) (drop k (style_kept old ns)) in
-            let at : amount this (get_or (style_kept old ns) k none_kept)
-            + sum_of_each amount (drop (suc k) ts) (drop (suc k) (slice_set (style_kept old ns) k this_with)) ≡ all =
-            sum_next amount null none_kept k ts (style_kept old ns) this_with within_kept same in
-            let by_number : amount this (kept_of old x)
-            + sum_of_each amount (drop (suc k) ts) (drop (suc k) (slice_set (style_kept old ns) k this_with)) ≡ all =
-            subst (λ kept. amount this kept + sum_of_each amount (drop (suc k) ts) (drop (suc k) (slice_set (style_kept old ns) k this_with)) ≡ all) this_kept at in
-            let of_new : amount this (kept_of old x) + sum_of_each amount (drop (suc k) ts) (drop (suc k) (style_kept new ns)) ≡ all =
-            subst (λ ks. amount this (kept_of old x) + sum_of_each amount (drop (suc k) ts) (drop (suc k) ks) ≡ all) (sym next_kept) by_number in
-            subst (λ j. amount this (kept_of old x) + sum_of_each amount (drop j ts) (drop j (style_kept new ns)) ≡ all) (suc_more k) of_new
+          next_right : AreRightIn slots tiles globals new scene ns ts
+          next_right = subst (λ us. AreRightIn slots tiles globals new scene ns us) (set-get_or ts k null)
+              (pairs_change (IsRight slots tiles globals old scene) (IsRight slots tiles globals new scene) ns ts k x this within apart
+              (λ l u other. right_left slots x old new left tiles globals scene l u (λ e. other (sym is ∙ e)))
+              (subst (λ l. IsRight slots tiles globals new scene l this) is still_right) counts.right)
 
-        next_after : take (k + 1) (style_kept new ns) ++ kept_after scene tiles globals (drop (k + 1) ts) (drop (k + 1) (style_kept new ns))
-            ≡ kept_after scene tiles globals ts first
-        next_after = subst (λ j. take j (style_kept new ns) ++ kept_after scene tiles globals (drop j ts) (drop j (style_kept new ns))
-            ≡ kept_after scene tiles globals ts first) (suc_more k)
-            (ap (λ ks. take (suc k) ks ++ kept_after scene tiles globals (drop (suc k) ts) (drop (suc k) ks)) next_kept
-            ∙ (of_next (kept_with scene tiles globals) null none_kept k ts (style_kept old ns) within_kept same ∙ listed.kept))
+          pub next_counts : (both : ℕ) → both ≡ n + m → CountsFirst slots scene tiles globals ns ts first (k + 1) new both before after
+          next_counts both sum = record {
+            counted = sum_counts n m both (evaluations_in scene tiles globals this (kept_of old x))
+                (evaluations_of scene tiles globals (drop (k + 1) ts) (drop (k + 1) (style_kept new ns)))
+                (evaluations_of scene tiles globals (drop k ts) (drop k (style_kept old ns)))
+                (evaluations_of scene tiles globals ts first) sum have.evaluated (next_sum (evaluations_in scene tiles globals)) counts.counted;
+            least = sum_takes n m both before mid after sum counts.least have.least;
+            most = sum_stays (nodes_in scene tiles globals this (kept_of old x))
+                (nodes_of scene tiles globals (drop (k + 1) ts) (drop (k + 1) (style_kept new ns)))
+                (nodes_of scene tiles globals (drop k ts) (drop k (style_kept old ns)))
+                mid after before (nodes_of scene tiles globals ts first) (next_sum (nodes_in scene tiles globals)) (asks_this (Ok m) asks).most counts.most;
+            holds = pairs_same (HasLayer slots tiles globals old) (HasLayer slots tiles globals new) stays ns ts counts.holds;
+            right = next_right;
+          }
 
-        next_right : AreRightIn slots tiles globals new scene ns ts
-        next_right = subst (λ us. AreRightIn slots tiles globals new scene ns us) (set-get_or ts k null)
-            (pairs_change (IsRight slots tiles globals old scene) (IsRight slots tiles globals new scene) ns ts k x this within apart
-            (λ l u other. right_left slots x old new (asked_leaves slots x old new leaves) tiles globals scene l u (λ e. other (sym is ∙ e)))
-            (subst (λ l. IsRight slots tiles globals new scene l this) is
-            (layer_right slots x old new leaves scene tiles globals this m mid after have this_right)) listed.right)
+        -- It stays as it was asked.
+        module _ (leaves : LeavesSources x old asked_new) where
+          asked_right : IsRight slots tiles globals asked_new scene x this
+          asked_right = layer_right slots x old asked_new leaves scene tiles globals this m mid after have this_right
 
-        -- The layer has been asked.
-        pub next_listed : (both : ℕ) → both ≡ n + m → ListsFirst slots scene tiles globals ns ts first (k + 1) new both before after
-        next_listed both sum = record {
-          kept = next_after;
-          counted = sum_counts n m both (evaluations_in scene tiles globals this (kept_of old x))
-              (evaluations_of scene tiles globals (drop (k + 1) ts) (drop (k + 1) (style_kept new ns)))
-              (evaluations_of scene tiles globals (drop k ts) (drop k (style_kept old ns)))
-              (evaluations_of scene tiles globals ts first) sum have.evaluated (next_sum (evaluations_in scene tiles globals)) listed.counted;
-          least = sum_takes n m both before mid after sum listed.least have.least;
-          most = sum_stays (nodes_in scene tiles globals this (kept_of old x))
-              (nodes_of scene tiles globals (drop (k + 1) ts) (drop (k + 1) (style_kept new ns)))
-              (nodes_of scene tiles globals (drop k ts) (drop k (style_kept old ns)))
-              mid after before (nodes_of scene tiles globals ts first) (next_sum (nodes_in scene tiles globals)) (asks_this (Ok m) asks).most listed.most;
-          holds = pairs_same (HasLayer slots tiles globals old) (HasLayer slots tiles globals new)
-              (asked_held slots x old new leaves tiles globals) ns ts listed.holds;
-          right = next_right;
-        }
+          pub asked_counts : (both : ℕ) → both ≡ n + m → CountsFirst slots scene tiles globals ns ts first (k + 1) asked_new both before after
+          asked_counts = next_counts asked_new (asked_leaves slots x old asked_new leaves) (asked_held slots x old asked_new leaves tiles globals) asked_right
 
-        pub next_listable : PropertiesAreGiven → PropertiesAreReadByExpressions → IsListable slots x scene tiles layer new
-        next_listable given read = subst (λ l. IsListable slots x scene tiles l new) (sym found)
-            (listable_after slots x old new scene tiles globals this m mid after law given read have
-            (asked_held slots x old new leaves tiles globals x this this_held))
+          abbrev this_with : LayerKept
+          this_with = kept_with scene tiles globals this (get_or (style_kept old ns) k none_kept)
 
-if_failed : {X Y : Type 0} (r : Result X Y) (P : X → Type 0) → IsErr r → IfOk r P
-if_failed (Ok x) P failed = absurd (cc)
-if_failed (Err y) P failed = tt
+          asked_kept_now : style_kept asked_new ns ≡ slice_set (style_kept old ns) k this_with
+          asked_kept_now =
+              next_kept asked_new (asked_leaves slots x old asked_new leaves) (asked_held slots x old asked_new leaves tiles globals) asked_right
+              ∙ ap (slice_set (style_kept old ns) k) (layer_kept slots x old asked_new leaves scene tiles globals this m mid after have
+              ∙ ap (kept_with scene tiles globals this) (sym this_kept))
 
--- An allocation fails.
-pub failed_lists : {X : Type 0} {slots : Pool → List Sized} {scene : Scene} {tiles : List SourceTile} {globals : List (List ℕ × Data)} {ts : List Tree}
-    {old new : KeptLayers} {before after : ℕ} (result : Result ℕ X) → IsErr result → after ≤ before + nodes_of scene tiles globals ts (kept_seen old)
-    → Lists slots scene tiles globals ts old new result before after
-failed_lists {X} {slots} {scene} {tiles} {globals} {ts} {old} {new} {before} {after} result failed most = record {
-  most = most;
-  ok = if_failed result (λ n. HaveListed slots scene tiles globals ts old new n before after) failed;
-}
+          pub asked_keeps : KeepsFirst slots scene tiles globals ns ts first k old → KeepsFirst slots scene tiles globals ns ts first (k + 1) asked_new
+          asked_keeps keeps = subst (λ j. take j (style_kept asked_new ns) ++ kept_after scene tiles globals (drop j ts) (drop j (style_kept asked_new ns))
+              ≡ kept_after scene tiles globals ts first) (suc_more k)
+              (ap (λ ks. take (suc k) ks ++ kept_after scene tiles globals (drop (suc k) ts) (drop (suc k) ks)) asked_kept_now
+              ∙ (of_next (kept_with scene tiles globals) null none_kept k ts (style_kept old ns) within_kept same ∙ keeps))
+
+          -- Its cells are dropped.
+          pub dropped_counts : (new : Buckets E) → Still asked_new new → ((cell : Cell) → kept_at new cell ≡ (if nat_eq x cell.layer then None else kept_at asked_new cell))
+              → (both : ℕ) → both ≡ n + m → CountsFirst slots scene tiles globals ns ts first (k + 1) new both before after
+          dropped_counts new still drops = next_counts new (dropped_leaves slots x asked_new new still drops old (asked_leaves slots x old asked_new leaves))
+              (λ l t held. held_still slots tiles globals asked_new new still l t (asked_held slots x old asked_new leaves tiles globals l t held))
+              (dropped_right slots x asked_new new drops scene tiles globals this)
 
 -- ---- lines of layers
 

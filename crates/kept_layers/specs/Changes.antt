@@ -103,21 +103,25 @@ module _ (slots : Pool → List Sized) where
 
   -- ---- a listing
 
-  -- the cells that a listing asks of layers have been asked
+  -- the cells that a listing asks of layers are kept, with those that were
   pub record HaveListed (scene : Scene) (tiles : List SourceTile) (globals : List (List ℕ × Data)) (ts : List Tree)
-      (old new : KeptLayers) (n before after : ℕ) : Type 0 where
+      (old new : KeptLayers) : Type 0 where
     pub kept : kept_seen new ≡ kept_after scene tiles globals ts (kept_seen old)
-    pub evaluated : n ≡ evaluations_of scene tiles globals ts (kept_seen old)
-    pub least : before + n ≤ after
     pub holds : HoldsLayers slots tiles globals ts new
     pub right : IsRightIn slots tiles globals scene ts new
 
-  -- What a listing makes of kept cells. No more steps are taken than the expressions of the cells that are not kept
+module _ (scene : Scene) (tiles : List SourceTile) (globals : List (List ℕ × Data)) (ts : List Tree)
+    (kept : StyleKept) where
+  -- The number of a listing is how many of the cells that it asks were not kept. It takes at least as many steps.
+  pub record IsCounted (n before after : ℕ) : Type 0 where
+    pub evaluated : n ≡ evaluations_of scene tiles globals ts kept
+    pub least : before + n ≤ after
+
+  -- What a listing counts, and the steps that it takes: no more than the expressions of the cells that were not kept
   -- have nodes, also where an allocation fails.
-  pub record Lists {X : Type 0} (scene : Scene) (tiles : List SourceTile) (globals : List (List ℕ × Data))
-      (ts : List Tree) (old new : KeptLayers) (result : Result ℕ X) (before after : ℕ) : Type 0 where
-    pub most : after ≤ before + nodes_of scene tiles globals ts (kept_seen old)
-    pub ok : IfOk result (λ n. HaveListed scene tiles globals ts old new n before after)
+  pub record Counts {X : Type 0} (result : Result ℕ X) (before after : ℕ) : Type 0 where
+    pub most : after ≤ before + nodes_of scene tiles globals ts kept
+    pub ok : IfOk result (λ n. IsCounted n before after)
 
 -- the zoom is another, and all else as it was
 pub record TurnsZoom (old new : ℤ) (before after : Scene) : Type 0 where

@@ -1,8 +1,9 @@
 -- What holds of the kept cells of a style: each layer has its sources and its features, and what is kept is right.
-use Rattle.std.specs.Prelude.{◌≡◌, ◌≢◌, ℕ, List, [], ◌∷◌, length, map, true, Some, None, is_some}
+use Rattle.std.specs.Prelude.{◌≡◌, ◌≢◌, ℕ, List, [], ◌∷◌, length, map, true, false, Some, None, is_some}
 use Rattle.decimal_json.specs.Tree.{Tree}
 use Rattle.prop_values.specs.Data.{Data}
 use Rattle.expr_nodes.specs.Evaluators.{Sized}
+use Rattle.layer_buckets.specs.Cells.{reads_globals}
 use Rattle.layer_buckets.specs.Seen.{evaluator_of, features_of, source_of}
 use Rattle.layer_buckets.specs.declared.buckets.Buckets.{Buckets}
 use Rattle.layer_buckets.specs.declared.cell.CellItem.{CellItem}
@@ -41,6 +42,10 @@ module _ {E : Type 0} where
 
   abbrev pub AbsentAreBare : Buckets E → Type 0
   AbsentAreBare b = (layer : ℕ) → features_of b layer ≡ None → IsBare b layer
+
+  -- no expression was read by the values of the global state
+  abbrev pub NoneReadsGlobals : Buckets E → Type 0
+  NoneReadsGlobals b = (layer : ℕ) (item : CellItem) → reads_globals (source_of b layer item) ≡ false
 
   -- layers, sources and expressions are as they were
   pub record Still (old new : Buckets E) : Type 0 where

@@ -6,3 +6,4 @@ pub mod View
 pub mod Changes
 -- What only contracts of private functions and proofs use.
 pub mod Turning
+pub mod LayerListing

@@ -1,5 +1,5 @@
 -- What clauses see of the program's values.
-use Rattle.std.specs.Prelude.{◌≡◌, ◌<◌, ℕ, List, [], ◌∷◌, map, is_some, true}
+use Rattle.std.specs.Prelude.{◌≡◌, ◌<◌, ℕ, List, [], ◌∷◌, map, is_some, true, false}
 use Rattle.decimal_json.specs.Tree.{Tree}
 use Rattle.decimal_json.specs.View.{items_view}
 use Rattle.prop_values.specs.Data.{Data}
@@ -12,7 +12,7 @@ use Rattle.style_layout.specs.Forms.{Scene}
 use Rattle.style_layout.specs.Shown.{SourceTile}
 use Rattle.style_layout.specs.StyleLayout.{cell_count}
 use Rattle.kept_layers.specs.Holding as holding
-use Rattle.kept_layers.specs.Holding.{AbsentAreBare, AreApart, AreThere, style_kept}
+use Rattle.kept_layers.specs.Holding.{AbsentAreBare, AreApart, AreThere, NoneReadsGlobals, style_kept}
 use Rattle.kept_layers.specs.KeptLayers.{StyleKept, prepared_layers}
 use Rattle.kept_layers.specs.declared.kept_layers.KeptLayers.{KeptLayers}
 use Rattle.kept_layers.specs.declared.style_layers.StyleLayers.{StyleLayers}
@@ -21,13 +21,14 @@ use Rattle.kept_layers.specs.declared.style_layers.StyleLayers.{StyleLayers}
 abbrev pub kept_seen : KeptLayers → StyleKept
 kept_seen k = style_kept k.cells.buckets k.numbers.items
 
--- Layers have numbers of their own, and those of other numbers are not there. A fact that each call asks and hands
--- on.
+-- Layers have numbers of their own, and those of other numbers are not there. Where it is not noted that an expression
+-- was read by the values of the global state, none was. A fact that each call asks and hands on.
 pub record AreNumbered (k : KeptLayers) : Type 0 where
   pub sound : IsSound k.cells.buckets
   pub apart : AreApart k.numbers.items
   pub there : AreThere k.cells.buckets k.numbers.items
   pub bare : AbsentAreBare k.cells.buckets
+  pub noted : k.reads_globals ≡ false → NoneReadsGlobals k.cells.buckets
 
 module _ (slots : Pool → List Sized) (tiles : List SourceTile) (globals : List (List ℕ × Data)) where
   -- they are those of a document, in their order

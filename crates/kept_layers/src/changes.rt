@@ -41,14 +41,12 @@ impl KeptLayers {
         requires item { IsItemOf (type_of (tree_of one.now.layer.now)) item }
         ensures { OnOk result (ChangesLayer ⟦<Pool as CountedEvaluator>⟧.slots place item one.now self.old self.new) }
     {
+        let number = self.numbers[place];
         let values = one.values();
-        set_item(
-            alloc,
-            self.numbers[place],
-            &values,
-            item,
-            &mut self.cells.buckets,
-        )
+        set_item(alloc, number, &values, item, &mut self.cells.buckets)?;
+        let reads = self.item_reads_globals(number, item);
+        self.reads_globals |= reads;
+        Ok(())
     }
 
     /// The zoom is another. Takes time linear in the cells that are dropped.
@@ -108,6 +106,7 @@ impl KeptLayers {
         requires sound { IsSound self.old.cells.buckets }
         requires few { length (layer_features (map tile_seen tiles.now) (layer_seen shown.now)) < 4294967295 }
         ensures numbers { self.new.numbers ≡ self.old.numbers }
+        ensures reads { self.new.reads_globals ≡ self.old.reads_globals }
         ensures sound { IsSound self.new.cells.buckets }
         ensures still { Still self.old.cells.buckets self.new.cells.buckets }
         ensures kept { (cell : Cell) → kept_at self.new.cells.buckets cell

@@ -1,11 +1,11 @@
 //! Other values of the global state.
 
-ghost use Rattle.std.specs.Prelude.{◌≡◌, ◌≢◌, ℕ, List, length, is_some, true, OnOk};
+ghost use Rattle.std.specs.Prelude.{◌≡◌, ◌≢◌, ℕ, List, length, is_some, true, false, OnOk};
 ghost use Rattle.decimal_json.specs.Tree.{object, fields_of};
 ghost use Rattle.decimal_json.specs.View.{tree_of};
 ghost use Rattle.prop_values.specs.Data.{Data};
 ghost use Rattle.layer_buckets.specs.Cells.{reads_globals};
-ghost use Rattle.layer_buckets.specs.Seen.{IsSound, features_of};
+ghost use Rattle.layer_buckets.specs.Seen.{IsSound, features_of, source_of};
 ghost use Rattle.layer_buckets.specs.declared.cell.CellItem.{CellItem};
 ghost use Rattle.cell_sources.specs.CellExpressions.{IsItemOf, item_expression};
 ghost use Rattle.cell_sources.specs.Sourced.{LeavesOthers};
@@ -18,15 +18,15 @@ use crate::kept_layers::KeptLayers;
 use crate::style_layers::{OneLayer, StyleLayers};
 use cell_sources::{LayerValues, globals_change_no_other, set_item};
 use expr_nodes::CountedEvaluator;
-use layer_buckets::{CellItem, Source};
+use layer_buckets::CellItem;
 use node_pool::Pool;
-use property_tables::row_count;
+use property_tables::{LayerType, row_count};
 use std::alloc::{AllocError, Global};
 
 impl KeptLayers {
     /// The values of the global state are those of a style, which had others: the expressions that use them are read
     /// anew, and their cells are dropped. Takes time linear in the items of the layers, in the values that are read
-    /// and in the cells that are dropped.
+    /// and in the cells that are dropped; and constant time as long as no expression has used the global state.
     pub fn turn_globals(&mut self, alloc: Global, style: &StyleLayers<'_>) -> Result<(), AllocError>
         requires numbered { AreNumbered self.old }
         requires prepared { IsPrepared style.now }
@@ -37,6 +37,9 @@ impl KeptLayers {
             before (globals_in style.now) (trees_in style.now) self.old self.new) }
     {
         globals_change_no_other();
+        if !self.reads_globals {
+            return Ok(());
+        }
         for place in 0..self.numbers.len() {
             let one = style.one(place);
             let number = self.numbers[place];
@@ -56,6 +59,7 @@ impl KeptLayers {
         requires there { is_some (features_of self.old.cells.buckets number) ≡ true }
         requires layer { IsOneLayer one.now }
         ensures numbers { self.new.numbers ≡ self.old.numbers }
+        ensures reads { self.new.reads_globals ≡ self.old.reads_globals }
         ensures sound { IsSound self.new.cells.buckets }
         ensures others { LeavesOthers ⟦<Pool as CountedEvaluator>⟧.slots number
             self.old.cells.buckets self.new.cells.buckets }
@@ -82,6 +86,7 @@ impl KeptLayers {
         requires there { is_some (features_of self.old.cells.buckets number) ≡ true }
         requires row { IsItemOf values.now.layer_type item }
         ensures numbers { self.new.numbers ≡ self.old.numbers }
+        ensures reads { self.new.reads_globals ≡ self.old.reads_globals }
         ensures sound { IsSound self.new.cells.buckets }
         ensures others { LeavesOthers ⟦<Pool as CountedEvaluator>⟧.slots number
             self.old.cells.buckets self.new.cells.buckets }
@@ -92,20 +97,32 @@ impl KeptLayers {
         ensures left { OnOk result ((other : CellItem) → item ≢ other
             → LeavesItem number other self.old.cells.buckets self.new.cells.buckets) }
     {
-        let source = self.cells.buckets.source(number, item);
-        if !reads_globals(source) {
+        if !self.item_reads_globals(number, item) {
             return Ok(());
         }
         set_item(alloc, number, values, item, &mut self.cells.buckets)
     }
-}
 
-// Whether the expression of a source was read by the values of the global state.
-fn reads_globals(source: Option<Source>) -> bool
-    ensures { result ≡ reads_globals source }
-{
-    match source {
-        Some(source) => source.globals,
-        None => false,
+    /// Whether an expression of a layer was read by the values of the global state.
+    pub(crate) fn layer_reads_globals(&self, number: u32, layer_type: LayerType) -> bool
+        ensures { result ≡ false → (item : CellItem) → IsItemOf layer_type item
+            → reads_globals (source_of self.now.cells.buckets number item) ≡ false }
+    {
+        for row in 0..row_count(layer_type) {
+            if self.item_reads_globals(number, CellItem::Property(row)) {
+                return true;
+            }
+        }
+        self.item_reads_globals(number, CellItem::Filter)
+    }
+
+    /// Whether the expression of an item was read by the values of the global state.
+    pub(crate) fn item_reads_globals(&self, number: u32, item: CellItem) -> bool
+        ensures { result ≡ reads_globals (source_of self.now.cells.buckets number item) }
+    {
+        match self.cells.buckets.source(number, item) {
+            Some(source) => source.globals,
+            None => false,
+        }
     }
 }

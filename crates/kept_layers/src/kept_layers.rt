@@ -20,6 +20,8 @@ pub struct KeptLayers {
     pub(crate) cells: ViewCells<Pool>,
     /// The number of each layer in the buckets, in the order of the layers.
     pub(crate) numbers: Vec<u32>,
+    /// Whether an expression that they have or had was read by the values of the global state.
+    pub(crate) reads_globals: bool,
 }
 
 impl KeptLayers {
@@ -36,6 +38,7 @@ impl KeptLayers {
         let mut kept = KeptLayers {
             cells: ViewCells::new(alloc, Pool::new(alloc))?,
             numbers: Vec::new(alloc),
+            reads_globals: false,
         };
         for place in 0..style.layers.len() {
             let one = style.one(place);
@@ -57,6 +60,8 @@ impl KeptLayers {
             .add_layer(alloc, number, one.prepared, one.tiles)?;
         let values = one.values();
         add_sources(alloc, number, &values, &mut self.cells.buckets)?;
+        let reads = self.layer_reads_globals(number, values.layer_type);
+        self.reads_globals |= reads;
         let Ok(()) = self.numbers.insert(place, number) else {
             return Err(AllocError);
         };

@@ -13,15 +13,20 @@
 //! What is promised, where `kept_seen` is which cells of each layer are kept:
 //! - `list` appends the listing of the layout, whole, in the scene that is handed in. It gives how many of the cells that the
 //!   listing asks were not kept (`evaluations_of`), keeps those, and takes at least as many steps, and at most as
-//!   many as their expressions have nodes, also where an allocation fails.
+//!   many as their expressions have nodes, also where an allocation fails. `list_last` appends and counts the same,
+//!   and nothing is said of what is kept afterwards.
 //! - `turn_zoom`, `turn_images` and `turn_state` drop exactly the cells whose expressions read what changed: the zoom, where
 //!   they see another one; the test of images; the state of the feature. `turn_globals` drops exactly those whose
-//!   expressions use the global state, and reads these anew. `change` drops the cells of one item of a layer, and
-//!   reads its expression anew. `add`, `remove` and `move_layer` drop no cell of another layer.
-//! - What is kept is what the cells mean in the scene that is shown (`IsRightIn`), before and after each call.
+//!   expressions use the global state, and reads these anew.
+//! - `change` drops the cells of one item of a layer, and reads its expression anew. `add`, `remove` and `move_layer` drop
+//!   no cell of another layer.
+//! - What is kept is what the cells mean in the scene that is shown (`IsRightIn`), before each call, and after each but
+//!   `list_last`.
 //!
 //! Layers have numbers in the buckets (`layer_buckets`) that stay theirs while they move; a number is used again once
-//! its layer is gone. Expressions of items that were edited stay in the pool of nodes until the view goes.
+//! its layer is gone. Expressions of items that were edited stay in the pool of nodes until the view goes. `list_last`
+//! drops the cells of each layer once its lines are written. `turn_globals` takes constant time as long as no
+//! expression has used the global state.
 //!
 //! The text to believe is in `specs/`: `KeptLayers`.
 #![tactic(auto)]

@@ -1,11 +1,15 @@
 //! The listing of a style, by what is kept of its cells.
 
 ghost use Rattle.std.specs.Prelude.{◌≡◌, ◌++◌, flat_map, map, OnOk};
+ghost use Rattle.layer_buckets.specs.Seen.{IsSound};
 ghost use Rattle.listing_text.specs.Listing.{layer_lines, listing};
-ghost use Rattle.style_layout.specs.CodeView.{layers_seen, scene_seen};
+ghost use Rattle.style_layout.specs.CodeView.{layers_seen, scene_seen, tile_seen};
 ghost use Rattle.style_layout.specs.StyleLayout.{layer_out, layers_layout};
-ghost use Rattle.kept_layers.specs.Changes.{Lists};
-ghost use Rattle.kept_layers.specs.View.{AreNumbered, HoldsLayers, IsPrepared, IsRightIn, globals_in, tiles_in, trees_in};
+ghost use Rattle.asked_cells.specs.Asking.{AsksLayer, LeavesSources};
+ghost use Rattle.asked_cells.specs.SeenCells.{layer_at, scene_at};
+ghost use Rattle.kept_layers.specs.Changes.{Counts, HaveListed};
+ghost use Rattle.kept_layers.specs.LayerListing.{IsKeptLayer};
+ghost use Rattle.kept_layers.specs.View.{AreNumbered, HoldsLayers, IsPrepared, IsRightIn, globals_in, kept_seen, tiles_in, trees_in};
 
 use crate::kept_layers::KeptLayers;
 use crate::style_layers::StyleLayers;
@@ -13,12 +17,13 @@ use asked_cells::{LayerAt, sum_of};
 use cell_listing::write_layer;
 use cell_sources::{filters_are_decided, properties_are_given, properties_are_read_by_expressions};
 use expr_nodes::CountedEvaluator;
+use layer_buckets::Stale;
 use listing_text::{write_end, write_zoom};
 use node_pool::Pool;
 use outside_io::Steps;
 use std::alloc::{AllocError, Global};
 use std::sync::ledger::Ledger;
-use style_layout::{Evaluator, Scene};
+use style_layout::{Evaluator, Scene, SourceTile};
 
 impl KeptLayers {
     /// Appends the listing of a style, and gives how many cells were evaluated for it: those that it asks and that
@@ -40,15 +45,46 @@ impl KeptLayers {
         requires right { IsRightIn ⟦<Pool as CountedEvaluator>⟧.slots (tiles_in style.now) (globals_in style.now)
             (scene_seen V.tests scene.now) (trees_in style.now) self.old }
         ensures numbered { AreNumbered self.new }
-        ensures lists { Lists ⟦<Pool as CountedEvaluator>⟧.slots (scene_seen V.tests scene.now)
-            (tiles_in style.now) (globals_in style.now)
-            (trees_in style.now) self.old self.new result steps.old steps.new }
+        ensures counts { Counts (scene_seen V.tests scene.now) (tiles_in style.now) (globals_in style.now)
+            (trees_in style.now) (kept_seen self.old) result steps.old steps.new }
+        ensures listed { OnOk result (HaveListed ⟦<Pool as CountedEvaluator>⟧.slots (scene_seen V.tests scene.now)
+            (tiles_in style.now) (globals_in style.now) (trees_in style.now) self.old self.new) }
         ensures text { OnOk result (out.new.items ≡ out.old.items
             ++ listing (layers_layout (scene_seen V.tests scene.now) (tiles_in style.now)
             (layers_seen style.now.style.now))) }
     {
         write_zoom(scene.zoom.exact(), out)?;
         let number = self.list_layers(alloc, style, scene, steps, out)?;
+        write_end(out)?;
+        Ok(number)
+    }
+
+    /// As `list`, where nothing is listed afterwards: the cells of each layer are dropped once its lines are written,
+    /// so that those of one layer at a time are in memory.
+    #[tactic(auto, unfolding(listing_text::specs::Listing::listing, style_layout::specs::CodeView::scene_seen))]
+    pub fn list_last<'a, V: Evaluator, L: Ledger>(
+        &mut self,
+        alloc: Global,
+        style: &'a StyleLayers<'a>,
+        scene: &'a Scene<'a, V>,
+        steps: &mut Steps<L>,
+        out: &mut Vec<u8>,
+    ) -> Result<u64, AllocError>
+        requires numbered { AreNumbered self.old }
+        requires prepared { IsPrepared style.now }
+        requires holds { HoldsLayers ⟦<Pool as CountedEvaluator>⟧.slots (tiles_in style.now)
+            (globals_in style.now) (trees_in style.now) self.old }
+        requires right { IsRightIn ⟦<Pool as CountedEvaluator>⟧.slots (tiles_in style.now) (globals_in style.now)
+            (scene_seen V.tests scene.now) (trees_in style.now) self.old }
+        ensures numbered { AreNumbered self.new }
+        ensures counts { Counts (scene_seen V.tests scene.now) (tiles_in style.now) (globals_in style.now)
+            (trees_in style.now) (kept_seen self.old) result steps.old steps.new }
+        ensures text { OnOk result (out.new.items ≡ out.old.items
+            ++ listing (layers_layout (scene_seen V.tests scene.now) (tiles_in style.now)
+            (layers_seen style.now.style.now))) }
+    {
+        write_zoom(scene.zoom.exact(), out)?;
+        let number = self.list_and_drop(alloc, style, scene, steps, out)?;
         write_end(out)?;
         Ok(number)
     }
@@ -68,15 +104,14 @@ impl KeptLayers {
         requires right { IsRightIn ⟦<Pool as CountedEvaluator>⟧.slots (tiles_in style.now) (globals_in style.now)
             (scene_seen V.tests scene.now) (trees_in style.now) self.old }
         ensures numbered { AreNumbered self.new }
-        ensures lists { Lists ⟦<Pool as CountedEvaluator>⟧.slots (scene_seen V.tests scene.now)
-            (tiles_in style.now) (globals_in style.now)
-            (trees_in style.now) self.old self.new result steps.old steps.new }
+        ensures counts { Counts (scene_seen V.tests scene.now) (tiles_in style.now) (globals_in style.now)
+            (trees_in style.now) (kept_seen self.old) result steps.old steps.new }
+        ensures listed { OnOk result (HaveListed ⟦<Pool as CountedEvaluator>⟧.slots (scene_seen V.tests scene.now)
+            (tiles_in style.now) (globals_in style.now) (trees_in style.now) self.old self.new) }
         ensures text { OnOk result (out.new.items ≡ out.old.items ++ flat_map layer_lines
             (map (layer_out (scene_seen V.tests scene.now) (tiles_in style.now)) (layers_seen style.now.style.now))) }
     {
         filters_are_decided();
-        properties_are_given();
-        properties_are_read_by_expressions();
         let mut number = 0;
         for place in 0..self.numbers.len() {
             let at = LayerAt {
@@ -84,10 +119,75 @@ impl KeptLayers {
                 layer: style.style.layer(place),
                 scene,
             };
-            let more = self.cells.ask_layer(&at, style.tiles, steps)?;
-            write_layer(alloc, &self.cells.buckets, &at, style.tiles, out)?;
+            let more = self.list_layer(alloc, &at, style.tiles, steps, out)?;
             number = sum_of(number, more)?;
         }
+        Ok(number)
+    }
+
+    // Drops the cells of each layer once it is listed.
+    fn list_and_drop<'a, V: Evaluator, L: Ledger>(
+        &mut self,
+        alloc: Global,
+        style: &'a StyleLayers<'a>,
+        scene: &'a Scene<'a, V>,
+        steps: &mut Steps<L>,
+        out: &mut Vec<u8>,
+    ) -> Result<u64, AllocError>
+        requires numbered { AreNumbered self.old }
+        requires prepared { IsPrepared style.now }
+        requires holds { HoldsLayers ⟦<Pool as CountedEvaluator>⟧.slots (tiles_in style.now)
+            (globals_in style.now) (trees_in style.now) self.old }
+        requires right { IsRightIn ⟦<Pool as CountedEvaluator>⟧.slots (tiles_in style.now) (globals_in style.now)
+            (scene_seen V.tests scene.now) (trees_in style.now) self.old }
+        ensures numbered { AreNumbered self.new }
+        ensures counts { Counts (scene_seen V.tests scene.now) (tiles_in style.now) (globals_in style.now)
+            (trees_in style.now) (kept_seen self.old) result steps.old steps.new }
+        ensures text { OnOk result (out.new.items ≡ out.old.items ++ flat_map layer_lines
+            (map (layer_out (scene_seen V.tests scene.now) (tiles_in style.now)) (layers_seen style.now.style.now))) }
+    {
+        filters_are_decided();
+        let mut evaluated = 0;
+        for place in 0..self.numbers.len() {
+            let at = LayerAt {
+                number: self.numbers[place],
+                layer: style.style.layer(place),
+                scene,
+            };
+            let more = self.list_layer(alloc, &at, style.tiles, steps, out)?;
+            self.cells.buckets.drop_cells(&Stale::Layer(at.number));
+            evaluated = sum_of(evaluated, more)?;
+        }
+        Ok(evaluated)
+    }
+
+    // Asks the cells of a layer, and appends its lines.
+    fn list_layer<V: Evaluator, L: Ledger>(
+        &mut self,
+        alloc: Global,
+        at: &LayerAt<'_, V>,
+        tiles: &[SourceTile<'_>],
+        steps: &mut Steps<L>,
+        out: &mut Vec<u8>,
+    ) -> Result<u64, AllocError>
+        requires sound { IsSound self.old.cells.buckets }
+        requires layer { IsKeptLayer ⟦<Pool as CountedEvaluator>⟧.slots (scene_at V.tests at.now)
+            (map tile_seen tiles.now) at.now.number (layer_at at.now) self.old.cells.buckets }
+        ensures numbers { self.new.numbers ≡ self.old.numbers }
+        ensures reads { self.new.reads_globals ≡ self.old.reads_globals }
+        ensures sound { IsSound self.new.cells.buckets }
+        ensures sources { LeavesSources at.now.number self.old.cells.buckets self.new.cells.buckets }
+        ensures asks { AsksLayer ⟦<Pool as CountedEvaluator>⟧.slots at.now.number (scene_at V.tests at.now)
+            (map tile_seen tiles.now) (layer_at at.now) self.old.cells.buckets self.new.cells.buckets
+            result steps.old steps.new }
+        ensures lines { OnOk result (out.new.items ≡ out.old.items
+            ++ layer_lines (layer_out (scene_at V.tests at.now) (map tile_seen tiles.now) (layer_at at.now))) }
+    {
+        filters_are_decided();
+        properties_are_given();
+        properties_are_read_by_expressions();
+        let number = self.cells.ask_layer(at, tiles, steps)?;
+        write_layer(alloc, &self.cells.buckets, at, tiles, out)?;
         Ok(number)
     }
 }

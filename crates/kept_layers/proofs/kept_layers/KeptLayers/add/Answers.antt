@@ -1,5 +1,6 @@
 use Rattle.std.proofs.Common.{◌≡◌, length, map, sym, ap, subst, ◌∙◌}
 use Rattle.std.specs.Prelude.{insert, is_some, Some, None}
+use Rattle.decimal_json.specs.Tree.{object, fields_of}
 use Rattle.decimal_json.specs.View.{tree_of}
 use Rattle.expr_nodes.specs.Evaluators.{sized_node}
 use Rattle.layer_buckets.specs.Seen.{features_of}
@@ -13,6 +14,7 @@ use Rattle.kept_layers.specs.KeptLayers.{layer_expressions}
 use Rattle.kept_layers.proofs.ChangeLaws.{added_features, added_kept, added_leaves, more_held, more_kept, more_right}
 use Rattle.kept_layers.proofs.HoldingLaws.{absent_other, bare_left, none_is_not, there_insert, there_left}
 use Rattle.kept_layers.proofs.Lists.{apart_insert}
+use Rattle.kept_layers.proofs.NumberedLaws.{noted_items, noted_left, off_first, off_second}
 use Rattle.kept_layers.proofs.kept_layers.KeptLayers.add.Goals as goal
 
 pub returns : goal.returns
@@ -35,6 +37,8 @@ returns c =
     let features = added_features (map sized_node) n count old mid new a.evaluator a.sources a.kept a.ok e.others e.kept in
     let none = added_kept (map sized_node) n count old mid new a.evaluator a.sources a.kept a.ok e.others e.kept (numbered.bare n absent) in
     let other = absent_other old n ns absent numbered.there in
+    let values = c.values-values.result in
+    let reads = c.layer_reads_globals-reads.result in
     let v = c.values-values.ensures in
     let sources : HasExpressions (map sized_node) n (layer_expressions (globals_of one) t) new =
     subst (λ x. HasExpressions (map sized_node) n x new) (λ i. item_expression (v.globals i) (v.layer_type i) (v.members i)) e.sources in
@@ -48,6 +52,9 @@ returns c =
         apart = subst AreApart (sym items) (apart_insert n ns place other numbered.apart);
         there = subst (AreThere new) (sym items) (there_insert new n ns place (ap is_some features) (there_left (map sized_node) n old new left ns other numbered.there));
         bare = bare_left (map sized_node) n old new left numbered.bare (λ gone. absurd (none_is_not (features_of new n) gone (ap is_some features)));
+        noted = λ off. noted_left (map sized_node) n old new left (numbered.noted (off_first c.args.self.now.reads_globals reads off))
+            (noted_items (map sized_node) n values.globals.now values.layer_type (object (fields_of values.members.now)) new e.sources
+            (c.layer_reads_globals-reads.ensures (off_second c.args.self.now.reads_globals reads off)));
       };
       kept = ap (style_kept new) items ∙ more_kept (map sized_node) n place old new ns left other none;
       holds = λ ts held. subst (λ l. Pairwise (HasLayer (map sized_node) (tiles_of one) (globals_of one) new) l (insert ts place t)) (sym items)

@@ -1,6 +1,5 @@
 use Rattle.std.proofs.Common.{◌≡◌, map, get_or, sym, ap, subst, ◌∙◌}
 use Rattle.std.specs.Prelude.{is_some, true, None, if◌then◌else◌}
-use Rattle.std.proofs.lemmas.Result.{on_ok_weaker}
 use Rattle.decimal_json.specs.View.{tree_of}
 use Rattle.expr_nodes.specs.Evaluators.{sized_node}
 use Rattle.layer_buckets.specs.Cells.{is_item}
@@ -12,27 +11,28 @@ use Rattle.kept_layers.specs.Changes.{globals_of, tiles_of}
 use Rattle.kept_layers.specs.KeptLayers.{layer_expressions}
 use Rattle.kept_layers.proofs.ChangeLaws.{edited_held, edited_kept, edited_right, others_left}
 use Rattle.kept_layers.proofs.HoldingLaws.{Leaves, bare_left, none_is_not, there_all, there_at}
+use Rattle.kept_layers.proofs.NumberedLaws.{noted_item, noted_left, off_first, off_second}
 use Rattle.kept_layers.proofs.kept_layers.KeptLayers.change.Goals as goal
 
 pub set_item-requires-clause-there : goal.set_item-requires-clause-there
 set_item-requires-clause-there c =
     let b = c.args.self.now.cells.buckets in
     let ns = c.args.self.now.numbers.items in
-    ap (λ n. is_some (features_of b n)) c.index.ensures
-    ∙ there_at b ns c.args.place c.index.result.now c.requires.within c.requires.numbered.there
+    ap (λ n. is_some (features_of b n)) c.index-number.ensures
+    ∙ there_at b ns c.args.place c.index-number.result.now c.requires.within c.requires.numbered.there
 
 pub returns : goal.returns
 returns c =
     let old = c.args.self.now.cells.buckets in
     let new = c.set_item.new.buckets in
     let ns = c.args.self.now.numbers.items in
-    let n = c.index.result.now in
+    let n = c.index-number.result.now in
     let place = c.args.place in
     let item = c.args.item in
     let one = c.args.one.now in
     let u = tree_of one.layer.now in
     let numbered = c.requires.numbered in
-    let is : n ≡ get_or ns place n = c.index.ensures in
+    let is : n ≡ get_or ns place n = c.index-number.ensures in
     let e = c.set_item.ensures in
     let v = c.values-values.ensures in
     let left = others_left (map sized_node) n old new e.others in
@@ -42,8 +42,8 @@ returns c =
     subst (λ k. (cell : Cell) → kept_at new cell ≡ (if is_item k item cell.layer cell.item then None else kept_at old cell)) is e.kept in
     let there : is_some (features_of old n) ≡ true =
     ap (λ k. is_some (features_of old k)) is ∙ there_at old ns place n c.requires.within numbered.there in
-    on_ok_weaker c.set_item.result
-    (λ made.
+    let made = c.in_ok-set_item.ensures.source in
+    let reads = c.item_reads_globals-reads.result in
     let sets : SetsItem (map sized_node) (get_or ns place n) item (layer_expressions (globals_of one) u item) old new =
     subst (λ k. SetsItem (map sized_node) k item (layer_expressions (globals_of one) u item) old new) is
     (subst (λ x. SetsItem (map sized_node) n item x old new) (λ i. item_expression (v.globals i) (v.layer_type i) (v.members i) item) made) in
@@ -54,11 +54,15 @@ returns c =
         there = there_all old new (λ l. e.others.features l) ns numbered.there;
         bare = bare_left (map sized_node) n old new left numbered.bare
             (λ gone. absurd (none_is_not (features_of old n) (sym (e.others.features n) ∙ gone) there));
+        noted = λ off.
+            let none = numbered.noted (off_first c.args.self.now.reads_globals reads off) in
+            noted_left (map sized_node) n old new left none
+            (noted_item (map sized_node) n item _ old new made none
+            (sym c.item_reads_globals-reads.ensures ∙ off_second c.args.self.now.reads_globals reads off));
       };
       kept = edited_kept (map sized_node) place n ns c.requires.within numbered.apart old new item at features e.others.expressions kept;
       holds = λ ts before changes held. edited_held (map sized_node) place n ns c.requires.within numbered.apart old new item at features e.others.expressions kept
           (tiles_of one) (globals_of one) before u ts changes sets held;
       right = λ scene ts before changes held right. edited_right (map sized_node) place n ns c.requires.within numbered.apart old new item at features e.others.expressions kept
           (tiles_of one) (globals_of one) scene before u ts changes sets right;
-    })
-    e.source
+    }

@@ -22,6 +22,7 @@ loop-feature-preserved-then-eq c =
     record {
       few = c.next.ensures.few;
       numbers = i.numbers;
+      reads = i.reads;
       sound = e.sound;
       still = record {
         evaluator = e.evaluator ∙ i.still.evaluator;

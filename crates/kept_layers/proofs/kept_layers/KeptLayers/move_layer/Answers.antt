@@ -28,6 +28,7 @@ returns c =
         there = subst (AreThere b) (sym items) (there_insert b n (remove ns from) to
             (ap (λ k. is_some (features_of b k)) is ∙ there_at b ns from n c.requires.from numbered.there) (there_remove b ns from numbered.there));
         bare = numbered.bare;
+        noted = numbered.noted;
       };
       kept = ap (map (kept_of b)) items ∙ (map_insert (kept_of b) (remove ns from) to n
           ∙ (λ i. insert (map_remove (kept_of b) ns from i) to ((ap (kept_of b) is ∙ sym (get_or-map (kept_of b) ns from n none_kept c.requires.from)) i)));

@@ -5,6 +5,7 @@ use Rattle.decimal_json.proofs.Edits.{map_insert}
 use Rattle.decimal_json.specs.Tree.{null}
 use Rattle.decimal_json.specs.View.{tree_of}
 use Rattle.expr_nodes.specs.Evaluators.{sized_node}
+use Rattle.layer_buckets.specs.Cells.{reads_globals}
 use Rattle.asked_cells.specs.Asked.{cell_in}
 use Rattle.kept_layers.specs.Changes.{globals_of, nothing_kept, tiles_of}
 use Rattle.kept_layers.specs.Holding.{AreApart, AreThere, HasLayer, IsRight, Pairwise, style_kept}
@@ -25,6 +26,7 @@ loop-place-init c =
         apart = subst AreApart (sym items) tt;
         there = subst (AreThere b) (sym items) tt;
         bare = λ layer none. record { sources = λ item. e.sources layer item; kept = λ cell. e.kept (cell_in layer cell) };
+        noted = λ off layer item. ap reads_globals (e.sources layer item);
       };
       counted = ap length items;
       kept = ap (style_kept b) items;

@@ -1,10 +1,12 @@
 use Rattle.std.proofs.Common.{◌≡◌, map, get_or, sym, ap, subst, ◌∙◌}
 use Rattle.std.specs.Prelude.{remove}
 use Rattle.expr_nodes.specs.Evaluators.{sized_node}
+use Rattle.layer_buckets.specs.Cells.{reads_globals}
 use Rattle.kept_layers.specs.Holding.{AreApart, AreThere, HasLayer, IsRight, Pairwise, style_kept}
 use Rattle.kept_layers.proofs.ChangeLaws.{less_held, less_kept, less_right, removed_bare, removed_leaves, rest_other}
 use Rattle.kept_layers.proofs.HoldingLaws.{bare_left, there_left, there_remove}
 use Rattle.kept_layers.proofs.Lists.{apart_remove}
+use Rattle.kept_layers.proofs.NumberedLaws.{noted_left}
 use Rattle.kept_layers.proofs.kept_layers.KeptLayers.remove.Goals as goal
 
 pub returns : goal.returns
@@ -27,6 +29,7 @@ returns c =
         apart = subst AreApart (sym items) (apart_remove ns place numbered.apart);
         there = subst (AreThere new) (sym items) (there_left (map sized_node) n old new left (remove ns place) other (there_remove old ns place numbered.there));
         bare = bare_left (map sized_node) n old new left numbered.bare (λ none. bare);
+        noted = λ off. noted_left (map sized_node) n old new left (numbered.noted off) (λ item. ap reads_globals (bare.sources item));
       };
       kept = ap (style_kept new) items ∙ less_kept (map sized_node) n place n old new ns c.requires.within is numbered.apart left;
       holds = λ tiles globals ts held. subst (λ l. Pairwise (HasLayer (map sized_node) tiles globals new) l (remove ts place)) (sym items)

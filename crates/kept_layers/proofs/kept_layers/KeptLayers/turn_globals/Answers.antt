@@ -1,21 +1,20 @@
-use Rattle.std.proofs.Common.{◌≡◌, ◌<◌, ◌≤◌, length, map, get_or, sym, ap, subst, arith, ◌∙◌}
+use Rattle.std.proofs.Common.{◌≡◌, ◌<◌, length, map, get_or, refl, sym, ap, subst, arith, ◌∙◌}
 use Rattle.std.specs.Prelude.{is_some, true}
+use Rattle.std.proofs.lemmas.Bool.{false≢true}
 use Rattle.decimal_json.specs.Tree.{null}
 use Rattle.decimal_json.specs.View.{tree_of}
 use Rattle.expr_nodes.specs.Evaluators.{sized_node}
 use Rattle.layer_buckets.specs.Seen.{features_of}
 use Rattle.layer_buckets.specs.declared.cell.CellItem.{CellItem}
 use Rattle.asked_cells.specs.Expressions.{LayerExpressions}
-use Rattle.cell_sources.specs.CellLaws.{GlobalsChangeNoOther}
 use Rattle.cell_sources.specs.Sourced.{LeavesOthers}
 use Rattle.kept_layers.specs.Changes.{globals_of}
-use Rattle.kept_layers.specs.Holding.{AreApart, AreThere, HasLayer, IsRight, Pairwise, style_kept}
-use Rattle.kept_layers.specs.KeptLayers.{is_stale_global, layer_expressions}
+use Rattle.kept_layers.specs.Holding.{AreApart, AreThere}
+use Rattle.kept_layers.specs.KeptLayers.{layer_expressions}
 use Rattle.kept_layers.specs.Turning.{TurnsItem}
 use Rattle.kept_layers.specs.View.{globals_in, tiles_in, trees_in}
 use Rattle.kept_layers.proofs.ChangeLaws.{others_left}
-use Rattle.kept_layers.proofs.DropLaws.{all_kept}
-use Rattle.kept_layers.proofs.GlobalLaws.{all_dropped, all_held, all_right, layers_more}
+use Rattle.kept_layers.proofs.GlobalLaws.{layers_more, none_to_turn, turns_globals}
 use Rattle.kept_layers.proofs.HoldingLaws.{bare_left, none_is_not, there_all, there_at}
 use Rattle.kept_layers.proofs.Lists.{get_same}
 use Rattle.kept_layers.proofs.kept_layers.KeptLayers.turn_globals.Goals as goal
@@ -60,11 +59,22 @@ loop-place-preserved c =
     (subst (λ (x : LayerExpressions). (item : CellItem) → TurnsItem (map sized_node) n item (x item) now new) read e.turned) in
     record {
       numbers = e.numbers ∙ i.numbers;
+      reads = e.reads ∙ i.reads;
       sound = e.sound;
       bare = bare_left (map sized_node) n now new (others_left (map sized_node) n now new e.others) i.bare
           (λ gone. absurd (none_is_not (features_of now n) (sym (e.others.features n) ∙ gone) there));
       turned = layers_more (map sized_node) (globals_in s) old ns ts place now new i.turned within numbered.apart leaves turns;
     }
+
+-- no expression reads the global state
+pub returns-then-not-self : goal.returns-then-not-self
+returns-then-not-self c = λ before held.
+    let s = c.args.style.now in
+    let kept = c.args.self.now in
+    let turned = none_to_turn (map sized_node) (globals_in s) kept.cells.buckets kept.numbers.items (trees_in s)
+    (c.requires.numbered.noted c.if-not-self.true) (length kept.numbers.items) in
+    turns_globals (map sized_node) c.globals_change_no_other.ensures (tiles_in s) before (globals_in s) (trees_in s) kept kept held c.requires.counted
+    refl (length kept.numbers.items) (omega arith) turned c.requires.numbered
 
 pub returns : goal.returns
 returns c = λ before held.
@@ -72,26 +82,13 @@ returns c = λ before held.
     let old = c.args.self.now.cells.buckets in
     let now = c.loop-place.self.cells.buckets in
     let ns = c.args.self.now.numbers.items in
-    let tiles = tiles_in s in
-    let after = globals_in s in
-    let ts = trees_in s in
-    let place = c.loop-place.place in
     let i = c.loop-place.invariant in
     let numbered = c.requires.numbered in
-    let change : GlobalsChangeNoOther = c.globals_change_no_other.ensures in
-    let end : length ns ≤ place = omega (arith, c.loop-place-test.false, c.len-place-end.ensures) in
-    let same : length ns ≡ length ts = c.requires.counted in
-    let drops = all_dropped (map sized_node) after old ns ts change tiles before held place now end same i.turned in
-    record {
-      numbered = record {
-        sound = i.sound;
-        apart = subst (λ v. AreApart v.items) (sym i.numbers) numbered.apart;
-        there = subst (λ v. AreThere now v.items) (sym i.numbers) (there_all old now i.turned.features ns numbered.there);
-        bare = i.bare;
-      };
-      kept = ap (λ v. style_kept now v.items) i.numbers ∙ all_kept (map sized_node) tiles before old now (is_stale_global before) ns ts drops;
-      holds = subst (λ v. Pairwise (HasLayer (map sized_node) tiles after now) v.items ts) (sym i.numbers)
-          (all_held (map sized_node) after old ns ts change tiles before held place now end same i.turned);
-      right = λ scene right. subst (λ v. Pairwise (IsRight (map sized_node) tiles after now scene) v.items ts) (sym i.numbers)
-          (all_right (map sized_node) after old ns ts change tiles before held place now end same i.turned scene right);
-    }
+    turns_globals (map sized_node) c.globals_change_no_other.ensures (tiles_in s) before (globals_in s) (trees_in s) c.args.self.now c.loop-place.self held c.requires.counted
+    i.numbers c.loop-place.place (omega (arith, c.loop-place-test.false, c.len-place-end.ensures)) i.turned (record {
+      sound = i.sound;
+      apart = subst (λ v. AreApart v.items) (sym i.numbers) numbered.apart;
+      there = subst (λ v. AreThere now v.items) (sym i.numbers) (there_all old now i.turned.features ns numbered.there);
+      bare = i.bare;
+      noted = λ off. absurd (false≢true (sym off ∙ (i.reads ∙ c.if-not-self.false)));
+    })

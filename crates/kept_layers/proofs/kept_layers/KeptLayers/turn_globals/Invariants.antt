@@ -9,6 +9,7 @@ use Rattle.kept_layers.proofs.kept_layers.KeptLayers.turn_globals.Given as goal
 abbrev pub invariant-loop-place : goal.invariant-loop-place
 invariant-loop-place l = record {
   numbers : l.self.numbers ≡ l.fn.self.numbers;
+  reads : l.self.reads_globals ≡ l.fn.self.reads_globals;
   sound : IsSound l.self.cells.buckets;
   bare : AbsentAreBare l.self.cells.buckets;
   turned : LayersAreTurned (map sized_node) (globals_in l.fn.style) l.fn.self.cells.buckets l.fn.self.numbers.items (trees_in l.fn.style) l.place l.self.cells.buckets;

@@ -1,14 +1,15 @@
-use Rattle.std.proofs.Common.{ℕ, ◌∙◌, None, ap, if◌then◌else◌}
+use Rattle.std.proofs.Common.{ℕ, ◌∙◌, None, refl, ap, if◌then◌else◌}
 use Rattle.std.specs.Prelude.{map}
 use Rattle.expr_nodes.specs.Evaluators.{sized_node}
-use Rattle.layer_buckets.specs.Seen.{names_cell, source_of}
+use Rattle.layer_buckets.specs.Seen.{source_of}
 use Rattle.layer_buckets.specs.declared.cell.Stale.TheVariants.{Images}
 use Rattle.asked_cells.specs.Asked.{cell_in}
 use Rattle.asked_cells.specs.Counted.{kept_in}
 use Rattle.decimal_json.specs.Tree.{Tree}
 use Rattle.kept_layers.specs.Holding.{HasLayer, Still}
 use Rattle.kept_layers.specs.KeptLayers.{is_stale_image, layer_expressions}
-use Rattle.kept_layers.proofs.DropLaws.{AreDropped, all_dropped, all_kept, all_right, all_still, bare_still, images_stale, none_or, there_still}
+use Rattle.kept_layers.proofs.DropLaws.{AreDropped, all_dropped, all_kept, all_right, all_still, images_stale}
+use Rattle.kept_layers.proofs.NumberedLaws.{dropped_numbered}
 use Rattle.kept_layers.proofs.SceneLaws.{images_mean}
 use Rattle.kept_layers.proofs.kept_layers.KeptLayers.turn_images.Goals as goal
 
@@ -21,14 +22,7 @@ returns-clause-numbered c =
       source = c.drop_cells.ensures.sources;
       features = c.drop_cells.ensures.features;
     } in
-    record {
-      sound = c.drop_cells.ensures.sound;
-      apart = c.requires.numbered.apart;
-      there = there_still old new still c.args.self.now.numbers.items c.requires.numbered.there;
-      bare = bare_still old new still
-          (λ l cell none. c.drop_cells.ensures.kept (cell_in l cell) ∙ none_or (names_cell old Images (cell_in l cell)) (kept_in old l cell) none)
-          c.requires.numbered.bare;
-    }
+    dropped_numbered c.args.self.now _ refl refl c.drop_cells.ensures.sound Images still c.drop_cells.ensures.kept c.requires.numbered
 
 pub returns-clause-drops : goal.returns-clause-drops
 returns-clause-drops c = λ tiles globals ts held.

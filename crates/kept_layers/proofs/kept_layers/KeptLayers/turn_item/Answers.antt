@@ -1,4 +1,4 @@
-use Rattle.std.proofs.Common.{◌≡◌, map, sym, ap, ◌∙◌}
+use Rattle.std.proofs.Common.{◌≡◌, map, sym, ◌∙◌}
 use Rattle.std.specs.Prelude.{true}
 use Rattle.std.proofs.lemmas.Result.{on_ok_weaker}
 use Rattle.decimal_json.specs.Tree.{object, fields_of}
@@ -16,7 +16,7 @@ returns-clause-turned c =
     let values = c.args.values.now in
     let e = item_expression values.globals.now values.layer_type (object (fields_of values.members.now)) c.args.item in
     let flag : reads_globals (source_of old c.args.number c.args.item) ≡ true =
-    sym (c.reads_globals.ensures ∙ ap reads_globals c.source-source.ensures) ∙ c.if-not-reads_globals.false in
+    sym c.item_reads_globals.ensures ∙ c.if-not-item_reads_globals.false in
     on_ok_weaker c.set_item.result
     (λ sets. set_turns (map sized_node) c.args.number c.args.item e old new c.set_item.ensures.kept sets flag)
     c.set_item.ensures.source

@@ -26,6 +26,7 @@ loop-row-preserved c =
     let e = c.in_ok-turn_item.ensures in
     record {
       numbers = e.numbers ∙ i.numbers;
+      reads = e.reads ∙ i.reads;
       sound = e.sound;
       others = others_again (map sized_node) c.args.number old now new i.others e.others;
       turned = first_more (map sized_node) c.args.number expressions old c.loop-row.row now new i.turned i.others.expressions e.others.expressions e.turned e.left;

@@ -10,6 +10,7 @@ use Rattle.kept_layers.proofs.kept_layers.KeptLayers.turn_layer.Given as goal
 abbrev pub invariant-loop-row : goal.invariant-loop-row
 invariant-loop-row l = record {
   numbers : l.self.numbers ≡ l.fn.self.numbers;
+  reads : l.self.reads_globals ≡ l.fn.self.reads_globals;
   sound : IsSound l.self.cells.buckets;
   others : LeavesOthers (map sized_node) l.number l.fn.self.cells.buckets l.self.cells.buckets;
   turned : FirstAreTurned (map sized_node) l.number l.row

@@ -10,11 +10,12 @@ use Rattle.layer_buckets.specs.Seen.{IsSound, kept_at, source_of}
 use Rattle.layer_buckets.specs.declared.cell.Cell.{Cell}
 use Rattle.style_layout.specs.CodeView.{layer_seen, layers_seen}
 use Rattle.style_layout.specs.Shown.{layer_features}
-use Rattle.kept_layers.specs.Holding.{AreApart, AreThere, HasLayer, IsRight, Pairwise, style_kept}
+use Rattle.kept_layers.specs.Holding.{HasLayer, IsRight, Pairwise, style_kept}
 use Rattle.kept_layers.specs.KeptLayers.{id_at, is_feature, is_id, is_stale_state, prepared_layer, prepared_layers}
 use Rattle.kept_layers.specs.View.{globals_in, tiles_in, trees_in}
-use Rattle.kept_layers.proofs.DropLaws.{all_kept, all_right, all_still, bare_still, there_still}
+use Rattle.kept_layers.proofs.DropLaws.{all_kept, all_right, all_still, bare_still}
 use Rattle.kept_layers.proofs.Lists.{get_same, pairs_lengths}
+use Rattle.kept_layers.proofs.NumberedLaws.{still_numbered}
 use Rattle.kept_layers.proofs.OneLayers.{few_at, prepared_at}
 use Rattle.kept_layers.proofs.SceneLaws.{state_means}
 use Rattle.kept_layers.proofs.StateLaws.{not_shown}
@@ -60,6 +61,7 @@ loop-place-preserved c =
     ∙ prepared_at (globals_in s) ts (layers_seen s.style.now) place null shown counted c.requires.prepared.prepared in
     let Turned : KeptLayers → Type 0 = λ k. record {
       numbers : k.numbers ≡ c.args.self.now.numbers;
+      reads : k.reads_globals ≡ c.args.self.now.reads_globals;
       sound : IsSound k.cells.buckets;
       turned : AreTurned (map sized_node) (tiles_in s) (globals_in s) c.args.source.now c.args.source_layer.now c.args.id old ns ts (place + 1) k.cells.buckets;
     } in
@@ -76,6 +78,7 @@ loop-place-preserved c =
           && reads_state (source_of now cell.layer cell.item) then None else kept_at now cell)) here w.drop_features.ensures.kept in
           subst Turned (sym w.self-is) (record {
             numbers = w.drop_features.ensures.numbers ∙ i.numbers;
+            reads = w.drop_features.ensures.reads ∙ i.reads;
             sound = w.drop_features.ensures.sound;
             turned = layer_turned (map sized_node) (tiles_in s) (globals_in s) c.args.source.now c.args.source_layer.now c.args.id old ns ts place now i.turned within
                 c.requires.numbered.apart c.requires.holds w.drop_features.new.self.cells.buckets shown is_shown both.0 both.1 w.drop_features.ensures.still kept;
@@ -86,6 +89,7 @@ loop-place-preserved c =
           ∙ not_shown c.args.source.now c.args.source_layer.now c.args.id shown o (sym w.if-shows.ensures) in
           subst Turned (sym w.self-is) (record {
             numbers = i.numbers;
+            reads = i.reads;
             sound = i.sound;
             turned = passed_by (map sized_node) (tiles_in s) (globals_in s) c.args.source.now c.args.source_layer.now c.args.id old ns ts place now i.turned within
                 c.requires.numbered.apart c.requires.holds none;
@@ -97,13 +101,8 @@ returns-clause-numbered c =
     let old = c.args.self.now.cells.buckets in
     let now = c.loop-place.self.cells.buckets in
     let i = c.loop-place.invariant in
-    let numbered = c.requires.numbered in
-    record {
-      sound = i.sound;
-      apart = subst (λ v. AreApart v.items) (sym i.numbers) numbered.apart;
-      there = subst (λ v. AreThere now v.items) (sym i.numbers) (there_still old now i.turned.still c.args.self.now.numbers.items numbered.there);
-      bare = bare_still old now i.turned.still i.turned.fewer numbered.bare;
-    }
+    still_numbered c.args.self.now c.loop-place.self i.numbers i.reads i.sound i.turned.still
+    (bare_still old now i.turned.still i.turned.fewer c.requires.numbered.bare) c.requires.numbered
 
 pub returns-clause-drops : goal.returns-clause-drops
 returns-clause-drops c =

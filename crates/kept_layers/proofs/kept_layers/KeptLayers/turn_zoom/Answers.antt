@@ -1,17 +1,18 @@
-use Rattle.std.proofs.Common.{◌≡◌, ℕ, ◌∙◌, None, true, false, ap, sym, not, if◌then◌else◌}
+use Rattle.std.proofs.Common.{◌≡◌, ℕ, ◌∙◌, None, true, false, refl, ap, sym, not, if◌then◌else◌}
 use Rattle.std.specs.Ordering.{int_eq}
 use Rattle.fixed_num.specs.Number.{floor_of}
 use Rattle.std.specs.Prelude.{map}
 use Rattle.expr_nodes.specs.Evaluators.{sized_node}
 use Rattle.layer_buckets.specs.Cells.{is_zoomed}
-use Rattle.layer_buckets.specs.Seen.{names_cell, source_of}
+use Rattle.layer_buckets.specs.Seen.{source_of}
 use Rattle.layer_buckets.specs.declared.cell.Stale.TheVariants.{Zoom}
 use Rattle.asked_cells.specs.Asked.{cell_in}
 use Rattle.asked_cells.specs.Counted.{kept_in}
 use Rattle.decimal_json.specs.Tree.{Tree}
 use Rattle.kept_layers.specs.Holding.{HasLayer, Still}
 use Rattle.kept_layers.specs.KeptLayers.{is_stale_zoom, layer_expressions}
-use Rattle.kept_layers.proofs.DropLaws.{AreDropped, all_dropped, all_kept, all_right, all_still, bare_still, is_not, none_or, same_zoom, there_still, zoom_stale}
+use Rattle.kept_layers.proofs.DropLaws.{AreDropped, all_dropped, all_kept, all_right, all_still, is_not, same_zoom, zoom_stale}
+use Rattle.kept_layers.proofs.NumberedLaws.{dropped_numbered}
 use Rattle.kept_layers.proofs.SceneLaws.{zoom_means}
 use Rattle.kept_layers.proofs.kept_layers.KeptLayers.turn_zoom.Goals as goal
 
@@ -24,14 +25,7 @@ returns-then-ne-clause-numbered c =
       source = c.drop_cells.ensures.sources;
       features = c.drop_cells.ensures.features;
     } in
-    record {
-      sound = c.drop_cells.ensures.sound;
-      apart = c.requires.numbered.apart;
-      there = there_still old new still c.args.self.now.numbers.items c.requires.numbered.there;
-      bare = bare_still old new still
-          (λ l cell none. c.drop_cells.ensures.kept (cell_in l cell) ∙ none_or (names_cell old (Zoom c.ne-floor.result) (cell_in l cell)) (kept_in old l cell) none)
-          c.requires.numbered.bare;
-    }
+    dropped_numbered c.args.self.now _ refl refl c.drop_cells.ensures.sound (Zoom c.ne-floor.result) still c.drop_cells.ensures.kept c.requires.numbered
 
 pub returns-then-ne-clause-drops : goal.returns-then-ne-clause-drops
 returns-then-ne-clause-drops c = λ tiles globals ts held.
