@@ -89,6 +89,16 @@ def passes(tree, world):
     return is_equal is (name in ("==", "in"))
 
 
+def reads_feature(tree):
+    """Whether the expression of a legacy filter reads the feature."""
+    if isinstance(tree, bool):
+        return False
+    if tree[0] in GROUPS:
+        return any(map(reads_feature, tree[1:]))
+    is_known = tree[0] in ("has", "!has") and tree[1] == "$type" or tree[0] in ORDERS and isinstance(tree[2], bool)
+    return not is_known
+
+
 def value_of_key(key, world):
     """The value of a key in a list, which is empty where it is missing."""
     if key == "$type":

@@ -1,6 +1,7 @@
 """What `eval` and `replay` print of a style without findings, by the manual's chapters on the listing and on scripts."""
 
 import dataclasses
+import functools
 import pathlib
 import sys
 
@@ -34,7 +35,8 @@ class Feature:
 
 @dataclasses.dataclass
 class Session:
-    """What a listing sees besides the style: tiles by source, the zoom, states, images and the global state."""
+    """What a listing sees besides the style: tiles by source, the zoom, states, images and the global state. Beside these, what earlier listings
+    evaluated and no line made stale since, by the place of the layer, the item and the number of the feature, and how many the last one evaluated."""
 
     tiles: dict
     zoom: int
@@ -42,6 +44,8 @@ class Session:
     states: dict = dataclasses.field(default_factory=dict)
     images: set = dataclasses.field(default_factory=set)
     globals: dict = dataclasses.field(default_factory=dict)
+    kept: set = dataclasses.field(default_factory=set)
+    last: int = 0
 
     def world(self, zoom, layer, feature):
         """What an expression of a layer sees, of one feature or of none."""
@@ -82,9 +86,13 @@ def feature(number, found):
 
 def listing(style, session):
     """The lines of a listing."""
+    layers = [Layer(layer, session) for layer in trees.member(style, "layers")]
+    asked = {(place, *one) for place, layer in enumerate(layers) for one in layer.asked()}
+    session.last = len(asked - session.kept)
+    session.kept |= asked
     lines = [f"zoom {millionths.written(session.zoom)}"]
-    for layer in trees.member(style, "layers"):
-        lines += Layer(layer, session).lines()
+    for layer in layers:
+        lines += layer.lines()
     return lines + ["end"]
 
 
@@ -115,6 +123,36 @@ class Layer:
             return [line + " ?", *own]
         return [line, *own] + [text for one in self.shown() for text in self.feature_lines(one)]
 
+    def asked(self):
+        """What a listing evaluates of the layer where nothing is kept: items, each with the number of a feature, or None for the layer."""
+        if self.is_hidden() or self.type in UNREAD_TYPES:
+            return set()
+        own = {(row.name, None) for row, checked in self.values if is_evaluated(checked) and not reads_feature(checked)}
+        if self.type not in FEATURE_TYPES or (self.filter and self.filter.is_outside):
+            return own
+        of_features = {(row.name, one.number) for one in self.shown() for row, checked in self.values if reads_feature(checked)}
+        return own | self.asked_of_filter() | of_features
+
+    def asked_of_filter(self):
+        if self.filter is None or isinstance(trees.member(self.layer, "filter"), bool):
+            return set()
+        return {("filter", one.number) for one in self.found} if reads_feature(self.filter) else {("filter", None)}
+
+    @functools.cached_property
+    def found(self):
+        return features(self.session, self.layer)
+
+    def is_of(self, number, source, source_layer, identifier):
+        """Whether the feature of this number has this identifier in this source layer."""
+        place = (trees.member(self.layer, "source"), trees.member(self.layer, "source-layer"), self.found[number].identifier)
+        return place == (source, source_layer, trees.number(identifier))
+
+    def item(self, name):
+        """Where an item is set, and the operators of its expression. A filter sees the zoom as a value of `layout` does."""
+        if name == "filter":
+            return "layout", operators(self.filter)
+        return next((row.place, operators(checked)) for row, checked in self.values if row.name == name)
+
     def is_hidden(self):
         zoom = self.session.zoom
         least, most = (trees.number(trees.member(self.layer, name)) for name in ("minzoom", "maxzoom"))
@@ -127,7 +165,7 @@ class Layer:
 
     def shown(self):
         """The features that are listed, in their order."""
-        passed = [one for one in features(self.session, self.layer) if self.passes(one)]
+        passed = [one for one in self.found if self.passes(one)]
         for row, checked in self.values:
             if row.name == f"{self.type}-sort-key" and reads_feature(checked):
                 return sorted(passed, key=lambda one: self.sort_key(row, checked, one))
@@ -182,7 +220,21 @@ def reads_feature(checked):
     form, meant = checked.meant or (None, None)
     if form == "function":
         return expressions.mentions_feature(meant[1])
+    if form == "legacy":
+        return legacy.reads_feature(meant)
     return form == "tokens" or (form == "expression" and expressions.mentions_feature(meant))
+
+
+def is_evaluated(checked):
+    """Whether a value takes evaluations: it is neither a literal nor outside."""
+    return not checked.is_outside and checked.meant[0] != "literal"
+
+
+def operators(checked):
+    """The operators of the expression of a value or filter; of a legacy filter and a token text none but those that read the feature."""
+    form, meant = checked.meant
+    node = {"expression": lambda: meant, "function": lambda: meant[1]}.get(form, lambda: None)()
+    return {one.operator for one in expressions.nodes(node)} if node else set()
 
 
 def replayed(style, session, script):
@@ -191,10 +243,33 @@ def replayed(style, session, script):
     for number, line in enumerate(script, 1):
         if line[0] == "list":
             lines += listing(style, session)
+        elif line[0] == "stats":
+            lines.append(f"stats {session.last}")
         else:
+            zoom = session.zoom
             COMMANDS[line[0]](session, *line[1:])
+            drop(style, session, line, zoom)
             lines.append(f"ok {number}")
     return lines
+
+
+def drop(style, session, line, zoom):
+    """What the line made stale is not kept any more; the zoom is that before the line."""
+    layers = [Layer(layer, session) for layer in trees.member(style, "layers")]
+    session.kept = {(place, *one) for place, *one in session.kept if not is_stale(layers[place], *one, line, zoom)}
+
+
+def is_stale(layer, name, number, line, zoom):
+    """Whether a line makes an item of a layer stale, for the feature of a number or for the layer."""
+    place, asked = layer.item(name)
+    if line[0] == "set-zoom":
+        seen = (lambda one: one) if place == "paint" else millionths.floor
+        return "zoom" in asked and seen(zoom) != seen(layer.session.zoom)
+    if line[0] in ("set-state", "remove-state"):
+        return "feature-state" in asked and layer.is_of(number, *line[1:4])
+    if line[0] in ("add-image", "remove-image"):
+        return "image" in asked
+    return line[0] == "set-global" and "global-state" in asked
 
 
 def set_zoom(session, zoom):

@@ -305,12 +305,12 @@ class Maker(making.Maker):
         return bytes_field(2, b"".join(parts))
 
     def script(self):
-        """Lines that are all accepted, with a listing at the end."""
+        """Lines that are all accepted, with a listing and the number of its evaluations at the end."""
         lines = [self.script_line() for _ in range(self.rng.randint(3, 12))]
-        return [*lines, ["list"]]
+        return [*lines, ["list"], ["stats"]]
 
     def script_line(self):
-        name = self.one(["set-zoom", *["set-state"] * 4, "remove-state", "add-image", "remove-image", "set-global", "list"])
+        name = self.one(["set-zoom", *["set-state"] * 4, "remove-state", "add-image", "remove-image", "set-global", "list", "list", "stats"])
         scalar = lambda: self.one([Number(self.one(["1", "0.5", "7"])), self.one(TEXTS + COLORS), True, None, [Number("1"), "a"]])
         identifier = Number(self.one(["0", "1", "2.0", "3", "7", "18446744073709551615"]))
         place = [self.one(["t", "t", "u"]), self.one(["p", "p", "q"]), identifier]
@@ -322,4 +322,4 @@ class Maker(making.Maker):
             return [name, *place, self.one([None, *KEYS])]
         if name in ("add-image", "remove-image"):
             return [name, self.one(TEXTS + COLORS)]
-        return [name] if name == "list" else [name, self.one(KEYS), scalar()]
+        return [name] if name in ("list", "stats") else [name, self.one(KEYS), scalar()]

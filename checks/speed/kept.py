@@ -1,5 +1,5 @@
-"""Measures listings over kept cells beside those that evaluate each value, on the styles and tiles of listings.py: microseconds of each, the
-evaluations, and what a change of the zoom and of a state take.
+"""Measures first and later listings over kept cells beside one that keeps a layer at a time, on the styles and tiles of listings.py: microseconds of
+each, the evaluations, and what a change of the zoom and of a state take.
 
     python3 checks/speed/kept.py PROGRAM [BEGINNING..]
 

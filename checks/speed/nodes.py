@@ -1,15 +1,17 @@
 """Counts the instructions of an evaluation by an expression's tree, by nodes of its own and by those of a pool.
 
-    python3 checks/speed/nodes.py [PROGRAM]
+    python3 checks/speed/nodes.py [--times] [PROGRAM]
 
 The expressions are those of evaluations.py and some more. A program over the crates (nodes.txt) evaluates each so many times, and three times as many; the
 difference is what an evaluation takes. PROGRAM is that program, made before; else `rt run` proves it, with the ledger that nodes_picks.txt picks, and LLVM
-builds it. valgrind has to be installed.
+builds it. valgrind has to be installed. With --times it takes the processor's time of so many more evaluations, the least of eleven
+runs each, which wants a machine that does nothing else.
 """
 
 import json
 import pathlib
 import re
+import resource
 import shutil
 import subprocess
 import sys
@@ -45,6 +47,28 @@ def instructions(program, way, expression, times):
     return int(re.search(r"Collected : (\d+)", done.stderr)[1])
 
 
+def seconds(program, way, expression, times):
+    """The processor's time of a whole run."""
+    before = resource.getrusage(resource.RUSAGE_CHILDREN)
+    subprocess.run([str(program), way, str(times)], input=json.dumps(expression) + "\n", capture_output=True, text=True, check=True)
+    after = resource.getrusage(resource.RUSAGE_CHILDREN)
+    return after.ru_utime + after.ru_stime - before.ru_utime - before.ru_stime
+
+
+def measure_times(program):
+    """The ways take turns, so that a machine that grows slower does so for all."""
+    print("| Expression | Tree | Boxes | Pool |\n|---|---|---|---|")
+    for name, expression, times in cases():
+        times *= 400
+        least = {way: [float("inf")] * 2 for way in WAYS}
+        for _ in range(11):
+            for way in WAYS:
+                for place, many in enumerate((times, 3 * times)):
+                    least[way][place] = min(least[way][place], seconds(program, way, expression, many))
+        nanoseconds = [(least[way][1] - least[way][0]) / (2 * times) * 1e9 for way in WAYS]
+        print(f"| {name} | {nanoseconds[0]:,.0f} | " + " | ".join(f"{one:,.0f}; {one / nanoseconds[0]:.3f}" for one in nanoseconds[1:]) + " |", flush=True)
+
+
 def of_one(program, way, expression, times):
     return (instructions(program, way, expression, 3 * times) - instructions(program, way, expression, times)) / (2 * times)
 
@@ -57,15 +81,18 @@ def measure(program):
 
 
 def main():
-    if len(sys.argv) > 1:
-        return measure(pathlib.Path(sys.argv[1]))
+    words = sys.argv[1:]
+    by_time = words[:1] == ["--times"]
+    take = measure_times if by_time else measure
+    if words[by_time:]:
+        return take(pathlib.Path(words[by_time]))
     with tempfile.TemporaryDirectory() as name:
         folder = pathlib.Path(name)
         program = scratch.make_program(folder, "node_steps", "speed/nodes.txt", BELOW)
         proofs = program / "proofs" / "main"
         proofs.mkdir(parents=True)
         shutil.copy(TOP / "checks" / "speed" / "nodes_picks.txt", proofs / "Invariants.antt")
-        measure(scratch.build(program, "tree", "0"))
+        take(scratch.build(program, "tree", "0"))
 
 
 if __name__ == "__main__":

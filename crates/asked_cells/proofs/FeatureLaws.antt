@@ -3,7 +3,7 @@ use Rattle.std.proofs.Common.{◌≡◌, ℕ, suc, ◌+◌, ◌<◌, ◌≤◌, 
 use Rattle.std.specs.Prelude.{flat_map}
 use Rattle.tile_reader.specs.declared.tile.Feature.{Feature}
 use Rattle.operator_values.specs.Evaluated.{Evaluated}
-use Rattle.expr_plain.specs.Resolved.{passes}
+use Rattle.eval_face.specs.Resolved.{passes}
 use Rattle.expr_nodes.specs.Evaluators.{Sized}
 use Rattle.layer_buckets.specs.Seen.{evaluator_of, source_of}
 use Rattle.layer_buckets.specs.declared.buckets.Buckets.{Buckets}

@@ -10,7 +10,7 @@ use Rattle.expr_syntax.specs.TermSize.{nodes}
 use Rattle.operator_values.specs.Evaluated.{Evaluated}
 use Rattle.eval_face.specs.Meaning.{mean}
 use Rattle.eval_face.specs.World.{World, no_feature}
-use Rattle.expr_plain.specs.Resolved.{passes}
+use Rattle.eval_face.specs.Resolved.{passes}
 use Rattle.layer_buckets.specs.Cells.{feature_eq, item_eq}
 use Rattle.layer_buckets.specs.declared.cell.Cell.{Cell}
 use Rattle.layer_buckets.specs.declared.cell.CellItem.{CellItem}

@@ -2,7 +2,7 @@
 use Rattle.std.specs.Prelude.{◌≡◌, ◌≢◌, ℕ, ◌<◌, List, length, Bool, true, false, Option, Some, None, is_some, Result, if◌then◌else◌}
 use Rattle.operator_values.specs.Evaluated.{Evaluated}
 use Rattle.expr_nodes.specs.Evaluators.{Sized}
-use Rattle.expr_plain.specs.Resolved.{passes}
+use Rattle.eval_face.specs.Resolved.{passes}
 use Rattle.layer_buckets.specs.Seen.{evaluator_of, features_of, kept_at, slot_in_source, source_of}
 use Rattle.layer_buckets.specs.declared.buckets.Buckets.{Buckets}
 use Rattle.layer_buckets.specs.declared.cell.Cell.{Cell}

@@ -8,7 +8,7 @@ use Rattle.expr_syntax.specs.Mentioned.{mentions}
 use Rattle.expr_syntax.specs.Term.{Term}
 use Rattle.eval_face.specs.Meaning.{mean}
 use Rattle.eval_face.specs.World.{World}
-use Rattle.expr_plain.specs.Resolved.{resolved}
+use Rattle.eval_face.specs.Resolved.{resolved}
 use Rattle.expr_nodes.specs.Evaluators.{Sized, sized_term}
 use Rattle.layer_buckets.specs.Seen.{evaluator_of, source_of}
 use Rattle.layer_buckets.specs.declared.buckets.Buckets.{Buckets}

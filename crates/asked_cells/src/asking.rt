@@ -21,11 +21,11 @@ use layer_buckets::{Cell, CellItem};
 use outside_io::Steps;
 use std::alloc::AllocError;
 use std::sync::ledger::Ledger;
-use style_layout::{Evaluator, LayerFeature, LayerFeatures, Property, SourceTile, Zoom, state_of};
+use style_layout::{LayerFeature, LayerFeatures, Property, SourceTile, TextTests, Zoom, state_of};
 
 impl<E: CountedEvaluator + Drop> ViewCells<E> {
     /// Asks the values that are listed with a layer, and the cells of its features.
-    pub(crate) fn ask_plain<V: Evaluator, L: Ledger>(
+    pub(crate) fn ask_plain<V: TextTests, L: Ledger>(
         &mut self,
         at: &LayerAt<'_, V>,
         tiles: &[SourceTile<'_>],
@@ -49,7 +49,7 @@ impl<E: CountedEvaluator + Drop> ViewCells<E> {
     }
 
     // Asks the cells of the features of a layer, with those of its filter.
-    fn ask_features<V: Evaluator, L: Ledger>(
+    fn ask_features<V: TextTests, L: Ledger>(
         &mut self,
         at: &LayerAt<'_, V>,
         tiles: &[SourceTile<'_>],
@@ -74,7 +74,7 @@ impl<E: CountedEvaluator + Drop> ViewCells<E> {
     }
 
     // Asks the cell of a filter that serves all features.
-    fn ask_common_filter<V: Evaluator, L: Ledger>(
+    fn ask_common_filter<V: TextTests, L: Ledger>(
         &mut self,
         at: &LayerAt<'_, V>,
         steps: &mut Steps<L>,
@@ -94,7 +94,7 @@ impl<E: CountedEvaluator + Drop> ViewCells<E> {
     }
 
     // Asks the cell of a filter for a feature, or the one that serves all.
-    fn ask_filter<V: Evaluator, L: Ledger>(
+    fn ask_filter<V: TextTests, L: Ledger>(
         &mut self,
         at: &LayerAt<'_, V>,
         feature: Option<&LayerFeature<'_>>,
@@ -134,7 +134,7 @@ impl<E: CountedEvaluator + Drop> ViewCells<E> {
     }
 
     // Asks the cells of each feature of a layer.
-    fn ask_each<V: Evaluator, L: Ledger>(
+    fn ask_each<V: TextTests, L: Ledger>(
         &mut self,
         at: &LayerAt<'_, V>,
         tiles: &[SourceTile<'_>],
@@ -168,7 +168,7 @@ impl<E: CountedEvaluator + Drop> ViewCells<E> {
     }
 
     // Asks the cells of a feature.
-    fn ask_feature<V: Evaluator, L: Ledger>(
+    fn ask_feature<V: TextTests, L: Ledger>(
         &mut self,
         at: &LayerAt<'_, V>,
         feature: &LayerFeature<'_>,
@@ -192,7 +192,7 @@ impl<E: CountedEvaluator + Drop> ViewCells<E> {
     }
 
     // Asks the cell that the filter has for a feature, and the values of the feature where it passes.
-    fn ask_if_passed<V: Evaluator, L: Ledger>(
+    fn ask_if_passed<V: TextTests, L: Ledger>(
         &mut self,
         at: &LayerAt<'_, V>,
         feature: &LayerFeature<'_>,
@@ -220,7 +220,7 @@ impl<E: CountedEvaluator + Drop> ViewCells<E> {
     }
 
     // Asks the values of a feature, where it passes.
-    fn ask_passed<V: Evaluator, L: Ledger>(
+    fn ask_passed<V: TextTests, L: Ledger>(
         &mut self,
         at: &LayerAt<'_, V>,
         feature: &LayerFeature<'_>,
@@ -244,7 +244,7 @@ impl<E: CountedEvaluator + Drop> ViewCells<E> {
     }
 
     /// Asks the values that are listed with a feature, or with the layer.
-    pub(crate) fn ask_values<V: Evaluator, L: Ledger>(
+    pub(crate) fn ask_values<V: TextTests, L: Ledger>(
         &mut self,
         at: &LayerAt<'_, V>,
         feature: Option<&LayerFeature<'_>>,
@@ -262,7 +262,7 @@ impl<E: CountedEvaluator + Drop> ViewCells<E> {
         self.ask_listed(at, at.layer.properties.as_slice(), feature, steps)
     }
 
-    fn ask_listed<V: Evaluator, L: Ledger>(
+    fn ask_listed<V: TextTests, L: Ledger>(
         &mut self,
         at: &LayerAt<'_, V>,
         properties: &[Property],
@@ -287,7 +287,7 @@ impl<E: CountedEvaluator + Drop> ViewCells<E> {
     }
 
     // Asks the value of a property, where it is listed with the feature, or with the layer.
-    fn ask_value<V: Evaluator, L: Ledger>(
+    fn ask_value<V: TextTests, L: Ledger>(
         &mut self,
         at: &LayerAt<'_, V>,
         property: &Property,
@@ -311,7 +311,7 @@ impl<E: CountedEvaluator + Drop> ViewCells<E> {
     }
 
     // Asks a cell, where its item has a source.
-    fn ask_item<V: Evaluator, L: Ledger>(
+    fn ask_item<V: TextTests, L: Ledger>(
         &mut self,
         at: &LayerAt<'_, V>,
         feature: Option<&LayerFeature<'_>>,

@@ -3,7 +3,7 @@
 use fixed_num::Fixed;
 use operator_rules::WorldView;
 use prop_values::Entries;
-use style_layout::{Evaluator, LayerFeature, Scene};
+use style_layout::{LayerFeature, Scene, TextTests};
 use tile_reader::{FeatureProperties, Shape};
 
 /// A scene as the value of a cell reads it: at a zoom, with a feature or with none.
@@ -14,7 +14,7 @@ pub(crate) struct CellWorld<'a, V> {
     pub(crate) feature: Option<&'a LayerFeature<'a>>,
 }
 
-impl<V: Evaluator> WorldView for CellWorld<'_, V> {
+impl<V: TextTests> WorldView for CellWorld<'_, V> {
     ghost use Rattle.asked_cells.specs.Asked.{cell_world};
     ghost use Rattle.asked_cells.specs.SeenCells.{cell_feature};
     ghost use Rattle.style_layout.specs.CodeView.{scene_seen};
@@ -55,11 +55,11 @@ impl<V: Evaluator> WorldView for CellWorld<'_, V> {
 
     #[tactic(auto, unfolding(style_layout::specs::CodeView::scene_seen))]
     fn has_image(&self, name: &str) -> bool {
-        self.scene.evaluator.has_image(name)
+        self.scene.tests.has_image(name)
     }
 
     #[tactic(auto, unfolding(style_layout::specs::CodeView::scene_seen))]
     fn is_supported(&self, text: &str) -> bool {
-        self.scene.evaluator.is_supported(text)
+        self.scene.tests.is_supported(text)
     }
 }

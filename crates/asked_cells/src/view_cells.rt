@@ -15,7 +15,7 @@ use listing_text::Show;
 use outside_io::Steps;
 use std::alloc::{AllocError, Global};
 use std::sync::ledger::Ledger;
-use style_layout::{Evaluator, LayerFeatures, Scene, SourceTile, StyleLayer};
+use style_layout::{LayerFeatures, Scene, SourceTile, StyleLayer, TextTests};
 
 /// What a view of a style keeps: the values of its cells, and the memory of evaluations.
 #[derive(Drop)]
@@ -74,7 +74,7 @@ impl<E: CountedEvaluator + Drop> ViewCells<E> {
 
     /// Asks the cells that a listing asks of a layer: evaluates those that are not kept, keeps them, and gives
     /// their number. Where an allocation fails, what was kept is kept.
-    pub fn ask_layer<V: Evaluator, L: Ledger>(
+    pub fn ask_layer<V: TextTests, L: Ledger>(
         &mut self,
         at: &LayerAt<'_, V>,
         tiles: &[SourceTile<'_>],

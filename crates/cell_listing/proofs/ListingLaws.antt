@@ -17,7 +17,7 @@ use Rattle.listing_text.specs.declared.show.Show.{Show}
 use Rattle.listing_text.specs.declared.show.Show.TheVariants.{Plain, Hidden, Unread, OutsideFilter}
 use Rattle.stable_order.specs.InOrder.{in_order}
 use Rattle.stable_order.specs.Keys.{key_before}
-use Rattle.style_layout.proofs.KeyedLists.{map_in_order}
+use Rattle.style_layout.proofs.OrderedLists.{map_in_order}
 use Rattle.style_layout.specs.CodeView.{scene_seen}
 use Rattle.style_layout.specs.Forms.{Property, Scene}
 use Rattle.style_layout.specs.Layers.{StyleLayer, has_features, property_named, show_of, sort_property, sort_row}

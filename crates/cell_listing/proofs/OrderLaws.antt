@@ -4,7 +4,7 @@ use Rattle.std.specs.List.{AllByRecursion}
 use Rattle.stable_order.specs.InOrder.{put, in_order}
 use Rattle.stable_order.specs.Keys.{key_before}
 use Rattle.tile_reader.specs.declared.tile.Feature.{Feature}
-use Rattle.style_layout.proofs.KeyedLists.{map_in_order}
+use Rattle.style_layout.proofs.OrderedLists.{map_in_order}
 use Rattle.style_layout.specs.Forms.{Property}
 use Rattle.asked_cells.specs.Counted.{KeptValues}
 use Rattle.cell_listing.specs.KeptListing.{key_goes_before}

@@ -14,7 +14,7 @@ use Rattle.operator_values.specs.Evaluated.{Evaluated}
 use Rattle.eval_face.proofs.AgreementLaws.{agreeing_worlds}
 use Rattle.eval_face.specs.Meaning.{mean}
 use Rattle.eval_face.specs.World.{World}
-use Rattle.expr_plain.specs.Resolved.{resolved}
+use Rattle.eval_face.specs.Resolved.{resolved}
 use Rattle.layer_buckets.specs.declared.cell.CellItem.TheVariants as items
 use Rattle.listing_text.specs.Layout.{ListedValue}
 use Rattle.style_layout.specs.Forms as forms

@@ -9,7 +9,7 @@ use Rattle.stable_order.specs.InOrder.{in_order}
 use Rattle.stable_order.specs.Keys.{key_before}
 use Rattle.tile_reader.specs.declared.tile.Feature.{Feature}
 use Rattle.operator_values.specs.Evaluated.{Evaluated}
-use Rattle.expr_plain.specs.Resolved.{resolved}
+use Rattle.eval_face.specs.Resolved.{resolved}
 use Rattle.layer_buckets.specs.declared.cell.CellItem.TheVariants as items
 use Rattle.listing_text.specs.Layout.{FeatureOut, ListedValue}
 use Rattle.listing_text.specs.Listing.{feature_lines}

@@ -3,7 +3,7 @@
 ghost use Rattle.std.specs.Prelude.{◌≡◌, ◌++◌, ◌∷◌, [], MatchOption, Some, None, Err, true, is_some, OnOk};
 ghost use Rattle.layer_buckets.specs.Outcomes.{seen_outcome};
 ghost use Rattle.layer_buckets.specs.Seen.{IsSound};
-ghost use Rattle.expr_plain.specs.Resolved.{resolved};
+ghost use Rattle.eval_face.specs.Resolved.{resolved};
 ghost use Rattle.listing_text.specs.Listing.{feature_lines, value_line, value_lines};
 ghost use Rattle.style_layout.specs.CodeView.{property_seen};
 ghost use Rattle.style_layout.specs.Walk.{HasFewLeft, features_left};

@@ -17,11 +17,11 @@ use expr_nodes::CountedEvaluator;
 use layer_buckets::Buckets;
 use listing_text::{Show, write_layer_line};
 use std::alloc::{AllocError, Global};
-use style_layout::{Evaluator, LayerFeatures, SourceTile};
+use style_layout::{LayerFeatures, SourceTile, TextTests};
 
 /// Appends the lines of a layer, by what is kept of its cells, without an evaluation: each cell that a listing asks
 /// is kept. Asks a layer of fewer than 2^32 features. Where an allocation fails, some of the lines may be there.
-pub fn write_layer<E: CountedEvaluator + Drop, V: Evaluator>(
+pub fn write_layer<E: CountedEvaluator + Drop, V: TextTests>(
     alloc: Global,
     buckets: &Buckets<E>,
     at: &LayerAt<'_, V>,

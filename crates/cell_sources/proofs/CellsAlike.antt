@@ -13,7 +13,7 @@ use Rattle.expr_syntax.specs.declared.world_parts.Mentions.{Mentions}
 use Rattle.eval_face.specs.Agreement.{AgreeOn, AgreeingWorldsGiveOneMeaning}
 use Rattle.eval_face.specs.Meaning.{mean}
 use Rattle.eval_face.specs.World.{World}
-use Rattle.expr_plain.specs.Resolved.{passes}
+use Rattle.eval_face.specs.Resolved.{passes}
 use Rattle.style_layout.specs.Forms.{LayerFilter, Scene, layer_filter, lets_pass, reads_feature}
 use Rattle.style_layout.specs.Shown.{LayerFeature, world_at}
 use Rattle.asked_cells.specs.Asked.{answer_by, cell_world, given_by, item_zoom}

@@ -6,7 +6,7 @@ use Rattle.decimal_json.specs.Tree.{Tree}
 use Rattle.prop_values.specs.Data.{Data}
 use Rattle.expr_syntax.specs.Reading.{Reading, reading_with}
 use Rattle.expr_syntax.specs.ReadView.{uses_globals}
-use Rattle.expr_plain.specs.Resolved.{passes}
+use Rattle.eval_face.specs.Resolved.{passes}
 use Rattle.legacy_filters.specs.Form as filters
 use Rattle.legacy_filters.specs.Split.{is_legacy}
 use Rattle.legacy_filters.specs.ToExpression.{expression}

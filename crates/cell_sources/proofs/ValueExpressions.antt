@@ -9,7 +9,7 @@ use Rattle.property_tables.specs.Rows.{RowData}
 use Rattle.expr_syntax.specs.Reading.{Reading, reading_with}
 use Rattle.expr_syntax.specs.ReadView.{uses_globals}
 use Rattle.expr_syntax.specs.Term.{Term}
-use Rattle.expr_plain.specs.Resolved.{resolved}
+use Rattle.eval_face.specs.Resolved.{resolved}
 use Rattle.legacy_functions.specs.Form as functions
 use Rattle.legacy_functions.specs.Function.{Function}
 use Rattle.legacy_functions.specs.ToExpression.{function_expression}

@@ -10,7 +10,7 @@ use Rattle.expr_syntax.specs.Mentioned.{nothing, mentions}
 use Rattle.expr_syntax.specs.declared.world_parts.Mentions.{Mentions}
 use Rattle.eval_face.specs.Meaning.{mean}
 use Rattle.eval_face.specs.World.{World, no_feature}
-use Rattle.expr_plain.specs.Resolved.{passes}
+use Rattle.eval_face.specs.Resolved.{passes}
 use Rattle.legacy_laws.specs.LegacyFunctionLaw.{IsTableRow}
 use Rattle.layer_buckets.specs.declared.cell.CellItem.{CellItem}
 use Rattle.layer_buckets.specs.declared.cell.CellItem.TheVariants as items

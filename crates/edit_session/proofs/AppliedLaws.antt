@@ -20,7 +20,8 @@ use Rattle.style_rules.specs.CodeView.{finding_seen}
 use Rattle.style_rules.specs.Findings.{findings}
 use Rattle.style_rules.specs.declared.lists.Finding.{Finding}
 use Rattle.edit_session.proofs.GlobalCells.{values_change_no_cell}
-use Rattle.edit_session.specs.Applied.{FeatureStates, first_finding, limit_refusal, done, refused, refusal_of, whole_refusal, edits_layers, unless_refused, applied, tell_count_after}
+use Rattle.edit_session.specs.Applied.{FeatureStates, first_finding, limit_refusal, done, refused, refusal_of, whole_refusal, edits_layers, unless_refused, tell_count_after}
+use Rattle.edit_session.specs.Answering.{unfollowed}
 use Rattle.edit_session.specs.SessionState.{SessionState}
 use Rattle.edit_session.specs.declared.answer.Refusal.{Refusal}
 use Rattle.edit_session.specs.declared.answer.Refusal.TheVariants.{Finding as Refused}
@@ -114,7 +115,7 @@ layers_tell_nothing edits.stats can_change n h = refl
 layers_tell_nothing edits.style can_change n h = refl
 
 module _ (tiles : List SourceTile) (scripts : List ℕ → Bool) (can_change : Bool) (p : SessionState) where
-  layers_applied : (e : Edit) → edits_layers e ≡ true → applied tiles scripts can_change p e ≡ unless_refused (
+  layers_applied : (e : Edit) → edits_layers e ≡ true → unfollowed tiles scripts can_change p e ≡ unless_refused (
       option_or (option_map refusal_of (edit_fault p.document e)) (option_or (whole_refusal p.limit tiles p.globals (edited p.document e)) None))
       p (record p { document = edited p.document e })
   layers_applied (edits.set_paint layer name value) h = refl
@@ -138,14 +139,14 @@ module _ (tiles : List SourceTile) (scripts : List ℕ → Bool) (can_change : B
       (document : Tree) (made : document ≡ edited p.document e) where
     -- an edit of layers is accepted
     pub layers_accepted : whole_refusal p.limit tiles p.globals document ≡ None
-        → (record p { document = document }, done) ≡ applied tiles scripts can_change p e
+        → (record p { document = document }, done) ≡ unfollowed tiles scripts can_change p e
     layers_accepted w =
         (λ k. (record p { document = made k }, done))
         ∙ (accepted _ _ p _ possible (ap (whole_refusal p.limit tiles p.globals) (sym made) ∙ w) ∙ sym (layers_applied e of_layers))
 
     -- it is refused, and taken back
     pub layers_refused : (r : Refusal) (left : Tree) → whole_refusal p.limit tiles p.globals document ≡ Some r → left ≡ p.document
-        → (record p { document = left }, refused r) ≡ applied tiles scripts can_change p e
+        → (record p { document = left }, refused r) ≡ unfollowed tiles scripts can_change p e
     layers_refused r left w back =
         (λ k. (record p { document = back k }, refused r))
         ∙ (refused_by _ _ r p _ possible (ap (whole_refusal p.limit tiles p.globals) (sym made) ∙ w) ∙ sym (layers_applied e of_layers))
@@ -155,7 +156,7 @@ module _ (tiles : List SourceTile) (scripts : List ℕ → Bool) (can_change : B
       → edit_fault p.document (edits.set_state source layer id (pairs_of given)) ≡ None
       → s ≡ source → l ≡ layer → members ≡ given
       → ((a b : List ℕ) (i : ℕ) → states a b i ≡ (if same_feature s l id a b i then merged (p.states a b i) members else p.states a b i))
-      → (record p { states = states }, done) ≡ applied tiles scripts can_change p (edits.set_state source layer id (pairs_of given))
+      → (record p { states = states }, done) ≡ unfollowed tiles scripts can_change p (edits.set_state source layer id (pairs_of given))
   state_set source layer s l id members given states h es el em made =
       let same = em ∙ sym (entries_of-pairs_of given) in
       (λ k. (record p { states = λ a b i. made a b i k }, done))

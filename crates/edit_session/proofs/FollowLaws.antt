@@ -1,20 +1,22 @@
 -- Documents whose layers are prepared one by one.
-use Rattle.std.proofs.Common.{◌≡◌, ◌∙◌, ◌≤◌, ℕ, List, [], map, refl, ap, sym, subst, Bool, true, false, Option, Some, None}
+use Rattle.std.proofs.Common.{◌≡◌, ◌∙◌, ◌≤◌, ℕ, List, [], ◌∷◌, refl, ap, arith, sym, subst, Bool, true, false, Some, None}
+use Rattle.std.proofs.lemmas.Bool.{leb-true}
 use Rattle.std.specs.Prelude.{codes, if◌then◌else◌}
-use Rattle.decimal_json.specs.Accessors.{member}
 use Rattle.decimal_json.specs.Tree.{Tree, list, trees_of}
 use Rattle.edit_script.proofs.Elements.{elements_made}
 use Rattle.edit_findings.proofs.DocumentLaws.{elements_back, of_layers}
 use Rattle.edit_findings.proofs.TypedLaws.{layers_typed}
+use Rattle.edit_findings.specs.FoundAfter.{Each}
 use Rattle.prop_values.specs.Data.{Data}
 use Rattle.global_laws.specs.GlobalLaw.{items_name_globals}
 use Rattle.style_edits.proofs.DocumentLaws.{listed}
 use Rattle.style_edits.proofs.ObjectLaws.{member_replaced}
 use Rattle.style_edits.specs.Layers.{layer_list, with_list, with_changed, with_layers}
 use Rattle.style_edits.specs.Taking.{HasLayers}
-use Rattle.style_edits.specs.Undone.{IsUndo, IsWithin, undone_layers}
+use Rattle.style_edits.specs.Undone.{IsUndo, undone_layers}
 use Rattle.style_edits.specs.declared.undo.Undo.{Undo}
 use Rattle.style_parts.specs.Parts.{layers_of, sources_of}
+use Rattle.style_layout.specs.CodeView.{layers_seen}
 use Rattle.style_layout.specs.Layers.{layers_in, style_layers}
 use Rattle.style_layout.specs.Shown.{SourceTile}
 use Rattle.style_layout.specs.StyleLayout.{cell_count}
@@ -24,17 +26,24 @@ use Rattle.edit_session.proofs.AppliedLaws.{whole_by_cells}
 use Rattle.edit_session.proofs.LayerLists.{all_prepared}
 use Rattle.edit_session.specs.Applied.{limit_refusal, whole_refusal}
 use Rattle.edit_session.specs.Opening.{cell_limit, within_limit}
-use Rattle.edit_session.specs.PreparedLayers.{AreTyped, ArePrepared, Follows, prepared_layers}
-use Rattle.edit_session.specs.View.{IsWholeDocument, reads_globals}
-use Rattle.edit_session.specs.declared.answer.Refusal.{Refusal}
+use Rattle.edit_session.specs.PreparedLayers.{ArePrepared}
+use Rattle.kept_layers.specs.KeptLayers.{prepared_layers}
+use Rattle.kept_layers.specs.View.{AreTyped, IsPrepared, IsTyped, globals_in, tiles_in, trees_in}
+use Rattle.kept_layers.specs.declared.style_layers.StyleLayers.{StyleLayers}
+use Rattle.edit_session.specs.View.{IsWholeDocument}
 use Rattle.edit_session.specs.declared.answer.Refusal.TheVariants.{CellLimit}
 use Rattle.edit_session.specs.declared.layers.PreparedLayers.{PreparedLayers}
 
+each_typed : (ts : List Tree) → Each IsTyped ts → AreTyped ts
+each_typed [] typed = tt
+each_typed (t ∷ ts) typed = (typed.0, each_typed ts typed.1)
+
 pub typed_layers : (d : Tree) → HasDistinctMembers d → findings d ≡ [] → AreTyped (layer_list d)
-typed_layers d distinct none = layers_typed (sources_of d) (layer_list d) (of_layers d distinct none).0.found
+typed_layers d distinct none =
+    each_typed (layer_list d) (layers_typed (sources_of d) (layer_list d) (of_layers d distinct none).0.found)
 
 -- the layers of a document once they are changed
-changed_list : (d : Tree) (ts : List Tree) → HasLayers d ts → (change : List Tree → List Tree) → layer_list (with_layers change d) ≡ change ts
+pub changed_list : (d : Tree) (ts : List Tree) → HasLayers d ts → (change : List Tree → List Tree) → layer_list (with_layers change d) ≡ change ts
 changed_list d ts there change =
     let made = ap (λ o. with_changed change o d) there ∙ ap (λ us. with_list (change us) d) (elements_made ts) in
     ap layer_list made ∙ listed (with_list (change ts) d) (change ts) (member_replaced (codes "layers") (list (trees_of ts)) (list (trees_of (change ts))) d there)
@@ -45,7 +54,7 @@ before_edit undo before after us back there is =
     ap layer_list (sym back.1) ∙ (changed_list after (layer_list after) there (undone_layers undo) ∙ ap (undone_layers undo) (sym is))
 
 module _ (tiles : List SourceTile) (globals : List (List ℕ × Data)) where
-  style_is : (d : Tree) → AreTyped (layer_list d) → style_layers globals d ≡ prepared_layers globals (layer_list d)
+  pub style_is : (d : Tree) → AreTyped (layer_list d) → style_layers globals d ≡ prepared_layers globals (layer_list d)
   style_is d typed =
       ap (layers_in globals) (sym (elements_back (layers_of d))) ∙ all_prepared globals (layer_list d) typed
 
@@ -75,6 +84,22 @@ module _ (tiles : List SourceTile) (globals : List (List ℕ × Data)) where
       let count = cell_count tiles (style_layers globals d) in
       ap (within_limit p.limit) whole.is_counted
       ∙ within p.limit count (within_limit p.limit count) refl (sym (whole_by_cells p.limit tiles globals d none) ∙ whole.is_accepted)
+
+  -- the layers of a document, as what is kept sees them
+  pub style_prepared : (d : Tree) (p : PreparedLayers) (style : StyleLayers) → IsWholeDocument tiles globals d p
+      → findings d ≡ [] → AreTyped (layer_list d) → trees_in style ≡ layer_list d → globals_in style ≡ globals
+      → tiles_in style ≡ tiles → layers_seen style.style.now ≡ layers_seen p.style → IsPrepared style
+  style_prepared d p style whole none typed layers values over seen =
+      let same : cell_count (tiles_in style) (prepared_layers (globals_in style) (trees_in style)) ≡ p.cells =
+      (λ k. cell_count (over k) (prepared_layers (values k) (layers k)))
+      ∙ (ap (cell_count tiles) (sym (style_is d typed)) ∙ sym whole.is_counted) in
+      record {
+        typed = subst AreTyped (sym layers) typed;
+        prepared = seen ∙ (whole.is_prepared ∙ (style_is d typed
+            ∙ (λ k. prepared_layers (sym values k) (sym layers k))));
+        few = let few = leb-true p.cells p.limit (few_cells d p whole none) in
+            omega (arith, same, few, whole.is_limited);
+      }
 
   module _ (limit : ℕ) (d : Tree) (none : findings d ≡ []) (typed : AreTyped (layer_list d)) (us : List Tree) (is : us ≡ layer_list d) where
     same_layers : style_layers globals d ≡ prepared_layers globals us

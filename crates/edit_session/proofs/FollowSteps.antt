@@ -13,7 +13,8 @@ use Rattle.style_layout.specs.Shown.{SourceTile}
 use Rattle.style_layout.specs.StyleLayout.{cell_count}
 use Rattle.edit_session.proofs.LayerLists.{changed_back, added_back, removed_back, moved_forth, cells_moved, cells_remove, length_inserted, either_off, off_changed, off_added, off_removed, off_moved}
 use Rattle.edit_session.specs.Opening.{within_limit}
-use Rattle.edit_session.specs.PreparedLayers.{ArePrepared, Becomes, Follows, prepared_layer, prepared_layers}
+use Rattle.edit_session.specs.PreparedLayers.{ArePrepared, Becomes, Follows}
+use Rattle.kept_layers.specs.KeptLayers.{prepared_layer, prepared_layers}
 use Rattle.edit_session.specs.declared.layers.PreparedLayers.{PreparedLayers}
 
 pub within_less : (limit n m : ℕ) → n ≤ m → within_limit limit m ≡ true → within_limit limit n ≡ true

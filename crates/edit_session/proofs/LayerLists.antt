@@ -1,5 +1,5 @@
 -- The layers of a document, prepared one by one, as an edit changes them.
-use Rattle.std.proofs.Common.{◌≡◌, ◌∙◌, ℕ, zero, suc, ◌+◌, ◌-◌, ◌<◌, ◌≤◌, List, [], ◌∷◌, length, get_or, set, map, refl, ap, sym, arith, Bool, true, false, Option, Some, None}
+use Rattle.std.proofs.Common.{◌≡◌, ◌∙◌, ℕ, zero, suc, ◌+◌, ◌<◌, ◌≤◌, List, [], ◌∷◌, length, get_or, set, map, refl, ap, sym, arith, Bool, true, false, Option, Some, None}
 use Rattle.std.specs.Prelude.{insert, remove, is_some, option_map, unwrap_or, ◌||◌}
 use Rattle.std.proofs.lemmas.List.{get_or-map, length-map, map-set, set-set, set-get_or}
 use Rattle.decimal_json.proofs.Edits.{map_insert, map_remove}
@@ -15,7 +15,8 @@ use Rattle.style_layout.specs.Layers.{StyleLayer, typed_layer, with_layer, layer
 use Rattle.style_layout.specs.Shown.{SourceTile}
 use Rattle.style_layout.specs.StyleLayout.{layer_cells, cell_count}
 use Rattle.value_forms.specs.LayerTypes.{layer_type}
-use Rattle.edit_session.specs.PreparedLayers.{AreTyped, prepared_layers}
+use Rattle.kept_layers.specs.KeptLayers.{prepared_layers}
+use Rattle.kept_layers.specs.View.{AreTyped}
 
 -- ---- layers that have types
 

@@ -7,3 +7,9 @@ pub mod FollowLaws
 pub mod FollowSteps
 pub mod MarkLaws
 pub mod ViewLaws
+pub mod AnswerLaws
+pub mod FollowingLaws
+pub mod AllViewsLaws
+pub mod ListedLaws
+pub mod DoneLaws
+pub mod ViewsFollow

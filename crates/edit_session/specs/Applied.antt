@@ -9,6 +9,8 @@ use Rattle.edit_script.specs.Edit as edits
 use Rattle.edit_script.specs.Edit.{Edit}
 use Rattle.feature_states.specs.Features.{same_feature, left_of}
 use Rattle.host_ops.specs.Change.{count_after}
+use Rattle.kept_layers.specs.EditedKept.{edited_kept}
+use Rattle.kept_layers.specs.KeptLayers.{StyleKept, evaluations_of, is_stale_global, is_stale_image, is_stale_state, is_stale_zoom, kept_after, kept_of_each, nodes_of}
 use Rattle.listing_text.specs.Listing.{listing}
 use Rattle.prop_values.specs.Changes.{with_member, without_key, merged}
 use Rattle.prop_values.specs.Data.{Data, null, pairs_of, entries_of}
@@ -16,6 +18,8 @@ use Rattle.prop_values.specs.Equality.{at_key}
 use Rattle.style_edits.specs.Causes.{first_cause}
 use Rattle.style_edits.specs.Edited.{edited}
 use Rattle.style_edits.specs.Faults.{edit_fault}
+use Rattle.style_edits.specs.Layers.{layer_list}
+use Rattle.style_edits.specs.Places.{places_of}
 use Rattle.style_edits.specs.declared.faults.EditFault.{EditFault}
 use Rattle.style_edits.specs.declared.faults.EditFault.TheVariants as faults
 use Rattle.style_layout.specs.Globals.{globals_of}
@@ -74,18 +78,37 @@ default_of document name = at_key name (pairs_of (globals_of document))
 abbrev pub with_global : Tree → List ℕ → Data → List (List ℕ × Data) → List (List ℕ × Data)
 with_global document name d globals = with_or_without name (value_or_default d (default_of document name)) globals
 
+-- ---- what is kept
+
+-- The cells that are kept after an edit that is accepted: all that were, but those that it makes stale. Source: own.
+abbrev pub kept_left : List SourceTile → SessionState → Edit → StyleKept
+kept_left tiles p (edits.set_zoom zoom) =
+    kept_of_each (is_stale_zoom p.globals p.zoom zoom) (layer_list p.document) p.kept
+kept_left tiles p (edits.set_state source layer id members) =
+    kept_of_each (is_stale_state tiles p.globals source layer id) (layer_list p.document) p.kept
+kept_left tiles p (edits.remove_state source layer id key) =
+    kept_of_each (is_stale_state tiles p.globals source layer id) (layer_list p.document) p.kept
+kept_left tiles p (edits.add_image name) = kept_of_each (is_stale_image p.globals) (layer_list p.document) p.kept
+kept_left tiles p (edits.remove_image name) = kept_of_each (is_stale_image p.globals) (layer_list p.document) p.kept
+kept_left tiles p (edits.set_global name d) = kept_of_each (is_stale_global p.globals) (layer_list p.document) p.kept
+kept_left tiles p edit = edited_kept (places_of p.document edit) edit (layer_list p.document) p.kept
+
 -- ---- what a session represents after an edit that is accepted. Source: own.
 
-abbrev pub presented_after : SessionState → Edit → SessionState
-presented_after p (edits.set_zoom zoom) = record p { zoom = zoom }
-presented_after p (edits.set_state source layer id members) =
+-- what it represents but for what is kept
+abbrev pub changed_by : Edit → SessionState → SessionState
+changed_by (edits.set_zoom zoom) p = record p { zoom = zoom }
+changed_by (edits.set_state source layer id members) p =
     record p { states = changed_state source layer id (λ kept. merged kept (entries_of members)) p.states }
-presented_after p (edits.remove_state source layer id key) =
+changed_by (edits.remove_state source layer id key) p =
     record p { states = changed_state source layer id (left_of key) p.states }
-presented_after p (edits.add_image name) = record p { has_image = with_image name true p.has_image }
-presented_after p (edits.remove_image name) = record p { has_image = with_image name false p.has_image }
-presented_after p (edits.set_global name d) = record p { globals = with_global p.document name d p.globals }
-presented_after p edit = record p { document = edited p.document edit }
+changed_by (edits.add_image name) p = record p { has_image = with_image name true p.has_image }
+changed_by (edits.remove_image name) p = record p { has_image = with_image name false p.has_image }
+changed_by (edits.set_global name d) p = record p { globals = with_global p.document name d p.globals }
+changed_by edit p = record p { document = edited p.document edit }
+
+abbrev pub presented_after : List SourceTile → SessionState → Edit → SessionState
+presented_after tiles p edit = record (changed_by edit p) { kept = kept_left tiles p edit }
 
 -- ---- why an edit is refused
 
@@ -111,6 +134,26 @@ images_refusal can_change (edits.add_image name) = if can_change then None else 
 images_refusal can_change (edits.remove_image name) = if can_change then None else Some FixedImages
 images_refusal can_change edit = None
 
+-- ---- a listing
+
+-- the cells that it asks are kept, and those that were not are counted
+abbrev pub listed_after : List SourceTile → (List ℕ → Bool) → SessionState → SessionState
+listed_after tiles scripts p = record p {
+  kept = kept_after (scene_of scripts p) tiles p.globals (layer_list p.document) p.kept;
+  last = evaluations_of (scene_of scripts p) tiles p.globals (layer_list p.document) p.kept;
+}
+
+-- The steps that a command counts: at least so many where it is answered, and at most so many in any case. Only a
+-- listing counts any. Source: own.
+abbrev pub least_steps : List SourceTile → (List ℕ → Bool) → SessionState → Edit → ℕ
+least_steps tiles scripts p edits.list =
+    evaluations_of (scene_of scripts p) tiles p.globals (layer_list p.document) p.kept
+least_steps tiles scripts p edit = 0
+
+abbrev pub most_steps : List SourceTile → (List ℕ → Bool) → SessionState → Edit → ℕ
+most_steps tiles scripts p edits.list = nodes_of (scene_of scripts p) tiles p.globals (layer_list p.document) p.kept
+most_steps tiles scripts p edit = 0
+
 -- ---- what is answered
 
 -- The text of a listing over tiles, with the test on texts that can be shown: that of the full layout. Source: own.
@@ -122,8 +165,8 @@ pub data Reply : Type 0 where
   done : Reply
   -- the listing's text
   listed : List ℕ → Reply
-  -- the number of evaluations is asked for
-  stats_asked : Reply
+  -- the number of evaluations of the last listing
+  counted : ℕ → Reply
   -- the text of the style as JSON
   styled : List ℕ → Reply
   refused : Refusal → Reply
@@ -166,7 +209,19 @@ module _ (tiles : List SourceTile) (scripts : List ℕ → Bool) (can_change : B
 
   -- What a session represents after an edit, and what is answered. Source: own.
   abbrev pub applied : SessionState → Edit → SessionState × Reply
-  applied p edits.list = (p, listed (listing_of tiles scripts p))
-  applied p edits.stats = (p, stats_asked)
+  applied p edits.list = (listed_after tiles scripts p, listed (listing_of tiles scripts p))
+  applied p edits.stats = (p, counted p.last)
   applied p edits.style = (p, styled (json_text p.document))
-  applied p edit = unless_refused (refusal p edit) p (presented_after p edit)
+  applied p edit = unless_refused (refusal p edit) p (presented_after tiles p edit)
+
+-- ---- several views
+
+-- The edits that belong to a view: what it is shown by, and what is asked of what it shows. All others belong to the
+-- style, which all views show.
+abbrev pub is_of_view : Edit → Bool
+is_of_view (edits.set_zoom zoom) = true
+is_of_view (edits.set_state source layer id members) = true
+is_of_view (edits.remove_state source layer id key) = true
+is_of_view edits.list = true
+is_of_view edits.stats = true
+is_of_view edit = false

@@ -2,7 +2,9 @@
 pub mod SessionState
 pub mod Opening
 pub mod Applied
+pub mod OpenViews
 pub mod View
 -- What only contracts of private functions and proofs use.
 pub mod PreparedLayers
 pub mod LayerMarks
+pub mod Answering

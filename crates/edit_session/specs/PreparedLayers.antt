@@ -1,30 +1,15 @@
 -- The layers of a document, each prepared once, and how they follow an edit. Only contracts of private functions use it.
-use Rattle.std.specs.Prelude.{◌≡◌, ℕ, List, map, unwrap_or, is_some, Bool, true, false, ◌||◌}
+use Rattle.std.specs.Prelude.{◌≡◌, ℕ, List, Bool, true, false, ◌||◌}
 use Rattle.decimal_json.specs.Tree.{Tree, trees_of}
+use Rattle.kept_layers.specs.KeptLayers.{prepared_layers}
 use Rattle.prop_values.specs.Data.{Data}
-use Rattle.property_tables.specs.declared.layer_type.LayerType.TheVariants.{Background}
-use Rattle.value_forms.specs.LayerTypes.{layer_type}
-use Rattle.edit_findings.specs.FoundAfter.{Each}
 use Rattle.global_laws.specs.GlobalLaw.{items_name_globals}
 use Rattle.style_layout.specs.CodeView.{layers_seen}
-use Rattle.style_layout.specs.Layers.{StyleLayer, typed_layer}
+use Rattle.style_layout.specs.Layers.{StyleLayer}
 use Rattle.style_layout.specs.Shown.{SourceTile}
 use Rattle.style_layout.specs.StyleLayout.{cell_count}
 use Rattle.edit_session.specs.Opening.{within_limit}
 use Rattle.edit_session.specs.declared.layers.PreparedLayers.{PreparedLayers}
-
-abbrev pub IsTyped : Tree → Type 0
-IsTyped layer = is_some (layer_type layer) ≡ true
-
-abbrev pub AreTyped : List Tree → Type 0
-AreTyped = Each IsTyped
-
--- the layer of a tree that has a type
-abbrev pub prepared_layer : List (List ℕ × Data) → Tree → StyleLayer
-prepared_layer globals t = typed_layer globals t (unwrap_or (layer_type t) Background)
-
-abbrev pub prepared_layers : List (List ℕ × Data) → List Tree → List StyleLayer
-prepared_layers globals ts = map (prepared_layer globals) ts
 
 -- what is prepared is that of these layers, over tiles
 pub record ArePrepared (tiles : List SourceTile) (globals : List (List ℕ × Data)) (ts : List Tree) (p : PreparedLayers) : Type 0 where

@@ -1,7 +1,10 @@
 -- What a session represents.
 use Rattle.std.specs.Prelude.{ℕ, ℤ, List, [], Bool}
 use Rattle.decimal_json.specs.Tree.{Tree}
+use Rattle.kept_layers.specs.Changes.{nothing_kept}
+use Rattle.kept_layers.specs.KeptLayers.{StyleKept}
 use Rattle.prop_values.specs.Data.{Data}
+use Rattle.style_edits.specs.Layers.{layer_list}
 use Rattle.style_layout.specs.Forms.{Scene}
 use Rattle.style_layout.specs.Globals.{globals_of}
 
@@ -18,9 +21,13 @@ pub record SessionState : Type 0 where
   pub globals : List (List ℕ × Data)
   -- the most cells that the document may have
   pub limit : ℕ
+  -- which cells of its layers are kept
+  pub kept : StyleKept
+  -- the number of evaluations of the last listing
+  pub last : ℕ
 
--- A document before the first edit, which may have so many cells: no feature has a state, and the global state has its
--- defaults. Source: own.
+-- A document before the first edit, which may have so many cells: no feature has a state, the global state has its
+-- defaults, and nothing is kept. Source: own.
 abbrev pub opened : (limit : ℕ) → Tree → ℤ → (List ℕ → Bool) → SessionState
 opened limit document zoom has_image = record {
   document = document;
@@ -29,6 +36,8 @@ opened limit document zoom has_image = record {
   has_image = has_image;
   globals = globals_of document;
   limit = limit;
+  kept = nothing_kept (layer_list document);
+  last = 0;
 }
 
 -- what all layers see, with the test on texts that can be shown

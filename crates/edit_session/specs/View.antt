@@ -1,10 +1,13 @@
 -- What the program's values are to a clause.
-use Rattle.std.specs.Prelude.{◌≡◌, ◌≤◌, ℕ, List, map, Bool, false, None, if◌then◌else◌}
+use Rattle.std.specs.Prelude.{◌≡◌, ◌≤◌, ℕ, List, [], ◌∷◌, map, Bool, false, None}
 use Rattle.decimal_json.specs.Tree.{Tree}
 use Rattle.decimal_json.specs.View.{tree_of}
-use Rattle.edit_script.specs.Edit.{Edit}
+use Rattle.expr_nodes.specs.Evaluators.{Sized, sized_node}
 use Rattle.feature_states.specs.Members.{members_at}
 use Rattle.global_laws.specs.GlobalLaw.{items_name_globals}
+use Rattle.kept_layers.specs.View.{AreNumbered, HoldsLayers, IsRightIn, kept_seen}
+use Rattle.kept_layers.specs.declared.kept_layers.KeptLayers.{KeptLayers}
+use Rattle.node_pool.specs.declared.pool.Pool.{Pool}
 use Rattle.prop_values.specs.Data.{Data}
 use Rattle.style_edits.specs.Layers.{layer_list}
 use Rattle.style_parts.specs.Parts.{layers_of}
@@ -12,13 +15,13 @@ use Rattle.style_layout.specs.CodeView.{layers_seen, tile_seen}
 use Rattle.style_layout.specs.Layers.{style_layers}
 use Rattle.style_layout.specs.Shown.{SourceTile}
 use Rattle.style_layout.specs.StyleLayout.{cell_count}
-use Rattle.edit_session.specs.Applied.{Reply, done, listed, stats_asked, styled, refused, whole_refusal, with_image, applied}
+use Rattle.edit_session.specs.Applied.{Reply, done, listed, counted, styled, refused, whole_refusal}
 use Rattle.edit_session.specs.LayerMarks.{AreMarks}
+use Rattle.edit_session.specs.OpenViews.{OpenView, shown_in}
 use Rattle.edit_session.specs.Opening.{cell_limit, Fault, has_findings, unknown_source, not_vector, too_many_cells, zoom_range}
-use Rattle.edit_session.specs.SessionState.{SessionState}
+use Rattle.edit_session.specs.SessionState.{SessionState, scene_of}
 use Rattle.edit_session.specs.declared.answer.Answer.{Answer}
 use Rattle.edit_session.specs.declared.answer.Answer.TheVariants.{Done, Listing, Stats, Style, Refused}
-use Rattle.edit_session.specs.declared.answer.Refusal.TheVariants.{FixedImages}
 use Rattle.edit_session.specs.declared.layers.PreparedLayers.{PreparedLayers}
 use Rattle.edit_session.specs.declared.opening.OpenFault.{OpenFault}
 use Rattle.edit_session.specs.declared.opening.OpenFault.TheVariants.{Findings, UnknownSource, NotVector, CellLimit, ZoomRange}
@@ -30,7 +33,7 @@ use Rattle.edit_session.specs.declared.view.View.{View}
 abbrev pub reply_seen : Answer → Reply
 reply_seen Done = done
 reply_seen (Listing text) = listed text.items
-reply_seen Stats = stats_asked
+reply_seen (Stats n) = counted n
 reply_seen (Style text) = styled text.items
 reply_seen (Refused refusal) = refused refusal
 
@@ -52,17 +55,23 @@ session_state session has_image = record {
   has_image = has_image;
   globals = session.globals;
   limit = session.layers.limit;
+  kept = kept_seen session.kept;
+  last = session.last;
 }
 
--- what it represents through a view, with the zoom and the states of the view in the place of its own
-abbrev pub state_in : Session → View → (List ℕ → Bool) → SessionState
-state_in session view has_image =
-    record (session_state session has_image) { zoom = view.zoom; states = members_at view.states }
+-- a view that is open
+abbrev pub view_seen : View → OpenView
+view_seen view = record {
+  name = view.name;
+  zoom = view.zoom;
+  states = members_at view.states;
+  kept = kept_seen view.kept;
+  last = view.last;
+}
 
--- the zoom and the states of its own stay
-pub record HasOwnView (old new : Session) : Type 0 where
-  pub zoom : new.zoom ≡ old.zoom
-  pub states : new.states ≡ old.states
+-- what a session represents through a view, by what the view is shown by and what is kept of it
+abbrev pub state_in : Session → View → (List ℕ → Bool) → SessionState
+state_in session view has_image = shown_in (session_state session has_image) (view_seen view)
 
 -- the tiles that it was opened over
 abbrev pub tiles_of : Session → List SourceTile
@@ -91,17 +100,36 @@ IsReady session =
     IsWholeDocument (tiles_of session) session.globals (tree_of session.document) session.layers
     × AreMarks session.marks (layer_list (tree_of session.document))
 
--- What holds of a session from its opening on, until an allocation fails.
-abbrev pub IsSoundSession : Session → Type 0
-IsSoundSession session = lacks_memory session ≡ false → IsReady session
+-- ---- what is kept
 
--- ---- what only contracts of private functions see
+-- the expressions of an evaluator, by their slots
+abbrev pub slots_of : Pool → List Sized
+slots_of pool = map sized_node pool
 
--- an edit turns what a session represents into this, and has this answer
-abbrev pub IsAnswer : List SourceTile → (List ℕ → Bool) → Bool → SessionState → SessionState → Edit → Answer → Type 0
-IsAnswer tiles scripts can_change before after edit answer = (after, reply_seen answer) ≡ applied tiles scripts can_change before edit
+-- What is kept is of the layers of a document, and right by what they are shown by.
+pub record IsKept (tiles : List SourceTile) (scripts : List ℕ → Bool) (p : SessionState) (kept : KeptLayers) : Type 0 where
+  pub numbered : AreNumbered kept
+  pub holds : HoldsLayers slots_of tiles p.globals (layer_list p.document) kept
+  pub right : IsRightIn slots_of tiles p.globals (scene_of scripts p) (layer_list p.document) kept
 
--- the test of images after a name was reported to it, and the answer
-abbrev pub told : Bool → List ℕ → Bool → (List ℕ → Bool) → (List ℕ → Bool) × Reply
-told can_change name present has_image =
-    if can_change then (with_image name present has_image, done) else (has_image, refused FixedImages)
+-- ---- what holds until an allocation fails
+
+-- A session can be used: a fact that says nothing of what is kept.
+abbrev pub IsUsable : Session → Type 0
+IsUsable session = lacks_memory session ≡ false → IsReady session
+
+-- What holds of a session from its opening on, by the tests of images and scripts that are handed in to each call.
+pub record IsSoundSession (session : Session) (has_image scripts : List ℕ → Bool) : Type 0 where
+  pub ready : IsUsable session
+  pub kept : lacks_memory session ≡ false → IsKept (tiles_of session) scripts (session_state session has_image) session.kept
+
+-- What holds of a view of it from its opening on.
+abbrev pub IsSoundView : Session → (has_image scripts : List ℕ → Bool) → View → Type 0
+IsSoundView session has_image scripts view =
+    lacks_memory session ≡ false → IsKept (tiles_of session) scripts (state_in session view has_image) view.kept
+
+-- So it is with each of several views.
+abbrev pub AreSoundViews : Session → (has_image scripts : List ℕ → Bool) → List View → Type 0
+AreSoundViews session has_image scripts [] = Unit {0}
+AreSoundViews session has_image scripts (v ∷ vs) =
+    IsSoundView session has_image scripts v × AreSoundViews session has_image scripts vs

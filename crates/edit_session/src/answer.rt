@@ -9,8 +9,8 @@ pub enum Answer {
     Done,
     /// The text of the listing.
     Listing(Vec<u8>),
-    /// The number of evaluations of the last listing was asked for, which is not counted.
-    Stats,
+    /// The number of evaluations of the last listing; 0 before the first.
+    Stats(u64),
     /// The text of the style as it is then, as JSON.
     Style(Vec<u8>),
     /// It is refused, and nothing changed.

@@ -3,7 +3,9 @@
 ghost use Rattle.std.specs.Prelude.{◌≡◌, ◌-◌, ◌<◌, ◌≤◌, ◌^◌, insert, length, map, min, remove, slice_set, true, ◌||◌, IfOk};
 ghost use Rattle.decimal_json.specs.View.{items_view, tree_of};
 ghost use Rattle.edit_session.specs.Opening.{within_limit};
-ghost use Rattle.edit_session.specs.PreparedLayers.{AreTyped, ArePrepared, Becomes, Follows, IsTyped, prepared_layer};
+ghost use Rattle.edit_session.specs.PreparedLayers.{ArePrepared, Becomes, Follows};
+ghost use Rattle.kept_layers.specs.KeptLayers.{prepared_layer};
+ghost use Rattle.kept_layers.specs.View.{AreTyped, IsTyped};
 ghost use Rattle.edit_session.specs.View.{reads_globals};
 ghost use Rattle.global_laws.specs.GlobalLaw.{names_globals};
 ghost use Rattle.style_edits.specs.Undone.{IsWithin, undone_layers};

@@ -1,37 +1,45 @@
 //! A session: a style over tiles, under edit.
 
-ghost use Rattle.std.specs.Prelude.{◌≡◌, ◌≤◌, ◌++◌, ℕ, List, [], Bool, map, false, true, option_map, is_err, IfOk, IsErr, OnErr, OnOk};
+ghost use Rattle.std.specs.Prelude.{◌≡◌, ◌≤◌, ◌+◌, ℕ, List, [], Bool, map, false, true, option_map, is_err, IfOk, IsErr, OnErr, OnOk};
 ghost use Rattle.std.specs.Result.{result_err};
 ghost use Rattle.decimal_json.specs.View.{tree_of};
+ghost use Rattle.edit_script.specs.Edit as edits;
 ghost use Rattle.edit_script.specs.View.{command_seen};
-ghost use Rattle.edit_session.specs.Applied.{applied, listing_of, tell_count_after};
+ghost use Rattle.edit_session.specs.Answering.{through, with_own};
+ghost use Rattle.edit_session.specs.Applied.{applied, is_of_view, least_steps, listing_of, most_steps, tell_count_after};
+ghost use Rattle.edit_session.specs.OpenViews.{fresh_view, in_each};
 ghost use Rattle.edit_session.specs.Opening.{cell_limit, open_fault, tiles_fault};
 ghost use Rattle.edit_session.specs.SessionState.{opened};
-ghost use Rattle.edit_session.specs.View.{fault_seen, session_state, reply_seen, state_in, tiles_of, lacks_memory, HasOwnView, IsSoundSession};
+ghost use Rattle.edit_session.specs.View.{fault_seen, IsWholeDocument, session_state, reply_seen, state_in, tiles_of, view_seen, lacks_memory, AreSoundViews, IsSoundSession, IsSoundView, IsUsable};
 ghost use Rattle.host_ops.specs.Change.{IsSameTest};
 ghost use Rattle.style_layout.specs.CodeView.{tile_seen};
+ghost use Rattle.style_layout.specs.Globals.{globals_of};
 ghost use Rattle.style_rules.specs.Findings.{findings};
 
 use crate::answer::Answer;
+use crate::commands::is_done;
+use crate::following::shown_style;
 use crate::layer_marks::LayerMarks;
 use crate::layers::PreparedLayers;
-use crate::opening::{CELL_LIMIT, OpenFault, first_of_no_vector, first_unknown, is_within_limit};
+use crate::opening::{CELL_LIMIT, OpenFault, OpenedLayers, open_layers};
 use crate::view::View;
-use decimal_json::Json;
+use decimal_json::{Json, Text};
 use edit_script::Command;
 use feature_states::States;
 use fixed_num::Fixed;
 use host_ops::HostOp;
+use kept_layers::KeptLayers;
+use outside_io::Steps;
 use prop_values::Entries;
 use std::alloc::{AllocError, Global};
 use std::mem;
-use style_layout::{Scene, SourceTile, TreeWalk, Zoom, globals_of, write_listing};
-use style_parts::is_zoom;
+use std::sync::ledger::Ledger;
+use style_layout::{HostTests, Scene, SourceTile, Zoom};
 use style_rules::findings;
 
 /// A style over tiles, under edit, with the zoom, the states of features and the values of the global state by which it is
-/// shown. The tests on images and scripts are handed in to each call. `session_state` is what a session
-/// represents, for clauses.
+/// shown, and the cells of its layers that are kept. The tests on images and scripts are handed in to each call; images
+/// change by commands alone, and scripts never. `session_state` is what a session represents, for clauses.
 #[derive(Drop)]
 pub struct Session<'a> {
     pub(crate) alloc: Global,
@@ -43,6 +51,9 @@ pub struct Session<'a> {
     /// The layers of the document, by the values of the global state.
     pub(crate) layers: PreparedLayers,
     pub(crate) marks: LayerMarks,
+    pub(crate) kept: KeptLayers,
+    /// How many cells the last listing evaluated.
+    pub(crate) last: u64,
     pub(crate) lacks_memory: bool,
 }
 
@@ -60,7 +71,8 @@ impl<'a> Session<'a> {
         ensures opened { IfOk result (λ made. IfOk made (λ session. (has_image : List ℕ → Bool)
             → session_state session has_image ≡ opened cell_limit (tree_of style) zoom has_image)) }
         ensures tiles { IfOk result (λ made. IfOk made (λ session. tiles_of session ≡ map tile_seen tiles.entry.items)) }
-        ensures sound { IfOk result (λ made. IfOk made IsSoundSession) }
+        ensures sound { (has_image scripts : List ℕ → Bool)
+            → IfOk result (λ made. IfOk made (λ session. IsSoundSession session has_image scripts)) }
         ensures memory { IfOk result (λ made. IfOk made (λ session. lacks_memory session ≡ false)) }
     {
         Session::open_with(alloc, style, tiles, zoom, CELL_LIMIT)
@@ -80,7 +92,8 @@ impl<'a> Session<'a> {
         ensures opened { IfOk result (λ made. IfOk made (λ session. (has_image : List ℕ → Bool)
             → session_state session has_image ≡ opened limit (tree_of style) zoom has_image)) }
         ensures tiles { IfOk result (λ made. IfOk made (λ session. tiles_of session ≡ map tile_seen tiles.entry.items)) }
-        ensures sound { IfOk result (λ made. IfOk made IsSoundSession) }
+        ensures sound { (has_image scripts : List ℕ → Bool)
+            → IfOk result (λ made. IfOk made (λ session. IsSoundSession session has_image scripts)) }
         ensures memory { IfOk result (λ made. IfOk made (λ session. lacks_memory session ≡ false)) }
     {
         let found = findings(alloc, &style)?;
@@ -105,47 +118,69 @@ impl<'a> Session<'a> {
         ensures opened { IfOk result (λ made. IfOk made (λ session. (has_image : List ℕ → Bool)
             → session_state session has_image ≡ opened limit (tree_of style) zoom has_image)) }
         ensures tiles { IfOk result (λ made. IfOk made (λ session. tiles_of session ≡ map tile_seen tiles.entry.items)) }
-        ensures sound { IfOk result (λ made. IfOk made IsSoundSession) }
+        ensures sound { (has_image scripts : List ℕ → Bool)
+            → IfOk result (λ made. IfOk made (λ session. IsSoundSession session has_image scripts)) }
         ensures memory { IfOk result (λ made. IfOk made (λ session. lacks_memory session ≡ false)) }
     {
-        if let Some(source) = first_unknown(&style, tiles.as_slice()) {
-            return Ok(Err(OpenFault::UnknownSource(source)));
+        match open_layers(alloc, &style, tiles.as_slice(), zoom, limit)? {
+            Ok(first) => Ok(Ok(Session::over(alloc, style, tiles, zoom, first)?)),
+            Err(fault) => Ok(Err(fault)),
         }
-        if let Some(source) = first_of_no_vector(&style, tiles.as_slice()) {
-            return Ok(Err(OpenFault::NotVector(source)));
-        }
-        let globals = globals_of(alloc, &style)?;
-        let layers = PreparedLayers::of(alloc, &style, &globals, tiles.as_slice(), limit)?;
-        let cells = layers.cells();
-        if !is_within_limit(limit, cells) {
-            return Ok(Err(OpenFault::CellLimit(cells)));
-        }
-        if !is_zoom(zoom) {
-            return Ok(Err(OpenFault::ZoomRange));
-        }
+    }
+
+    // A session over a style whose layers are prepared by the values that the global state has at first.
+    fn over(
+        alloc: Global,
+        style: Json,
+        tiles: Vec<SourceTile<'a>>,
+        zoom: Fixed,
+        first: OpenedLayers,
+    ) -> Result<Session<'a>, AllocError>
+        requires whole { IsWholeDocument (map tile_seen tiles.items) first.globals (tree_of style) first.layers }
+        requires globals { first.globals ≡ globals_of (tree_of style) }
+        ensures opened { (has_image : List ℕ → Bool) → IfOk result (λ session. session_state session has_image
+            ≡ opened first.layers.limit (tree_of style) zoom has_image) }
+        ensures tiles { IfOk result (λ session. tiles_of session ≡ map tile_seen tiles.entry.items) }
+        ensures sound { (has_image scripts : List ℕ → Bool)
+            → IfOk result (λ session. IsSoundSession session has_image scripts) }
+        ensures memory { IfOk result (λ session. lacks_memory session ≡ false) }
+    {
         let marks = LayerMarks::of(alloc, &style)?;
-        Ok(Ok(Session {
+        let shown = shown_style(&style, &first.layers, &first.globals, tiles.as_slice());
+        let kept = KeptLayers::of(alloc, &shown)?;
+        let zoom = Zoom::new(zoom);
+        let states = States::new(alloc);
+        Ok(Session {
             alloc,
             document: style,
             tiles,
-            zoom: Zoom::new(zoom),
-            states: States::new(alloc),
-            globals,
-            layers,
+            zoom,
+            states,
+            globals: first.globals,
+            layers: first.layers,
             marks,
+            kept,
+            last: 0,
             lacks_memory: false,
-        }))
+        })
     }
 
-    /// Does what a command says, and answers. A refused command changes nothing, and neither do `list`, `stats` and
-    /// `style`. Once allocation fails every later call answers so too.
-    pub fn apply(
+    /// Where memory for its calls is taken.
+    pub fn alloc(&self) -> Global {
+        self.alloc
+    }
+
+    /// Does what a command says, and answers. A refused command changes nothing, and neither do `stats` and `style`. A
+    /// listing evaluates the cells that it asks and that are not kept, and keeps them. Once allocation fails every
+    /// later call answers so too.
+    pub fn apply<L: Ledger>(
         &mut self,
         command: &Command,
         images: &mut dyn HostOp,
         scripts: &dyn HostOp,
+        steps: &mut Steps<L>,
     ) -> Result<Answer, AllocError>
-        requires { IsSoundSession self.old }
+        requires { IsSoundSession self.old (test images.old) (test scripts.now) }
         ensures answer { IfOk result (λ answer. (session_state self.new (test images.new), reply_seen answer)
             ≡ applied (tiles_of self.old) (test scripts.now) (changes images.old) (session_state self.old (test images.old))
             (command_seen command.now)) }
@@ -155,82 +190,184 @@ impl<'a> Session<'a> {
             ≡ tell_count_after (changes images.old) (command_seen command.now) (tell_count images.old) }
         ensures silent { lacks_memory self.old ≡ true → tell_count images.new ≡ tell_count images.old }
         ensures lent { OnErr result (IsSameTest (test images.old) (test images.new)) }
-        ensures sound { IsSoundSession self.new }
+        ensures sound { IsSoundSession self.new (test images.new) (test scripts.now) }
         ensures lacks { lacks_memory self.new ≡ is_err result }
         ensures memory { lacks_memory self.old ≡ true → IsErr result }
+        ensures least { OnOk result (steps.old + least_steps (tiles_of self.old) (test scripts.now)
+            (session_state self.old (test images.old)) (command_seen command.now) ≤ steps.new) }
+        ensures most { steps.new ≤ steps.old + most_steps (tiles_of self.old) (test scripts.now)
+            (session_state self.old (test images.old)) (command_seen command.now) }
     {
         if self.lacks_memory {
             return Err(AllocError);
         }
-        let answer = self.answer(command, images, scripts);
+        let answer = self.answer(command, images, scripts, steps);
         self.lacks_memory = answer.is_err();
         answer
     }
 
-    /// As `apply`, with the zoom and the states of a view in the place of the session's own, which stay.
-    pub fn apply_in(
-        &mut self,
-        view: &mut View,
-        command: &Command,
-        images: &mut dyn HostOp,
-        scripts: &dyn HostOp,
-    ) -> Result<Answer, AllocError>
-        requires { IsSoundSession self.old }
-        ensures answer { IfOk result (λ answer. (state_in self.new view.new (test images.new), reply_seen answer)
-            ≡ applied (tiles_of self.old) (test scripts.now) (changes images.old) (state_in self.old view.old (test images.old))
-            (command_seen command.now)) }
-        ensures own { HasOwnView self.old self.new }
-        ensures tiles { tiles_of self.new ≡ tiles_of self.old }
-        ensures changes { changes images.new ≡ changes images.old }
-        ensures count { lacks_memory self.old ≡ false → tell_count images.new
-            ≡ tell_count_after (changes images.old) (command_seen command.now) (tell_count images.old) }
-        ensures silent { lacks_memory self.old ≡ true → tell_count images.new ≡ tell_count images.old }
-        ensures lent { OnErr result (IsSameTest (test images.old) (test images.new)) }
-        ensures sound { IsSoundSession self.new }
-        ensures lacks { lacks_memory self.new ≡ is_err result }
-        ensures memory { lacks_memory self.old ≡ true → IsErr result }
-    {
-        self.exchange(view);
-        let answer = self.apply(command, images, scripts);
-        self.exchange(view);
-        answer
-    }
-
-    // The session's zoom and states for those of a view.
-    fn exchange(&mut self, view: &mut View)
-        ensures session { self.new ≡ record self.old { zoom = view.old.zoom; states = view.old.states } }
-        ensures view { view.new ≡ record view.old { zoom = self.old.zoom; states = self.old.states } }
-    {
-        let zoom = mem::replace(&mut view.zoom, self.zoom);
-        self.zoom = zoom;
-        let states = mem::replace(&mut view.states, States::new(self.alloc));
-        view.states = mem::replace(&mut self.states, states);
-    }
-
-    /// Appends the text that `apply` answers to `list`; where allocation fails, nothing. Once a call has answered that, so does
-    /// this one.
-    #[tactic(auto, unfolding(style_layout::specs::CodeView::scene_seen))]
-    pub fn listing(
-        &self,
+    /// The listing of a session that ends with it: what `apply` answers to `list`, with no more cells in memory at once
+    /// than those of one layer.
+    pub fn into_listing<L: Ledger>(
+        self,
         images: &dyn HostOp,
         scripts: &dyn HostOp,
-        out: &mut Vec<u8>,
-    ) -> Result<(), AllocError>
-        requires { IsSoundSession self.now }
-        ensures listing { OnOk result (out.new.items ≡ out.old.items
-            ++ listing_of (tiles_of self.now) (test scripts.now) (session_state self.now (test images.now))) }
-        ensures kept { OnErr result (out.new.items ≡ out.old.items) }
+        steps: &mut Steps<L>,
+    ) -> Result<Vec<u8>, AllocError>
+        requires { IsSoundSession self (test images.now) (test scripts.now) }
+        ensures listing { IfOk result (λ out. out.items ≡ listing_of (tiles_of self.entry) (test scripts.now)
+            (session_state self.entry (test images.now))) }
+        ensures memory { lacks_memory self.entry ≡ true → IsErr result }
+        ensures least { OnOk result (steps.old + least_steps (tiles_of self.entry) (test scripts.now)
+            (session_state self.entry (test images.now)) edits.list ≤ steps.new) }
+        ensures most { steps.new ≤ steps.old + most_steps (tiles_of self.entry) (test scripts.now)
+            (session_state self.entry (test images.now)) edits.list }
+    {
+        if self.lacks_memory {
+            return Err(AllocError);
+        }
+        let Session {
+            alloc,
+            document,
+            tiles,
+            zoom,
+            states,
+            globals,
+            layers,
+            kept,
+            ..
+        } = self;
+        let mut kept = kept;
+        let mut out = Vec::new(alloc);
+        let style = shown_style(&document, &layers, &globals, tiles.as_slice());
+        let scene = Scene {
+            zoom,
+            states: &states,
+            tests: HostTests { images, scripts },
+        };
+        kept.list_last(alloc, &style, &scene, steps, &mut out)?;
+        Ok(out)
+    }
+
+    // ---- several views
+
+    /// Opens a view of the style, at a zoom, in which no feature has a state, and of which nothing is kept.
+    pub fn open_view(&self, name: Text, zoom: Fixed) -> Result<View, AllocError>
+        requires { IsUsable self.now }
+        ensures view { (has_image : List ℕ → Bool) → IfOk result (λ view. view_seen view
+            ≡ fresh_view (session_state self.now has_image) name zoom) }
+        ensures sound { (has_image scripts : List ℕ → Bool)
+            → IfOk result (IsSoundView self.now has_image scripts) }
         ensures memory { lacks_memory self.now ≡ true → IsErr result }
     {
         if self.lacks_memory {
             return Err(AllocError);
         }
-        let scene = Scene {
-            zoom: self.zoom,
-            states: &self.states,
-            evaluator: TreeWalk { images, scripts },
-        };
-        let tiles = self.tiles.as_slice();
-        write_listing(self.alloc, &self.layers.style, &scene, tiles, out)
+        let style = shown_style(
+            &self.document,
+            &self.layers,
+            &self.globals,
+            self.tiles.as_slice(),
+        );
+        let kept = KeptLayers::of(self.alloc, &style)?;
+        let zoom = Zoom::new(zoom);
+        let states = States::new(self.alloc);
+        Ok(View {
+            name,
+            zoom,
+            states,
+            kept,
+            last: 0,
+        })
+    }
+
+    /// As `apply`, with what is of a view in the place of the session's own, which stays. The command is one of a view.
+    pub fn apply_in<L: Ledger>(
+        &mut self,
+        view: &mut View,
+        command: &Command,
+        images: &mut dyn HostOp,
+        scripts: &dyn HostOp,
+        steps: &mut Steps<L>,
+    ) -> Result<Answer, AllocError>
+        requires session { IsSoundSession self.old (test images.old) (test scripts.now) }
+        requires view { IsSoundView self.old (test images.old) (test scripts.now) view.old }
+        requires command { is_of_view (command_seen command.now) ≡ true }
+        ensures answer { IfOk result (λ answer. (state_in self.new view.new (test images.new), reply_seen answer)
+            ≡ applied (tiles_of self.old) (test scripts.now) (changes images.old) (state_in self.old view.old (test images.old))
+            (command_seen command.now)) }
+        ensures own { OnOk result (session_state self.new (test images.new) ≡ session_state self.old (test images.old)) }
+        ensures name { view.new.name ≡ view.old.name }
+        ensures tiles { tiles_of self.new ≡ tiles_of self.old }
+        ensures changes { changes images.new ≡ changes images.old }
+        ensures lent { OnErr result (IsSameTest (test images.old) (test images.new)) }
+        ensures sound { IsSoundSession self.new (test images.new) (test scripts.now) }
+        ensures sound_view { IsSoundView self.new (test images.new) (test scripts.now) view.new }
+        ensures lacks { lacks_memory self.new ≡ is_err result }
+        ensures memory { lacks_memory self.old ≡ true → IsErr result }
+        ensures least { OnOk result (steps.old + least_steps (tiles_of self.old) (test scripts.now)
+            (state_in self.old view.old (test images.old)) (command_seen command.now) ≤ steps.new) }
+        ensures most { steps.new ≤ steps.old + most_steps (tiles_of self.old) (test scripts.now)
+            (state_in self.old view.old (test images.old)) (command_seen command.now) }
+    {
+        self.exchange(view);
+        let answer = self.apply(command, images, scripts, steps);
+        self.exchange(view);
+        answer
+    }
+
+    // What is of the session's own view for what is of another.
+    fn exchange(&mut self, view: &mut View)
+        ensures session { self.new ≡ through self.old view.old }
+        ensures view { view.new ≡ with_own view.old self.old }
+    {
+        mem::swap(&mut self.zoom, &mut view.zoom);
+        mem::swap(&mut self.states, &mut view.states);
+        mem::swap(&mut self.kept, &mut view.kept);
+        mem::swap(&mut self.last, &mut view.last);
+    }
+
+    /// As `apply`, of a command of the style, which is done in each of these views of it. It is checked and refused once.
+    pub fn apply_to_all<L: Ledger>(
+        &mut self,
+        views: &mut [View],
+        command: &Command,
+        images: &mut dyn HostOp,
+        scripts: &dyn HostOp,
+        steps: &mut Steps<L>,
+    ) -> Result<Answer, AllocError>
+        requires session { IsSoundSession self.old (test images.old) (test scripts.now) }
+        requires views { AreSoundViews self.old (test images.old) (test scripts.now) views.old }
+        requires command { is_of_view (command_seen command.now) ≡ false }
+        ensures answer { IfOk result (λ answer. (session_state self.new (test images.new), reply_seen answer)
+            ≡ applied (tiles_of self.old) (test scripts.now) (changes images.old) (session_state self.old (test images.old))
+            (command_seen command.now)) }
+        ensures views { OnOk result (map view_seen views.new ≡ in_each (tiles_of self.old) (test scripts.now)
+            (changes images.old) (session_state self.old (test images.old)) (command_seen command.now)
+            (map view_seen views.old)) }
+        ensures tiles { tiles_of self.new ≡ tiles_of self.old }
+        ensures changes { changes images.new ≡ changes images.old }
+        ensures lent { OnErr result (IsSameTest (test images.old) (test images.new)) }
+        ensures sound { IsSoundSession self.new (test images.new) (test scripts.now) }
+        ensures sound_views { AreSoundViews self.new (test images.new) (test scripts.now) views.new }
+        ensures lacks { lacks_memory self.new ≡ is_err result }
+        ensures memory { lacks_memory self.old ≡ true → IsErr result }
+        ensures least { OnOk result (steps.old ≤ steps.new) }
+        ensures most { steps.new ≤ steps.old }
+    {
+        if self.lacks_memory {
+            return Err(AllocError);
+        }
+        let before = self.before(command);
+        let answer = self.apply(command, images, scripts, steps)?;
+        if is_done(&answer) {
+            let lacks = self.follow_in_all(views, command, &before).is_err();
+            self.lacks_memory = lacks;
+            if lacks {
+                return Err(AllocError);
+            }
+            return Ok(answer);
+        }
+        Ok(answer)
     }
 }

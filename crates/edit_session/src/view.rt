@@ -1,29 +1,28 @@
 //! By what a view shows the style of a session.
 
-ghost use Rattle.std.specs.Prelude.{◌≡◌, ℕ, List, []};
-ghost use Rattle.feature_states.specs.Members.{members_at};
+ghost use Rattle.std.specs.Prelude.{◌≡◌};
 
+use decimal_json::Text;
 use feature_states::States;
-use fixed_num::Fixed;
-use std::alloc::Global;
+use kept_layers::KeptLayers;
 use style_layout::Zoom;
 
-/// The zoom and the states of features by which one of several views shows the style of a session.
+/// One of several views of the style of a session, by its name: the zoom and the states of features by which it is
+/// shown, and the cells of its layers that are kept. `Session::open_view` makes one.
 #[derive(Drop)]
 pub struct View {
+    pub(crate) name: Text,
     pub(crate) zoom: Zoom,
     pub(crate) states: States,
+    pub(crate) kept: KeptLayers,
+    /// How many cells its last listing evaluated.
+    pub(crate) last: u64,
 }
 
 impl View {
-    /// A view at a zoom, in which no feature has a state.
-    pub fn new(alloc: Global, zoom: Fixed) -> View
-        ensures zoom { result.zoom ≡ zoom }
-        ensures states { (source layer : List ℕ) (id : ℕ) → members_at result.states source layer id ≡ [] }
+    pub fn name(&self) -> &str
+        ensures { result.now ≡ self.now.name }
     {
-        View {
-            zoom: Zoom::new(zoom),
-            states: States::new(alloc),
-        }
+        self.name.as_str()
     }
 }

@@ -4,7 +4,7 @@ ghost use Rattle.std.specs.Prelude.{◌≡◌, [], None, IfOk};
 ghost use Rattle.decimal_json.specs.View.{tree_of};
 ghost use Rattle.edit_script.specs.View.{command_seen};
 ghost use Rattle.edit_session.specs.Applied.{first_finding};
-ghost use Rattle.edit_session.specs.PreparedLayers.{AreTyped};
+ghost use Rattle.kept_layers.specs.View.{AreTyped};
 ghost use Rattle.style_edits.specs.Edited.{edited};
 ghost use Rattle.style_edits.specs.Faults.{edit_fault};
 ghost use Rattle.style_edits.specs.Layers.{layer_list};

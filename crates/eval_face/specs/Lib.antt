@@ -9,6 +9,7 @@ pub mod Bindings
 pub mod Sections
 pub mod Rules
 pub mod Meaning
+pub mod Resolved
 -- Laws of these.
 pub mod Fitted
 pub mod Agreement

@@ -9,7 +9,7 @@
 //! agree on what an expression mentions give it one meaning (`agreeing_worlds_give_one_meaning`).
 //!
 //! The text to believe is in `specs/`: `World`, `Names`, `Meanings`, `Lookups`, `Decisions`, `Branches`,
-//! `Bindings`, `Sections`, `Rules`, `Meaning`. Laws of it: `Fitted`, `Agreement`, `JoinedContents`.
+//! `Bindings`, `Sections`, `Rules`, `Meaning`, `Resolved`. Laws of it: `Fitted`, `Agreement`, `JoinedContents`.
 #![tactic(auto)]
 
 mod context;

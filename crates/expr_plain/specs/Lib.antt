@@ -1,5 +1,3 @@
--- To be believed.
-pub mod Resolved
 -- What only contracts of private functions and proofs use.
 pub mod Terms
 pub mod Slots

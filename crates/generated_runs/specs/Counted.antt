@@ -1,7 +1,7 @@
 -- A run whose text is counted and not written. Source: own.
 use Rattle.std.specs.Prelude.{ℕ, ◌+◌, List, [], ◌∷◌, ◌++◌, length, codes, decimal, nat_eq, if◌then◌else◌}
 use Rattle.program_runs.specs.Outcome.{RunOutcome, line}
-use Rattle.program_runs.specs.Runs.{Run, ends, says, reads, may_read, parses, may_parse, explains}
+use Rattle.program_runs.specs.Runs.{Run, ends, says, counts, reads, may_read, parses, may_parse, explains}
 
 -- how many bytes of a text are LF
 abbrev pub line_count : List ℕ → ℕ
@@ -20,6 +20,7 @@ counted_outcome features lines bytes o = record o { out = counts_line features (
 abbrev pub counted_after : (features lines bytes : ℕ) → Run → Run
 counted_after features lines bytes (ends made) = ends (counted_outcome features lines bytes made)
 counted_after features lines bytes (says text next) = counted_after features (lines + line_count text) (bytes + length text) next
+counted_after features lines bytes (counts least most next) = counts least most (counted_after features lines bytes next)
 counted_after features lines bytes (reads longer name limit after) = reads longer name limit (λ content. counted_after features lines bytes (after content))
 counted_after features lines bytes (may_read name limit after) = may_read name limit (λ content. counted_after features lines bytes (after content))
 counted_after features lines bytes (parses what text after) = parses what text (λ t. counted_after features lines bytes (after t))

@@ -1,10 +1,10 @@
 //! A script whose answers are counted and not kept.
 
-ghost use Rattle.std.specs.Prelude.{◌≡◌, ◌+◌, ◌≤◌, ◌∷◌, ◌++◌, ℕ, List, [], false, decimal, ◌^◌, OnOk, IfOk, Option};
+ghost use Rattle.std.specs.Prelude.{◌≡◌, ◌+◌, ◌≤◌, ◌∷◌, ◌++◌, ℕ, List, [], false, decimal, ◌^◌, OnErr, OnOk, IfOk, Option};
 ghost use Rattle.edit_session.specs.View.{session_state, tiles_of, IsSoundSession};
 ghost use Rattle.program_runs.specs.Outcome.{said};
-ghost use Rattle.program_runs.specs.Progress.{outcome_of};
-ghost use Rattle.program_runs.specs.Runs.{HasOutcome};
+ghost use Rattle.program_runs.specs.Progress.{outcome_of, IsAnswered};
+ghost use Rattle.program_runs.specs.Written.{StepsAreDue};
 ghost use Rattle.script_runs.specs.ScriptRun.{lines_run, ending_by};
 ghost use Rattle.generated_runs.specs.Counted.{counted, counts_line, line_count};
 ghost use Rattle.generated_runs.specs.Counting.{EndsAs, IsSmall, lines_left};
@@ -14,9 +14,11 @@ use crate::lines::{line_count_of, put_line};
 use edit_session::Session;
 use host_ops::HostOp;
 use itoa::Buffer;
+use outside_io::Steps;
 use program_runs::{RunOutput, answer_out};
 use script_runs::{ScriptLine, answer_line, ending_by};
 use std::alloc::{AllocError, Global};
+use std::sync::ledger::Ledger;
 
 /// The number of the next line of a script, and the counts of what the lines before it were answered.
 #[derive(Drop)]
@@ -29,94 +31,110 @@ struct Counting {
 }
 
 /// The counts of what the script of so many features is answered, over a session that was just opened or is sound.
-pub fn answer_counted(
-    alloc: Global,
+pub fn answer_counted<L: Ledger>(
     session: Session<'_>,
     features: u32,
     images: &mut dyn HostOp,
     scripts: &dyn HostOp,
+    steps: &mut Steps<L>,
 ) -> Result<RunOutput, AllocError>
-    requires { IsSoundSession session }
-    ensures { (files : List ℕ → Option (List ℕ)) (asked : List (List ℕ)) → IfOk result (λ answer. HasOutcome files
+    requires { IsSoundSession session (test images.old) (test scripts.now) }
+    ensures answer { (files : List ℕ → Option (List ℕ)) (asked : List (List ℕ)) → IfOk result (IsAnswered files
         (counted features (lines_run (tiles_of session.entry) (test scripts.now) (changes images.old) 1
         (session_state session.entry (test images.old)) false (generated_lines features)))
-        asked asked (outcome_of answer)) }
+        asked asked steps.old steps.new) }
+    ensures due { (files : List ℕ → Option (List ℕ)) (asked : List (List ℕ)) → OnErr result (StepsAreDue files
+        (counted features (lines_run (tiles_of session.entry) (test scripts.now) (changes images.old) 1
+        (session_state session.entry (test images.old)) false (generated_lines features)))
+        asked asked steps.old steps.new) }
 {
     let mut session = session;
-    count_answers(alloc, &mut session, features, images, scripts)
+    count_answers(&mut session, features, images, scripts, steps)
 }
 
-fn count_answers(
-    alloc: Global,
+fn count_answers<L: Ledger>(
     session: &mut Session<'_>,
     features: u32,
     images: &mut dyn HostOp,
     scripts: &dyn HostOp,
+    steps: &mut Steps<L>,
 ) -> Result<RunOutput, AllocError>
-    requires { IsSoundSession session.old }
-    ensures { (files : List ℕ → Option (List ℕ)) (asked : List (List ℕ)) → IfOk result (λ answer. HasOutcome files
+    requires { IsSoundSession session.old (test images.old) (test scripts.now) }
+    ensures answer { (files : List ℕ → Option (List ℕ)) (asked : List (List ℕ)) → IfOk result (IsAnswered files
         (counted features (lines_run (tiles_of session.old) (test scripts.now) (changes images.old) 1
         (session_state session.old (test images.old)) false (generated_lines features)))
-        asked asked (outcome_of answer)) }
+        asked asked steps.old steps.new) }
+    ensures due { (files : List ℕ → Option (List ℕ)) (asked : List (List ℕ)) → OnErr result (StepsAreDue files
+        (counted features (lines_run (tiles_of session.old) (test scripts.now) (changes images.old) 1
+        (session_state session.old (test images.old)) false (generated_lines features)))
+        asked asked steps.old steps.new) }
 {
     let mut counting = Counting {
-        alloc,
+        alloc: session.alloc(),
         number: 1,
         lines: 0,
         bytes: 0,
         any: false,
     };
-    counting.answer_all(session, features, images, scripts)?;
+    counting.answer_all(session, features, images, scripts, steps)?;
     counting.finish(features)
 }
 
 impl Counting {
     // Counts what all lines are answered.
-    fn answer_all(
+    fn answer_all<L: Ledger>(
         &mut self,
         session: &mut Session<'_>,
         features: u32,
         images: &mut dyn HostOp,
         scripts: &dyn HostOp,
+        steps: &mut Steps<L>,
     ) -> Result<(), AllocError>
-        requires sound { IsSoundSession session.old }
+        requires sound { IsSoundSession session.old (test images.old) (test scripts.now) }
         requires small { IsSmall self.old }
         requires first { self.old.number ≡ 1 }
-        ensures { OnOk result (EndsAs
+        ensures on { OnOk result (EndsAs steps.old steps.new
             (lines_left features (test scripts.now) (changes images.old) (test images.old) session.old self.old (generated_lines features))
             (lines_left features (test scripts.now) (changes images.old) (test images.new) session.new self.new [])) }
+        ensures due { (files : List ℕ → Option (List ℕ)) (asked : List (List ℕ)) → OnErr result (StepsAreDue files
+            (lines_left features (test scripts.now) (changes images.old) (test images.old) session.old self.old (generated_lines features))
+            asked asked steps.old steps.new) }
     {
         let mut line = Vec::new(self.alloc);
         for place in 0..line_count_of(features) {
             put_line(features, place, &mut line)?;
-            self.answer(session, line.as_slice(), images, scripts)?;
+            self.answer(session, line.as_slice(), images, scripts, steps)?;
         }
         Ok(())
     }
 
     // Counts what the next line is answered.
-    fn answer(
+    fn answer<L: Ledger>(
         &mut self,
         session: &mut Session<'_>,
         line: &[u8],
         images: &mut dyn HostOp,
         scripts: &dyn HostOp,
+        steps: &mut Steps<L>,
     ) -> Result<(), AllocError>
-        requires sound { IsSoundSession session.old }
+        requires sound { IsSoundSession session.old (test images.old) (test scripts.now) }
         requires small { IsSmall self.old }
-        ensures sound { IsSoundSession session.new }
+        ensures sound { IsSoundSession session.new (test images.new) (test scripts.now) }
         ensures next { OnOk result (self.new.number ≡ self.old.number + 1) }
         ensures small { OnOk result (self.new.number ≤ 2 ^ 33 → IsSmall self.new) }
         ensures changes { changes images.new ≡ changes images.old }
-        ensures on { (features : ℕ) (rest : List (List ℕ)) → OnOk result (EndsAs
+        ensures on { (features : ℕ) (rest : List (List ℕ)) → OnOk result (EndsAs steps.old steps.new
             (lines_left features (test scripts.now) (changes images.old) (test images.old) session.old self.old (line.now ∷ rest))
             (lines_left features (test scripts.now) (changes images.old) (test images.new) session.new self.new rest)) }
+        ensures due { (features : ℕ) (rest : List (List ℕ)) (files : List ℕ → Option (List ℕ)) (asked : List (List ℕ)) → OnErr result (StepsAreDue files
+            (lines_left features (test scripts.now) (changes images.old) (test images.old) session.old self.old (line.now ∷ rest))
+            asked asked steps.old steps.new) }
     {
         let line = ScriptLine {
             number: self.number,
             bytes: line,
         };
-        let answer = answer_line(self.alloc, session, &line, images, scripts)?;
+        let answer = answer_line(session, &line, images, scripts, steps)?;
         self.lines += line_count(answer.text.as_slice()) as u128;
         self.bytes += answer.text.len() as u128;
         self.any = self.any || answer.is_refused;

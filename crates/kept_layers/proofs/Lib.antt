@@ -10,3 +10,8 @@ pub mod SceneLaws
 pub mod StateLaws
 pub mod Stepping
 pub mod TurnLaws
+pub mod ItemLaws
+pub mod PlaceLaws
+pub mod EditedItems
+pub mod FollowLaws
+pub mod EditLaws

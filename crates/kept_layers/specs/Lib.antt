@@ -1,5 +1,6 @@
 -- To be believed.
 pub mod KeptLayers
+pub mod EditedKept
 -- What holds of kept cells, and what clauses see of the program's values.
 pub mod Holding
 pub mod View
@@ -7,3 +8,5 @@ pub mod Changes
 -- What only contracts of private functions and proofs use.
 pub mod Turning
 pub mod LayerListing
+-- What `follow` asks and gives.
+pub mod Following

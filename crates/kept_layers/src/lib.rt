@@ -3,11 +3,12 @@
 //!
 //! ```text
 //! let mut kept = KeptLayers::of(alloc, &style)?;                   // nothing is kept
-//! kept.list(alloc, &style, &scene, &mut steps, &mut out)?          // 3: so many evaluations; out has the listing
+//! kept.list(alloc, &style, &scene, &mut steps, &mut out)?          // 3 evaluations; out has the listing
 //! kept.turn_state("t", "p", 7, &style);                            // the state of a feature is another
 //! kept.list(alloc, &style, &scene, &mut steps, &mut out)?          // 1
 //! kept.change(alloc, 0, CellItem::Filter, &style.one(0))?;         // the filter of the first layer was edited
 //! kept.remove(0);                                                  // and then the layer
+//! follow(alloc, &mut kept, &command, places, &style)?;             // what this command did to the style
 //! ```
 //!
 //! What is promised, where `kept_seen` is which cells of each layer are kept:
@@ -20,6 +21,9 @@
 //!   expressions use the global state, and reads these anew.
 //! - `change` drops the cells of one item of a layer, and reads its expression anew. `add`, `remove` and `move_layer` drop
 //!   no cell of another layer.
+//! - `follow` takes what is kept through an edit of the layers: it leaves kept what `edited_kept` says, and nothing else.
+//!   The cells of an edited property or filter go, and no others; a range of zooms changes nothing. An edit that concerns
+//!   no layers, as of the zoom or of a state, is followed by nothing, since each has a call above.
 //! - What is kept is what the cells mean in the scene that is shown (`IsRightIn`), before each call, and after each but
 //!   `list_last`.
 //!
@@ -28,14 +32,16 @@
 //! drops the cells of each layer once its lines are written. `turn_globals` takes constant time as long as no
 //! expression has used the global state.
 //!
-//! The text to believe is in `specs/`: `KeptLayers`.
+//! The text to believe is in `specs/`: `KeptLayers`, and `EditedKept` for `follow`.
 #![tactic(auto)]
 
 mod changes;
+mod following;
 mod globals;
 mod kept_layers;
 mod listing;
 mod style_layers;
 
+pub use following::follow;
 pub use kept_layers::KeptLayers;
 pub use style_layers::{OneLayer, StyleLayers};

@@ -23,14 +23,14 @@ use node_pool::Pool;
 use outside_io::Steps;
 use std::alloc::{AllocError, Global};
 use std::sync::ledger::Ledger;
-use style_layout::{Evaluator, Scene, SourceTile};
+use style_layout::{Scene, SourceTile, TextTests};
 
 impl KeptLayers {
     /// Appends the listing of a style, and gives how many cells were evaluated for it: those that it asks and that
     /// are not kept, which are kept afterwards. Where an allocation fails, out may have a part of it, and what was
     /// kept is kept.
     #[tactic(auto, unfolding(listing_text::specs::Listing::listing, style_layout::specs::CodeView::scene_seen))]
-    pub fn list<'a, V: Evaluator, L: Ledger>(
+    pub fn list<'a, V: TextTests, L: Ledger>(
         &mut self,
         alloc: Global,
         style: &'a StyleLayers<'a>,
@@ -62,7 +62,7 @@ impl KeptLayers {
     /// As `list`, where nothing is listed afterwards: the cells of each layer are dropped once its lines are written,
     /// so that those of one layer at a time are in memory.
     #[tactic(auto, unfolding(listing_text::specs::Listing::listing, style_layout::specs::CodeView::scene_seen))]
-    pub fn list_last<'a, V: Evaluator, L: Ledger>(
+    pub fn list_last<'a, V: TextTests, L: Ledger>(
         &mut self,
         alloc: Global,
         style: &'a StyleLayers<'a>,
@@ -89,7 +89,7 @@ impl KeptLayers {
         Ok(number)
     }
 
-    fn list_layers<'a, V: Evaluator, L: Ledger>(
+    fn list_layers<'a, V: TextTests, L: Ledger>(
         &mut self,
         alloc: Global,
         style: &'a StyleLayers<'a>,
@@ -126,7 +126,7 @@ impl KeptLayers {
     }
 
     // Drops the cells of each layer once it is listed.
-    fn list_and_drop<'a, V: Evaluator, L: Ledger>(
+    fn list_and_drop<'a, V: TextTests, L: Ledger>(
         &mut self,
         alloc: Global,
         style: &'a StyleLayers<'a>,
@@ -162,7 +162,7 @@ impl KeptLayers {
     }
 
     // Asks the cells of a layer, and appends its lines.
-    fn list_layer<V: Evaluator, L: Ledger>(
+    fn list_layer<V: TextTests, L: Ledger>(
         &mut self,
         alloc: Global,
         at: &LayerAt<'_, V>,

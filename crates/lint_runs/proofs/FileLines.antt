@@ -61,4 +61,4 @@ module _ (form : LintForm) (file : List ℕ) where
       → l ≡ linted_too_long form left file → GoesOn files (bytes_part form left file None) asked asked (record { linted = l; left = left })
   long_goes left l files asked is = λ k.
       subst (λ (s : LintedStyle). ComesTo files (k (record { linted = linted_too_long form left file; left = left })) (k (record { linted = s; left = left })) asked asked) (sym is)
-      (record { outcomes = λ all o d. d; reads = λ now r. r; says = λ now text s. s })
+      (record { outcomes = λ all o d. d; reads = λ now r. r; says = λ now text s. s; counts = λ now steps s. s })

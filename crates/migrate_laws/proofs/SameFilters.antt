@@ -4,7 +4,7 @@ use Rattle.std.specs.Prelude.{Bool, Some, Ok, Err, if◌then◌else◌}
 use Rattle.decimal_json.specs.Tree.{Tree}
 use Rattle.prop_values.specs.Data.{Data}
 use Rattle.expr_syntax.specs.Reading.{reading_with}
-use Rattle.expr_plain.specs.Resolved.{passes}
+use Rattle.eval_face.specs.Resolved.{passes}
 use Rattle.legacy_filters.specs.Filter.{Filter}
 use Rattle.legacy_filters.specs.Form.{FilterRead, reading}
 use Rattle.legacy_filters.specs.Laws.{NoExpressionIsLegacy}

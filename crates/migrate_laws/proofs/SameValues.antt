@@ -16,7 +16,7 @@ use Rattle.property_tables.specs.Rows.{RowData}
 use Rattle.expr_syntax.specs.Reading.{number_read, inside, reading_with}
 use Rattle.expr_syntax.specs.Term.{Term, literal}
 use Rattle.eval_face.specs.Meaning.{mean}
-use Rattle.expr_plain.specs.Resolved.{resolved}
+use Rattle.eval_face.specs.Resolved.{resolved}
 use Rattle.legacy_functions.specs.Form as functions
 use Rattle.legacy_functions.specs.Function.{Function}
 use Rattle.legacy_functions.specs.Meaning as meanings

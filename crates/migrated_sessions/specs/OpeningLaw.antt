@@ -4,7 +4,7 @@ use Rattle.decimal_json.specs.Tree.{Tree}
 use Rattle.prop_values.specs.Data.{Data}
 use Rattle.edit_session.specs.Applied.{listing_of}
 use Rattle.edit_session.specs.Opening.{open_fault}
-use Rattle.edit_session.specs.SessionState.{SessionState}
+use Rattle.edit_session.specs.SessionState.{SessionState, opened}
 use Rattle.migrate_soundness.specs.SoundnessLaw.{HasNoFinding}
 use Rattle.style_layout.specs.Layers.{style_layers}
 use Rattle.style_layout.specs.Shown.{SourceTile}
@@ -27,7 +27,16 @@ MigratedStylesOpenAlike =
     (limit : ℕ) (tiles : List SourceTile) (zoom : ℤ) →
     open_fault limit (migrated document) tiles zoom ≡ open_fault limit document tiles zoom
 
--- Each session over a migrated document has the listing that it has over the document.
+-- Each document, well formed or not, begins a session after it was migrated as it did before, but for the document: with
+-- the same values of the global state, and with nothing kept of as many layers.
+abbrev pub MigratedSessionsBeginAlike : Type 0
+MigratedSessionsBeginAlike =
+    (limit : ℕ) (document : Tree) (zoom : ℤ) (has_image : List ℕ → Bool) →
+    opened limit (migrated document) zoom has_image
+    ≡ record (opened limit document zoom has_image) { document = migrated document }
+
+-- Each session over a migrated document has the listing that it has over the document, whatever is kept. How many
+-- evaluations it makes is not promised.
 abbrev pub MigratedStylesAreListedAlike : Type 0
 MigratedStylesAreListedAlike =
     (tiles : List SourceTile) (scripts : List ℕ → Bool) (p : SessionState) →

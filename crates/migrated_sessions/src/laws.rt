@@ -1,5 +1,5 @@
 //! What the definitions mean, each law on a function that does nothing.
-ghost use Rattle.migrated_sessions.specs.OpeningLaw.{MigratedDocumentsHaveAsManyCells};
+ghost use Rattle.migrated_sessions.specs.OpeningLaw.{MigratedDocumentsHaveAsManyCells, MigratedSessionsBeginAlike};
 ghost use Rattle.migrated_sessions.specs.OpeningLaw.{MigratedStylesAreListedAlike, MigratedStylesOpenAlike};
 
 use migrate_laws::{
@@ -26,6 +26,13 @@ pub fn migrated_styles_open_alike()
     migrated_documents_have_as_many_cells();
     migrated_documents_give_the_same_globals();
     sound_documents_stay_sound();
+}
+
+/// A session that is opened over a migrated document begins as over the document, but for the document.
+pub fn migrated_sessions_begin_alike()
+    ensures { MigratedSessionsBeginAlike }
+{
+    migrated_documents_give_the_same_globals();
 }
 
 /// A session over a migrated document has the listing that it has over the document.

@@ -22,6 +22,7 @@ module _ (files : List ℕ → Option (List ℕ)) where
     outcomes = λ all o d. f.outcomes all o (g.outcomes all o d);
     reads = λ now r. f.reads now (g.reads now r);
     says = λ now text s. f.says now text (g.says now text s);
+    counts = λ now steps s. f.counts now steps (g.counts now steps s);
   }
 
   pub halts_on : (run rest : Run) (old mid new : ℕ) (failed_old failed_mid failed_new : Option (List ℕ)) (asked_old asked_mid asked_new : List (List ℕ)) (h : RunHalt)
@@ -41,6 +42,7 @@ module _ (files : List ℕ → Option (List ℕ)) where
     outcomes = λ all o d. (parsed, is, d);
     reads = λ now r. inr (parsed, is, r);
     says = λ now text s. (parsed, is, s);
+    counts = λ now steps s. inr (parsed, is, s);
   }
 
 -- A part after a part. The value of the first is x, which the code borrows as y; the known contents of files

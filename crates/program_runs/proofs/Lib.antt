@@ -3,4 +3,6 @@ pub mod Going
 pub mod Fronts
 pub mod Asked
 pub mod Saying
+pub mod Counting
+pub mod MayParse
 pub mod Pieces

@@ -11,7 +11,7 @@ use Rattle.decimal_json.specs.Tree.{Tree}
 use Rattle.decimal_json.specs.declared.fault.JsonFault.{JsonFault}
 use Rattle.program_runs.specs.Laws.{EachRunHasOneOutcome}
 use Rattle.program_runs.specs.Refusals.{no_json}
-use Rattle.program_runs.specs.Runs.{ends, says, reads, may_read, parses, may_parse, explains, IsFileOrLonger, IsParsed, HasOutcome, after_text}
+use Rattle.program_runs.specs.Runs.{ends, says, counts, reads, may_read, parses, may_parse, explains, IsFileOrLonger, IsParsed, HasOutcome, after_counts, after_text}
 
 one_refusal : (what text : List ℕ) (kind other : JsonKind) (at place : ℕ) → IsPlace text at → IsKind kind text at → IsPlace text place → IsKind other text place → no_json what kind at ≡ no_json what other place
 one_refusal what text kind other at place at_first first at_second second =
@@ -48,6 +48,8 @@ pub one_outcome : EachRunHasOneOutcome
 one_outcome files (ends made) told x y z o p d e = (d.0 ∙ sym e.0, d.1 ∙ sym e.1)
 one_outcome files (says text next) told x y z o p (q, d, made) (r, e, makes) =
     let same = one_outcome files next told x y z q r d e in (made ∙ (ap (after_text text) same.0 ∙ sym makes), same.1)
+one_outcome files (counts least most next) told x y z o p (q, d, made) (r, e, makes) =
+    let same = one_outcome files next told x y z q r d e in (made ∙ (ap (after_counts least most) same.0 ∙ sym makes), same.1)
 one_outcome files (reads longer name limit after) told x y z o p (inl a) (inl b) = (a.1 ∙ sym b.1, a.2 ∙ sym b.2)
 one_outcome files (reads longer name limit after) told x y z o p (inl a) (inr (bytes, is, e)) = absurd (not_both (files name) limit bytes told.0 a.0 is.0 is.1)
 one_outcome files (reads longer name limit after) told x y z o p (inr (bytes, is, d)) (inl b) = absurd (not_both (files name) limit bytes told.0 b.0 is.0 is.1)

@@ -6,7 +6,7 @@ use Rattle.outside_io.specs.Writing.{Gains, GainsPrefix}
 use Rattle.json_tokens.specs.Rules.{all_rules}
 use Rattle.decimal_json.proofs.OneTree.{one_tree}
 use Rattle.program_runs.specs.Outcome.{RunOutcome}
-use Rattle.program_runs.specs.Runs.{Run, ends, says, reads, may_read, parses, may_parse, explains, HasOutcome, HasSaid, AreTold, IsFront}
+use Rattle.program_runs.specs.Runs.{Run, ends, says, counts, reads, may_read, parses, may_parse, explains, HasOutcome, HasSaid, AreTold, IsFront}
 use Rattle.program_runs.proofs.RunLaws.{not_both, one_content, one_read, one_parsed}
 
 -- a text is a front of itself
@@ -33,6 +33,8 @@ module _ (files : List ℕ → Option (List ℕ)) where
   said_front (says first next) told x y z text o (inr (more, said, is)) (p, d, made) =
       subst (λ (q : RunOutcome). IsFront text q.out) (sym made)
       (subst (λ (t : List ℕ). IsFront t (first ++ p.out)) (sym is) (later_text first more p.out (said_front next told x y z more p said d)))
+  said_front (counts least most next) told x y z text o said (p, d, made) =
+      subst (λ (q : RunOutcome). IsFront text q.out) (sym made) (said_front next told x y z text p said d)
   said_front (reads longer name limit after) told x y z text o (inl said) (inl d) = front_is o longer text d.1 said.2
   said_front (reads longer name limit after) told x y z text o (inl said) (inr (bytes, is, d)) =
       absurd (not_both (files name) limit bytes told.0 said.0 is.0 is.1)
@@ -61,6 +63,8 @@ module _ (files : List ℕ → Option (List ℕ)) where
   pub outcome_said : (run : Run) (before all : List (List ℕ)) (o : RunOutcome) → HasOutcome files run before all o → HasSaid files run before all o.out
   outcome_said (ends made) x y o d = (d.1, front_is made o o.out (sym d.0) (whole o.out))
   outcome_said (says first next) x y o (p, d, made) = inr (p.out, outcome_said next x y p d, ap (λ (q : RunOutcome). q.out) made)
+  outcome_said (counts least most next) x y o (p, d, made) =
+      subst (λ (t : List ℕ). HasSaid files next x y t) (sym (ap (λ (q : RunOutcome). q.out) made)) (outcome_said next x y p d)
   outcome_said (reads longer name limit after) x y o (inl d) = inl (d.0, d.2, front_is longer o o.out (sym d.1) (whole o.out))
   outcome_said (reads longer name limit after) x y o (inr (bytes, is, d)) = inr (bytes, is, outcome_said (after bytes) (x ++ name ∷ []) y o d)
   outcome_said (may_read name limit after) x y o (got, is, d) = (got, is, outcome_said (after got) (x ++ name ∷ []) y o d)

@@ -1,5 +1,5 @@
 -- A run as data: what is read and written, in its order, and what comes of the bytes that were read.
-use Rattle.std.specs.Prelude.{◌≡◌, ℕ, ◌≤◌, List, [], ◌∷◌, ◌++◌, length, true, is_some, Option, Some, None, Result, Ok, Err, ◌⊎◌}
+use Rattle.std.specs.Prelude.{◌≡◌, ℕ, ◌+◌, ◌≤◌, List, [], ◌∷◌, ◌++◌, length, true, is_some, Option, Some, None, Result, Ok, Err, ◌⊎◌}
 use Rattle.outside_io.specs.Reading.{IsContent, IsLongerIfTold}
 use Rattle.json_tokens.specs.Rules.{all_rules}
 use Rattle.json_tokens.specs.declared.kind.JsonKind.{JsonKind}
@@ -15,6 +15,8 @@ pub data Run : Type 0 where
   ends : RunOutcome → Run
   -- the text is written on standard output, before what comes next
   says : (text : List ℕ) → (next : Run) → Run
+  -- evaluations are made, in at least so many counted steps and at most so many, before what comes next
+  counts : (least most : ℕ) → (next : Run) → Run
   -- the file of this name is read, of `count` bytes at most: a longer one is refused
   reads : (longer : RunOutcome) → (name : List ℕ) → (limit : ℕ) → (after : List ℕ → Run) → Run
   -- the file of this name is read, of `count` bytes at most: the run goes on with its bytes, or with none of a longer one
@@ -29,6 +31,10 @@ pub data Run : Type 0 where
 -- an outcome, where this text is written before
 abbrev pub after_text : List ℕ → RunOutcome → RunOutcome
 after_text text o = record o { out = text ++ o.out }
+
+-- an outcome, where evaluations of so many steps are made before
+abbrev pub after_counts : (least most : ℕ) → RunOutcome → RunOutcome
+after_counts least most o = record o { least = least + o.least; most = most + o.most }
 
 -- a text begins with another, or is that
 abbrev pub IsFront : (front text : List ℕ) → Type 0
@@ -55,6 +61,7 @@ module _ (files : List ℕ → Option (List ℕ)) where
   abbrev pub HasOutcome : Run → (before after : List (List ℕ)) → RunOutcome → Type 0
   HasOutcome (ends made) asked all o = (o ≡ made) × (all ≡ asked)
   HasOutcome (says text next) asked all o = (p : RunOutcome) × HasOutcome next asked all p × (o ≡ after_text text p)
+  HasOutcome (counts least most next) asked all o = (p : RunOutcome) × HasOutcome next asked all p × (o ≡ after_counts least most p)
   HasOutcome (reads longer name limit after) asked all o =
       (IsLongerIfTold (files name) limit × (o ≡ longer) × (all ≡ asked ++ name ∷ []))
       ⊎ ((bytes : List ℕ) × IsFile name limit bytes × HasOutcome (after bytes) (asked ++ name ∷ []) all o)
@@ -73,6 +80,7 @@ module _ (files : List ℕ → Option (List ℕ)) where
   abbrev pub HasAsked : Run → (before now : List (List ℕ)) → Type 0
   HasAsked (ends made) asked now = now ≡ asked
   HasAsked (says text next) asked now = HasAsked next asked now
+  HasAsked (counts least most next) asked now = HasAsked next asked now
   HasAsked (reads longer name limit after) asked now =
       (now ≡ asked) ⊎ ((now ≡ asked ++ name ∷ []) ⊎ ((bytes : List ℕ) × IsFile name limit bytes × HasAsked (after bytes) (asked ++ name ∷ []) now))
   HasAsked (may_read name limit after) asked now =
@@ -92,6 +100,7 @@ module _ (files : List ℕ → Option (List ℕ)) where
   HasSaid (ends made) asked now text = (now ≡ asked) × IsFront text made.out
   HasSaid (says first next) asked now text =
       ((now ≡ asked) × IsFront text first) ⊎ ((more : List ℕ) × HasSaid next asked now more × (text ≡ first ++ more))
+  HasSaid (counts least most next) asked now text = HasSaid next asked now text
   HasSaid (reads longer name limit after) asked now text =
       (IsLongerIfTold (files name) limit × (now ≡ asked ++ name ∷ []) × IsFront text longer.out)
       ⊎ ((bytes : List ℕ) × IsFile name limit bytes × HasSaid (after bytes) (asked ++ name ∷ []) now text)
@@ -105,10 +114,35 @@ module _ (files : List ℕ → Option (List ℕ)) where
       ⊎ ((IsAccepted all_rules bytes → ⊥) × HasSaid (after None) asked now text)
   HasSaid (explains bytes after) asked now text = (parsed : Result Tree JsonFault) × IsParsed bytes parsed × HasSaid (after parsed) asked now text
 
+  -- The run may have counted so many steps, once it has read the files of these names, in their order, after those before: no more
+  -- than the evaluations count to which it has come by then.
+  abbrev pub HasCounted : Run → (before now : List (List ℕ)) → (steps : ℕ) → Type 0
+  HasCounted (ends made) asked now steps = (now ≡ asked) × (steps ≤ made.most)
+  HasCounted (says text next) asked now steps = HasCounted next asked now steps
+  HasCounted (counts least most next) asked now steps = (more : ℕ) × HasCounted next asked now more × (steps ≤ most + more)
+  HasCounted (reads longer name limit after) asked now steps =
+      (HasAsked (reads longer name limit after) asked now × (steps ≡ 0))
+      ⊎ ((IsLongerIfTold (files name) limit × (now ≡ asked ++ name ∷ []) × (steps ≤ longer.most))
+      ⊎ ((bytes : List ℕ) × IsFile name limit bytes × HasCounted (after bytes) (asked ++ name ∷ []) now steps))
+  HasCounted (may_read name limit after) asked now steps =
+      (HasAsked (may_read name limit after) asked now × (steps ≡ 0))
+      ⊎ ((got : Option (List ℕ)) × IsFileOrLonger name limit got × HasCounted (after got) (asked ++ name ∷ []) now steps)
+  HasCounted (parses what bytes after) asked now steps =
+      (HasAsked (parses what bytes after) asked now × (steps ≡ 0))
+      ⊎ ((t : Tree) × Spells all_rules bytes t × HasCounted (after t) asked now steps)
+  HasCounted (may_parse bytes after) asked now steps =
+      (HasAsked (may_parse bytes after) asked now × (steps ≡ 0))
+      ⊎ (((t : Tree) × Spells all_rules bytes t × HasCounted (after (Some t)) asked now steps)
+      ⊎ ((IsAccepted all_rules bytes → ⊥) × HasCounted (after None) asked now steps))
+  HasCounted (explains bytes after) asked now steps =
+      (HasAsked (explains bytes after) asked now × (steps ≡ 0))
+      ⊎ ((parsed : Result Tree JsonFault) × IsParsed bytes parsed × HasCounted (after parsed) asked now steps)
+
   -- the contents of every file that the run comes to read are known
   abbrev pub AreTold : Run → Type 0
   AreTold (ends made) = Unit {0}
   AreTold (says text next) = AreTold next
+  AreTold (counts least most next) = AreTold next
   AreTold (reads longer name limit after) = (is_some (files name) ≡ true) × ((bytes : List ℕ) → IsFile name limit bytes → AreTold (after bytes))
   AreTold (may_read name limit after) =
       (is_some (files name) ≡ true) × ((got : Option (List ℕ)) → IsFileOrLonger name limit got → AreTold (after got))
@@ -121,6 +155,7 @@ module _ (files : List ℕ → Option (List ℕ)) where
 abbrev pub IsFileless : Run → Type 0
 IsFileless (ends made) = Unit {0}
 IsFileless (says text next) = IsFileless next
+IsFileless (counts least most next) = IsFileless next
 IsFileless (reads longer name limit after) = ⊥
 IsFileless (may_read name limit after) = ⊥
 IsFileless (parses what bytes after) = (t : Tree) → IsFileless (after t)

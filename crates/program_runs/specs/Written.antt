@@ -1,5 +1,5 @@
 -- What a run does to files and to its two sinks.
-use Rattle.std.specs.Prelude.{◌≡◌, ℕ, ◌<◌, List, ◌++◌, codes, length, Option, ◌⊎◌}
+use Rattle.std.specs.Prelude.{◌≡◌, ℕ, ◌+◌, ◌<◌, ◌≤◌, List, ◌++◌, codes, length, Option, ◌⊎◌}
 use Rattle.outside_io.specs.Counts.{raised}
 use Rattle.outside_io.specs.Writing.{Gains, GainsPrefix}
 use Rattle.decimal_json.specs.JsonText.{text_json}
@@ -8,7 +8,7 @@ use Rattle.program_runs.specs.declared.status.Status.TheVariants as status
 use Rattle.program_runs.specs.Ending.{status_of}
 use Rattle.program_runs.specs.Outcome.{RunOutcome, line}
 use Rattle.program_runs.specs.FailedReads.{NoneFailed, ReadFails}
-use Rattle.program_runs.specs.Runs.{Run, HasOutcome, HasSaid, AreTold}
+use Rattle.program_runs.specs.Runs.{Run, HasOutcome, HasSaid, HasCounted, AreTold}
 
 -- the line of a file that could not be read
 abbrev pub unread_line : List ℕ → List ℕ
@@ -33,15 +33,20 @@ HasNoOutcome _ = ⊥
 abbrev pub EndsAtFailedRead : Status → (old new : ℕ) → (failed_old failed_new : Option (List ℕ)) → Type 0
 EndsAtFailedRead answer old new failed_old failed_new = NoneFailed old new failed_old failed_new ⊎ ((new ≡ raised old) × HasNoOutcome answer)
 
+-- the count of steps rose by at least so many, and by at most so many
+abbrev pub RoseBetween : (old new least most : ℕ) → Type 0
+RoseBetween old new least most = (old + least ≤ new) × (new ≤ old + most)
+
 -- over the names that were read before the run and after it
 module _ (files : List ℕ → Option (List ℕ)) (run : Run) (asked_old asked_new : List (List ℕ)) where
-  -- the run has an outcome, both its texts were written whole, and the status is its own
-  pub record Completes (answer : Status) (out_old out_new err_old err_new : Option (List ℕ)) : Type 0 where
+  -- the run has an outcome, both its texts were written whole, the status is its own, and the steps rose as it says
+  pub record Completes (answer : Status) (out_old out_new err_old err_new : Option (List ℕ)) (steps_old steps_new : ℕ) : Type 0 where
     pub outcome : RunOutcome
     pub defined : HasOutcome files run asked_old asked_new outcome
     pub status : answer ≡ status_of outcome.ending
     pub out : Gains out_old out_new outcome.out
     pub err : Gains err_old err_new outcome.err
+    pub steps : RoseBetween steps_old steps_new outcome.least outcome.most
 
   -- what out holds more is a prefix of the out text, where the contents of files are known
   pub record OutFront (old new : Option (List ℕ)) : Type 0 where
@@ -54,6 +59,14 @@ module _ (files : List ℕ → Option (List ℕ)) (run : Run) (asked_old asked_n
     pub front :
         ((all : List (List ℕ)) (o : RunOutcome) → AreTold files run → HasOutcome files run asked_old all o → GainsPrefix old new o.err)
         ⊎ ((name : List ℕ) × ReadFails files run reads_old reads_new failed asked_old asked_new name × GainsPrefix old new (unread_line name))
+
+  -- the steps rose by no more than the run may have counted
+  abbrev pub StepsAreDue : (old new : ℕ) → Type 0
+  StepsAreDue old new = (most : ℕ) × HasCounted files run asked_old asked_new most × (new ≤ old + most)
+
+  -- they rose by no more than an outcome says, where the contents of files are known
+  pub record StepsFront (old new : ℕ) : Type 0 where
+    pub front : (all : List (List ℕ)) (o : RunOutcome) → AreTold files run → HasOutcome files run asked_old all o → new ≤ old + o.most
 
   -- an out text is due: the run has come to write one
   abbrev pub OutTextIsDue : Type 0

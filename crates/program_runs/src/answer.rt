@@ -1,7 +1,7 @@
 //! Both texts of a run, and how it ends.
 
 ghost use Rattle.std.specs.Prelude.{◌≡◌, [], ◌∷◌, ◌++◌, codes, IfOk};
-ghost use Rattle.program_runs.specs.Outcome.{said, told};
+ghost use Rattle.program_runs.specs.Outcome.{plain_outcome, said, told};
 ghost use Rattle.program_runs.specs.Progress.{outcome_of};
 
 use crate::status::Ending;
@@ -55,7 +55,7 @@ pub fn begin_refusal(alloc: Global) -> Result<Vec<u8>, AllocError>
 
 /// A refusal by its line, which yet lacks its LF.
 pub fn answer_refused(alloc: Global, line: Vec<u8>) -> Result<RunOutput, AllocError>
-    ensures { IfOk result (λ answer. outcome_of answer ≡ record { out = []; err = line.items ++ 10 ∷ []; ending = Ending.Refused }) }
+    ensures { IfOk result (λ answer. outcome_of answer ≡ plain_outcome [] (line.items ++ 10 ∷ []) Ending.Refused) }
 {
     let mut err = line;
     err.push(b'\n')?;
@@ -63,7 +63,7 @@ pub fn answer_refused(alloc: Global, line: Vec<u8>) -> Result<RunOutput, AllocEr
 }
 
 fn answer_err(alloc: Global, err: Vec<u8>, ending: Ending) -> RunOutput
-    ensures { outcome_of result ≡ record { out = []; err = err.items; ending = ending } }
+    ensures { outcome_of result ≡ plain_outcome [] err.items ending }
 {
     RunOutput {
         out: Vec::new(alloc),

@@ -74,26 +74,26 @@ keeping_accepted tiles p h =
     λ i. option_or (first_finding (h.findings i)) (if within i then None else Some CellLimit)
 
 -- the document that an edit makes, and its cells, by the edit
-document_accepted : (tiles : List SourceTile) (p : SessionState) (e : Edit) → IsSoundState tiles (presented_after p e) →
+document_accepted : (tiles : List SourceTile) (p : SessionState) (e : Edit) → IsSoundState tiles (presented_after tiles p e) →
     document_refusal tiles p e ≡ None
-document_accepted tiles p (edits.set_paint layer name value) h = keeping_accepted tiles (presented_after p (edits.set_paint layer name value)) h
-document_accepted tiles p (edits.set_layout layer name value) h = keeping_accepted tiles (presented_after p (edits.set_layout layer name value)) h
-document_accepted tiles p (edits.set_filter layer filter) h = keeping_accepted tiles (presented_after p (edits.set_filter layer filter)) h
-document_accepted tiles p (edits.set_range layer min max) h = keeping_accepted tiles (presented_after p (edits.set_range layer min max)) h
-document_accepted tiles p (edits.add_layer layer before) h = keeping_accepted tiles (presented_after p (edits.add_layer layer before)) h
-document_accepted tiles p (edits.remove_layer id) h = keeping_accepted tiles (presented_after p (edits.remove_layer id)) h
-document_accepted tiles p (edits.move_layer id before) h = keeping_accepted tiles (presented_after p (edits.move_layer id before)) h
+document_accepted tiles p (edits.set_paint layer name value) h = keeping_accepted tiles (presented_after tiles p (edits.set_paint layer name value)) h
+document_accepted tiles p (edits.set_layout layer name value) h = keeping_accepted tiles (presented_after tiles p (edits.set_layout layer name value)) h
+document_accepted tiles p (edits.set_filter layer filter) h = keeping_accepted tiles (presented_after tiles p (edits.set_filter layer filter)) h
+document_accepted tiles p (edits.set_range layer min max) h = keeping_accepted tiles (presented_after tiles p (edits.set_range layer min max)) h
+document_accepted tiles p (edits.add_layer layer before) h = keeping_accepted tiles (presented_after tiles p (edits.add_layer layer before)) h
+document_accepted tiles p (edits.remove_layer id) h = keeping_accepted tiles (presented_after tiles p (edits.remove_layer id)) h
+document_accepted tiles p (edits.move_layer id before) h = keeping_accepted tiles (presented_after tiles p (edits.move_layer id before)) h
 document_accepted tiles p _ h = refl
 
 state_keeps : (tiles : List SourceTile) (p : SessionState) (e : Edit) → asks e ≡ false → IsSoundState tiles p →
-    document_refusal tiles p e ≡ None → IsSoundState tiles (presented_after p e)
-state_keeps tiles p (edits.set_paint layer name value) asked h none = accepted_keeps tiles (presented_after p (edits.set_paint layer name value)) none
-state_keeps tiles p (edits.set_layout layer name value) asked h none = accepted_keeps tiles (presented_after p (edits.set_layout layer name value)) none
-state_keeps tiles p (edits.set_filter layer filter) asked h none = accepted_keeps tiles (presented_after p (edits.set_filter layer filter)) none
-state_keeps tiles p (edits.set_range layer min max) asked h none = accepted_keeps tiles (presented_after p (edits.set_range layer min max)) none
-state_keeps tiles p (edits.add_layer layer before) asked h none = accepted_keeps tiles (presented_after p (edits.add_layer layer before)) none
-state_keeps tiles p (edits.remove_layer id) asked h none = accepted_keeps tiles (presented_after p (edits.remove_layer id)) none
-state_keeps tiles p (edits.move_layer id before) asked h none = accepted_keeps tiles (presented_after p (edits.move_layer id before)) none
+    document_refusal tiles p e ≡ None → IsSoundState tiles (presented_after tiles p e)
+state_keeps tiles p (edits.set_paint layer name value) asked h none = accepted_keeps tiles (presented_after tiles p (edits.set_paint layer name value)) none
+state_keeps tiles p (edits.set_layout layer name value) asked h none = accepted_keeps tiles (presented_after tiles p (edits.set_layout layer name value)) none
+state_keeps tiles p (edits.set_filter layer filter) asked h none = accepted_keeps tiles (presented_after tiles p (edits.set_filter layer filter)) none
+state_keeps tiles p (edits.set_range layer min max) asked h none = accepted_keeps tiles (presented_after tiles p (edits.set_range layer min max)) none
+state_keeps tiles p (edits.add_layer layer before) asked h none = accepted_keeps tiles (presented_after tiles p (edits.add_layer layer before)) none
+state_keeps tiles p (edits.remove_layer id) asked h none = accepted_keeps tiles (presented_after tiles p (edits.remove_layer id)) none
+state_keeps tiles p (edits.move_layer id before) asked h none = accepted_keeps tiles (presented_after tiles p (edits.move_layer id before)) none
 state_keeps tiles p (edits.set_zoom zoom) asked h none = record { findings = h.findings; cells = h.cells }
 state_keeps tiles p (edits.set_state source layer id members) asked h none = record { findings = h.findings; cells = h.cells }
 state_keeps tiles p (edits.remove_state source layer id key) asked h none = record { findings = h.findings; cells = h.cells }
@@ -110,17 +110,17 @@ module _ (tiles : List SourceTile) (scripts : List ℕ → Bool) (can_change : B
   -- ---- edits
 
   as_edit : (p : SessionState) (e : Edit) → asks e ≡ false →
-      applied tiles scripts can_change p e ≡ unless_refused (refusal tiles scripts can_change p e) p (presented_after p e)
+      applied tiles scripts can_change p e ≡ unless_refused (refusal tiles scripts can_change p e) p (presented_after tiles p e)
   as_edit p edits.list h = absurd (cc)
   as_edit p edits.stats h = absurd (cc)
   as_edit p edits.style h = absurd (cc)
   as_edit p e h = refl
 
   pub is_accepted : (p : SessionState) (e : Edit) → asks e ≡ false → edit_fault p.document e ≡ None →
-      IsSoundState tiles (presented_after p e) → images_refusal can_change e ≡ None →
-      applied tiles scripts can_change p e ≡ (presented_after p e, done)
+      IsSoundState tiles (presented_after tiles p e) → images_refusal can_change e ≡ None →
+      applied tiles scripts can_change p e ≡ (presented_after tiles p e, done)
   is_accepted p e asked fault whole images =
-      let after = presented_after p e in
+      let after = presented_after tiles p e in
       let none = no_cause (option_map refusal_of (edit_fault p.document e)) (document_refusal tiles p e)
       (images_refusal can_change e) (ap (option_map refusal_of) fault) (document_accepted tiles p e whole) images in
       as_edit p e asked ∙ ap (λ r. unless_refused r p after) none
@@ -134,14 +134,14 @@ module _ (tiles : List SourceTile) (scripts : List ℕ → Bool) (can_change : B
 
   edit_keeps : (p : SessionState) (e : Edit) → asks e ≡ false → IsSoundState tiles p → IsSoundState tiles (applied tiles scripts can_change p e).0
   edit_keeps p e asked h =
-      let after = presented_after p e in
+      let after = presented_after tiles p e in
       subst (λ a. IsSoundState tiles a.0) (sym (as_edit p e asked))
       (unless_keeps (refusal tiles scripts can_change p e) p after h (λ none.
       state_keeps tiles p e asked h (no_second (option_map refusal_of (edit_fault p.document e))
       (document_refusal tiles p e) (images_refusal can_change e) none)))
 
   applied_keeps : (p : SessionState) (e : Edit) → IsSoundState tiles p → IsSoundState tiles (applied tiles scripts can_change p e).0
-  applied_keeps p edits.list h = h
+  applied_keeps p edits.list h = record { findings = h.findings; cells = h.cells }
   applied_keeps p edits.stats h = h
   applied_keeps p edits.style h = h
   applied_keeps p e h = edit_keeps p e refl h

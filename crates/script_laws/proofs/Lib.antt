@@ -1,5 +1,6 @@
 mod CellLaws
 mod EditLaws
+mod KeptLaws
 mod LineLaws
 mod ListLaws
 mod RearrangingLaws

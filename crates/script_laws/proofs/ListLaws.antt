@@ -16,13 +16,14 @@ use Rattle.tile_reader.specs.declared.fault.TileFault.{TileFault}
 use Rattle.tile_reader.specs.declared.tile.TileLayer.{TileLayer}
 use Rattle.edit_session.specs.Applied.{listing_of}
 use Rattle.edit_session.specs.Opening.{cell_limit, Fault, tiles_fault}
+use Rattle.edit_session.specs.SessionState.{SessionState}
 use Rattle.style_layout.specs.Shown.{SourceTile}
 use Rattle.style_rules.specs.Findings.{findings}
 use Rattle.program_runs.specs.Outcome.{RunOutcome, said}
 use Rattle.program_runs.specs.declared.status.Ending.TheVariants.{Fine}
-use Rattle.program_runs.specs.Runs.{Run, HasOutcome, ends, reads, parses, after_text}
-use Rattle.script_runs.specs.ScriptRun.{script_run, line_out, line_command, ending_by}
-use Rattle.style_program.specs.EvalRun.{opened_or_refused, shown_at_first, listed_outcome, listed_run}
+use Rattle.program_runs.specs.Runs.{Run, HasOutcome, ends, counts, reads, parses, after_counts, after_text}
+use Rattle.script_runs.specs.ScriptRun.{script_run, line_out, line_command, line_least, line_most, ending_by}
+use Rattle.style_program.specs.EvalRun.{opened_or_refused, shown_at_first, listed_least, listed_most, listed_outcome, listed_run}
 use Rattle.style_program.specs.ReplayRun.{answered_by, edited_run, script_part, script_limit}
 use Rattle.program_runs.specs.Refusals.{too_long}
 use Rattle.style_program.specs.ShownRun.{LoadedStyle, load_part, sound_or_broken, tiles_after, tiles_part, tiles_limit, tile_or}
@@ -118,43 +119,70 @@ too_short (Some bytes) e k =
 
 module _ (files : List ℕ → Option (List ℕ)) (o : RunOutcome) (w : ScriptWords) (images scripts : List ℕ → Bool) (can_change : Bool) (shown : LoadedStyle)
     (is : files w.script ≡ Some list_script) where
+  -- what is shown at first
+  abbrev start : SessionState
+  start = shown_at_first w.shown images scripts shown
+
   abbrev script : List ℕ → Run
-  script bytes = script_run shown.1 scripts can_change (shown_at_first w.shown images scripts shown) bytes
+  script bytes = script_run shown.1 scripts can_change start bytes
+
+  abbrev least : ℕ
+  least = listed_least w.shown images scripts shown
+
+  abbrev most : ℕ
+  most = listed_most w.shown images scripts shown
+
+  abbrev listed : RunOutcome
+  listed = listed_outcome w.shown images scripts shown
 
   abbrev listing : Run
-  listing = ends (listed_outcome w.shown images scripts shown)
+  listing = counts least most (ends listed)
+
+  -- what a line is answered that spells a tree
+  abbrev answered : Tree → RunOutcome
+  answered t =
+      let out = line_out shown.1 scripts can_change 1 start (line_command (Some t)) in
+      after_text out.text (said [] (ending_by (false || out.is_refused)))
 
   abbrev written : Tree → RunOutcome
   written t =
-      let out = line_out shown.1 scripts can_change 1 (shown_at_first w.shown images scripts shown) (line_command (Some t)) in
-      after_text out.text (said [] (ending_by (false || out.is_refused)))
+      let read = line_command (Some t) in
+      after_counts (line_least shown.1 scripts start read) (line_most shown.1 scripts start read) (answered t)
 
-  written_lists : written list_tree ≡ listed_outcome w.shown images scripts shown
-  written_lists = ap (λ (text : List ℕ). said text Fine) (append-nil (listing_of shown.1 scripts (shown_at_first w.shown images scripts shown)))
+  written_lists : written list_tree ≡ after_counts least most listed
+  written_lists = ap (λ (text : List ℕ). after_counts least most (said text Fine)) (append-nil (listing_of shown.1 scripts start))
 
   -- the script reads no file
-  script_lists : (asked all : Names) → HasOutcome files (script list_script) asked all o → (o ≡ listed_outcome w.shown images scripts shown) × (all ≡ asked)
-  script_lists asked all (inl (t, spelled, (rest, h, made))) = (
-    made ∙ (ap (after_text (line_out shown.1 scripts can_change 1 (shown_at_first w.shown images scripts shown) (line_command (Some t))).text) h.0
-        ∙ (ap written (one_tree all_rules list_script t list_tree spelled list_spelled) ∙ written_lists)),
-    h.1,
-  )
+  script_lists : (asked all : Names) → HasOutcome files (script list_script) asked all o → (o ≡ after_counts least most listed) × (all ≡ asked)
+  script_lists asked all (inl (t, spelled, (answer, (rest, h, made), is_counted))) =
+      let read = line_command (Some t) in
+      let out = line_out shown.1 scripts can_change 1 start read in (
+        is_counted
+            ∙ (ap (after_counts (line_least shown.1 scripts start read) (line_most shown.1 scripts start read)) (made ∙ ap (after_text out.text) h.0)
+            ∙ (ap written (one_tree all_rules list_script t list_tree spelled list_spelled) ∙ written_lists)),
+        h.1,
+      )
   script_lists asked all (inr (none, h)) = absurd (none (list_tree, list_spelled))
 
   opened_lists : (fault : Option Fault) (asked all : Names) → HasOutcome files (opened_or_refused fault (script list_script)) asked all o →
       HasOutcome files (opened_or_refused fault listing) asked all o
-  opened_lists None asked all h = script_lists asked all h
+  opened_lists None asked all h = let (made, names) = script_lists asked all h in (listed, (refl, names), made)
   opened_lists (Some fault) asked all h = h
 
   listed_opens : (fault : Option Fault) (asked all : Names) → HasOutcome files (opened_or_refused fault listing) asked all o →
       HasOutcome files (opened_or_refused fault (script list_script)) asked all o
-  listed_opens None asked all h = inl (list_tree, list_spelled, (said [] Fine, (refl, h.1), h.0 ∙ sym written_lists))
+  listed_opens None asked all (answer, h, is_counted) =
+      inl (
+        list_tree,
+        list_spelled,
+        (answered list_tree, (said [] Fine, (refl, h.1), refl), is_counted ∙ (ap (after_counts least most) h.0 ∙ sym written_lists)),
+      )
   listed_opens (Some fault) asked all h = h
 
   -- what is listed ends where it began, so other files may have been read before
   listed_from : (fault : Option Fault) (asked all before : Names) → HasOutcome files (opened_or_refused fault listing) asked all o →
       (all ≡ asked) × HasOutcome files (opened_or_refused fault listing) before before o
-  listed_from None asked all before h = (h.1, (h.0, refl))
+  listed_from None asked all before (answer, h, is_counted) = (h.1, (answer, (h.0, refl), is_counted))
   listed_from (Some fault) asked all before h = (h.1, (h.0, refl))
 
   abbrev fault : Option Fault

@@ -72,7 +72,7 @@ rearranging_breaks_no_rule tiles scripts can_change p e is once sound =
 
 accepted : (tiles : List SourceTile) (scripts : List ℕ → Bool) (can_change : Bool) (p : SessionState) (e : Edit) → rearranges e ≡ true →
     findings (edited p.document e) ≡ [] → cell_count tiles (style_layers p.globals (edited p.document e)) ≤ p.limit →
-    edit_fault p.document e ≡ None → applied tiles scripts can_change p e ≡ (presented_after p e, done)
+    edit_fault p.document e ≡ None → applied tiles scripts can_change p e ≡ (presented_after tiles p e, done)
 accepted tiles scripts can_change p (edits.remove_layer id) is none few fault =
     is_accepted tiles scripts can_change p (edits.remove_layer id) refl fault (record { findings = none; cells = few }) refl
 accepted tiles scripts can_change p (edits.move_layer id before) is none few fault =

@@ -3,8 +3,9 @@ ghost use Rattle.script_laws.specs.EvalLaw.{EvalIsReplayOfList};
 ghost use Rattle.script_laws.specs.ScriptLaw.{GlobalsAreAlwaysSet, PossibleEditsAreAccepted};
 ghost use Rattle.script_laws.specs.ScriptLaw.{PossibleRearrangingIsAccepted, RearrangingBreaksNoRule, RearrangingBringsNoCell};
 ghost use Rattle.script_laws.specs.ScriptLaw.{RefusedLinesCountForNothing, ScriptsGoByTheirLines, ScriptsKeepStatesSound};
+ghost use Rattle.script_laws.specs.ScriptLaw.{WhatIsKeptChangesNoAnswer, WhatIsKeptChangesNoScript};
 
-/// An outcome of a script is that of its lines, one after another, and no file is read.
+/// An outcome of a script is that of its lines, one after another, with the steps that they count, and no file is read.
 #[tactic(auto, using(crate::proofs::LineLaws::scripts_go_by_their_lines))]
 pub fn scripts_go_by_their_lines()
     ensures { ScriptsGoByTheirLines }
@@ -15,9 +16,21 @@ pub fn scripts_keep_states_sound()
     ensures { ScriptsKeepStatesSound }
 {}
 
-/// A script without its refused lines leaves the same, and is answered the same but for the numbers of lines.
+/// A script without its refused lines leaves the same, is answered the same but for the numbers of lines, and counts
+/// as many steps.
 pub fn refused_lines_count_for_nothing()
     ensures { RefusedLinesCountForNothing }
+{}
+
+/// Which cells are kept changes no answer but that of `stats`.
+#[tactic(auto, using(crate::proofs::KeptLaws::what_is_kept_changes_no_answer))]
+pub fn what_is_kept_changes_no_answer()
+    ensures { WhatIsKeptChangesNoAnswer }
+{}
+
+/// Nor does it change what a line of a script is answered, but for `stats`.
+pub fn what_is_kept_changes_no_script()
+    ensures { WhatIsKeptChangesNoScript }
 {}
 
 /// An edit that names what is there, with zooms in range, is accepted where the edited style has no findings and at most the cells
@@ -48,7 +61,7 @@ pub fn globals_are_always_set()
     ensures { GlobalsAreAlwaysSet }
 {}
 
-/// `eval` is `replay` of a script that is `["list"]`.
+/// `eval` is `replay` of a script that is `["list"]`, with as many steps.
 #[tactic(auto, using(crate::proofs::ListLaws::eval_is_replay_of_list))]
 pub fn eval_is_replay_of_list()
     ensures { EvalIsReplayOfList }

@@ -3,7 +3,7 @@ use Rattle.std.specs.Prelude.{ℕ, List, ◌++◌, codes, decimal, Bool, true, f
 use Rattle.decimal_json.specs.Place.{path_json}
 use Rattle.edit_script.specs.declared.command.LineFault.{LineFault}
 use Rattle.edit_script.specs.declared.command.LineFault.TheVariants.{Json, Form, Number}
-use Rattle.edit_session.specs.Applied.{Reply, done, listed, stats_asked, styled, refused}
+use Rattle.edit_session.specs.Applied.{Reply, done, listed, counted, styled, refused}
 use Rattle.edit_session.specs.declared.answer.Refusal.{Refusal}
 use Rattle.edit_session.specs.declared.answer.Refusal.TheVariants.{UnknownLayer, UnknownBefore, UnknownSource, ZoomRange, UnknownProperty, Finding, CellLimit, FixedImages}
 use Rattle.program_runs.specs.Outcome.{line}
@@ -31,17 +31,20 @@ ok_line number = line (codes "ok " ++ decimal number)
 abbrev pub refused_line : ℕ → List ℕ → List ℕ
 refused_line number name = line (codes "refused " ++ (decimal number ++ (codes " " ++ name)))
 
--- Evaluations are not counted so far, and the line that asks for their number is refused.
+-- how many cells the last listing evaluated
+abbrev pub stats_line : ℕ → List ℕ
+stats_line n = line (codes "stats " ++ decimal n)
+
 abbrev pub reply_text : ℕ → Reply → List ℕ
 reply_text number done = ok_line number
 reply_text number (listed text) = text
-reply_text number stats_asked = refused_line number (fault_name Form)
+reply_text number (counted n) = stats_line n
 reply_text number (styled text) = line text
 reply_text number (refused refusal) = refused_line number (refusal_text refusal)
 
 abbrev pub is_refused : Reply → Bool
 is_refused done = false
 is_refused (listed text) = false
-is_refused stats_asked = true
+is_refused (counted n) = false
 is_refused (styled text) = false
 is_refused (refused refusal) = true

@@ -5,12 +5,12 @@ use Rattle.edit_script.specs.Command.{command_of}
 use Rattle.edit_script.specs.Edit.{Edit}
 use Rattle.edit_script.specs.declared.command.LineFault.{LineFault}
 use Rattle.edit_script.specs.declared.command.LineFault.TheVariants.{Json}
-use Rattle.edit_session.specs.Applied.{Reply, applied}
+use Rattle.edit_session.specs.Applied.{Reply, applied, least_steps, most_steps}
 use Rattle.edit_session.specs.SessionState.{SessionState}
 use Rattle.program_runs.specs.declared.status.Ending.{Ending}
 use Rattle.program_runs.specs.declared.status.Ending.TheVariants.{Fine, Found}
 use Rattle.program_runs.specs.Outcome.{said}
-use Rattle.program_runs.specs.Runs.{Run, ends, says, may_parse}
+use Rattle.program_runs.specs.Runs.{Run, ends, says, counts, may_parse}
 use Rattle.script_runs.specs.AnswerTexts.{fault_name, refused_line, reply_text, is_refused}
 use Rattle.script_runs.specs.ScriptLines.{script_lines}
 use Rattle.style_layout.specs.Shown.{SourceTile}
@@ -33,6 +33,17 @@ replied number a = record { after = a.0; text = reply_text number a.1; is_refuse
 abbrev pub ending_by : Bool → Ending
 ending_by any = if any then Found else Fine
 
+-- over tiles, with the test on texts that can be shown
+module _ (tiles : List SourceTile) (scripts : List ℕ → Bool) where
+  -- the steps that the evaluations of a line count: at least so many, and at most so many
+  abbrev pub line_least : SessionState → Result Edit LineFault → ℕ
+  line_least p (Ok edit) = least_steps tiles scripts p edit
+  line_least p (Err fault) = 0
+
+  abbrev pub line_most : SessionState → Result Edit LineFault → ℕ
+  line_most p (Ok edit) = most_steps tiles scripts p edit
+  line_most p (Err fault) = 0
+
 -- over tiles, with the test on texts that can be shown; `can_change` says whether the test of images can
 -- change
 module _ (tiles : List SourceTile) (scripts : List ℕ → Bool) (can_change : Bool) where
@@ -47,8 +58,9 @@ module _ (tiles : List SourceTile) (scripts : List ℕ → Bool) (can_change : B
   lines_run number p any [] = ends (said [] (ending_by any))
   lines_run number p any (l ∷ ls) =
       may_parse l (λ t.
-      says (line_out number p (line_command t)).text
-      (lines_run (number + 1) (line_out number p (line_command t)).after (any || (line_out number p (line_command t)).is_refused) ls))
+      counts (line_least tiles scripts p (line_command t)) (line_most tiles scripts p (line_command t))
+      (says (line_out number p (line_command t)).text
+      (lines_run (number + 1) (line_out number p (line_command t)).after (any || (line_out number p (line_command t)).is_refused) ls)))
 
   -- The run of a script.
   abbrev pub script_run : SessionState → List ℕ → Run

@@ -3,7 +3,7 @@
 ghost use Rattle.std.specs.Prelude.{◌≡◌, ◌++◌, codes, decimal, true, false, IfOk, OnOk};
 ghost use Rattle.edit_session.specs.View.{reply_seen};
 ghost use Rattle.program_runs.specs.Outcome.{line};
-ghost use Rattle.script_runs.specs.AnswerTexts.{fault_name, is_refused, ok_line, refusal_text, refused_line, reply_text};
+ghost use Rattle.script_runs.specs.AnswerTexts.{fault_name, is_refused, ok_line, refusal_text, refused_line, reply_text, stats_line};
 
 use crate::script::LineAnswer;
 use decimal_json::write_path;
@@ -24,7 +24,7 @@ pub fn answer_of(alloc: Global, number: usize, answer: Answer) -> Result<LineAns
             text,
             is_refused: false,
         }),
-        Answer::Stats => fault_answer(alloc, number, LineFault::Form),
+        Answer::Stats(count) => stats_answer(alloc, count),
         Answer::Style(text) => style_answer(text),
         Answer::Refused(refusal) => refusal_answer(alloc, number, &refusal),
     }
@@ -68,6 +68,21 @@ fn refusal_answer(alloc: Global, number: usize, refusal: &Refusal) -> Result<Lin
     Ok(LineAnswer {
         text,
         is_refused: true,
+    })
+}
+
+fn stats_answer(alloc: Global, count: u64) -> Result<LineAnswer, AllocError>
+    ensures text { IfOk result (λ answer. answer.text.items ≡ stats_line count) }
+    ensures refused { IfOk result (λ answer. answer.is_refused ≡ false) }
+{
+    let mut digits = Buffer::new();
+    let mut text = Vec::new(alloc);
+    text.extend_from_slice(b"stats ")?;
+    text.extend_from_slice(digits.format(count).as_bytes())?;
+    text.extend_from_slice(b"\n")?;
+    Ok(LineAnswer {
+        text,
+        is_refused: false,
     })
 }
 

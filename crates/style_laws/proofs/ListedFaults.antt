@@ -34,7 +34,7 @@ use Rattle.expr_types.specs.declared.standing.Standing.TheVariants.{Reached}
 use Rattle.operator_values.specs.Evaluated.{Evaluated}
 use Rattle.eval_face.specs.Meaning.{mean}
 use Rattle.eval_face.specs.World.{World, feature_world}
-use Rattle.expr_plain.specs.Resolved.{resolved}
+use Rattle.eval_face.specs.Resolved.{resolved}
 use Rattle.legacy_filters.specs.Form as filters
 use Rattle.legacy_filters.specs.Split.{is_legacy}
 use Rattle.legacy_functions.specs.Form as functions

@@ -1,5 +1,4 @@
-pub mod KeyedLists
+pub mod OrderedLists
 pub mod CellLaws
 pub mod RowLists
 pub mod Defaults
-pub mod FilterLaws

@@ -1,8 +1,6 @@
 -- What clauses see of the program's values.
-use Rattle.std.specs.Prelude.{List, map, Bool, option_map}
+use Rattle.std.specs.Prelude.{List, map, option_map}
 use Rattle.prop_values.specs.View.{data_of}
-use Rattle.prop_values.specs.declared.outcome.Outcome.{Outcome}
-use Rattle.stable_order.specs.Keys.{key_before}
 use Rattle.expr_syntax.specs.TermView.{term_of}
 use Rattle.feature_states.specs.Members.{members_at}
 use Rattle.eval_face.specs.World as world
@@ -12,7 +10,6 @@ use Rattle.property_tables.specs.RowView.{row_seen}
 use Rattle.style_layout.specs.Forms as forms
 use Rattle.style_layout.specs.Layers as layers
 use Rattle.style_layout.specs.Shown as shown
-use Rattle.style_layout.specs.SortKeys.{key_of}
 use Rattle.style_layout.specs.declared.features.LayerFeature.{LayerFeature}
 use Rattle.style_layout.specs.declared.forms.LayerFilter.{LayerFilter}
 use Rattle.style_layout.specs.declared.forms.LayerFilter.TheVariants as filters
@@ -24,7 +21,6 @@ use Rattle.style_layout.specs.declared.prepared.PreparedStyle.{PreparedStyle}
 use Rattle.style_layout.specs.Tests.{Tests}
 use Rattle.style_layout.specs.declared.scene.Scene.{Scene}
 use Rattle.style_layout.specs.declared.scene.SourceTile.{SourceTile}
-use Rattle.style_layout.specs.declared.sorted.SortedFeature.{SortedFeature}
 
 abbrev pub value_seen : PropertyValue → forms.PropertyValue
 value_seen (values.Literal v) = forms.literal (data_of v)
@@ -66,23 +62,14 @@ layers_seen style = map layer_seen style.layers.items
 abbrev pub tile_seen : SourceTile → shown.SourceTile
 tile_seen t = (t.source.now, t.tile)
 
--- a scene, by the tests of its evaluator
-unfoldable pub scene_seen : {E : Type 0} → (E → Tests) → Scene E → forms.Scene
+-- a scene, by what its tests are
+unfoldable pub scene_seen : {T : Type 0} → (T → Tests) → Scene T → forms.Scene
 scene_seen tests s = record {
   zoom = s.zoom;
   states = members_at s.states.now;
-  has_image = (tests s.evaluator).has_image;
-  is_supported = (tests s.evaluator).is_supported;
+  has_image = (tests s.tests).has_image;
+  is_supported = (tests s.tests).is_supported;
 }
 
 abbrev pub feature_seen : LayerFeature → shown.LayerFeature
 feature_seen f = record { number = f.number; feature = f.feature.now; state = world.state_of f.state }
-
-abbrev pub keyed_seen : SortedFeature → Outcome × shown.LayerFeature
-keyed_seen k = (k.outcome, feature_seen k.feature)
-
-abbrev pub feature_of : SortedFeature → shown.LayerFeature
-feature_of k = feature_seen k.feature
-
-abbrev pub keyed_before : SortedFeature → SortedFeature → Bool
-keyed_before a b = key_before (key_of a.outcome) (key_of b.outcome)

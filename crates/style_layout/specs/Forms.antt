@@ -18,7 +18,7 @@ use Rattle.expr_syntax.specs.Term.{Term}
 use Rattle.expr_syntax.specs.declared.world_parts.Mentions.{Mentions}
 use Rattle.eval_face.specs.Meaning.{mean}
 use Rattle.eval_face.specs.World.{World}
-use Rattle.expr_plain.specs.Resolved.{resolved, passes}
+use Rattle.eval_face.specs.Resolved.{resolved, passes}
 use Rattle.legacy_filters.specs.Filter.{Filter}
 use Rattle.legacy_filters.specs.Form as filters
 use Rattle.legacy_filters.specs.Meaning as legacy

@@ -1,18 +1,16 @@
 //! The features of a layer over tiles.
 
 ghost use Rattle.std.specs.Prelude.{◌≡◌, ◌+◌, ◌-◌, ◌<◌, ◌^◌, [], ◌∷◌, length, map, MatchOption, IfOk, IfSome, if◌then◌else◌};
-ghost use Rattle.style_layout.specs.CodeView.{feature_seen, filter_seen, layer_seen, scene_seen, tile_seen};
+ghost use Rattle.style_layout.specs.CodeView.{layer_seen, scene_seen, tile_seen};
 ghost use Rattle.style_layout.specs.Layers.{has_features};
-ghost use Rattle.style_layout.specs.Shown.{features_named, layer_features, numbered, state_of, tile_features, those_shown};
+ghost use Rattle.style_layout.specs.Shown.{features_named, layer_features, numbered, state_of, tile_features};
 ghost use Rattle.eval_face.specs.World as world;
-ghost use Rattle.style_layout.specs.Walk.{features_left, HasFewLeft, Decides};
+ghost use Rattle.style_layout.specs.Walk.{features_left, HasFewLeft};
 
 use crate::layers::StyleLayer;
-use crate::scene::{Evaluator, Scene, SourceTile};
-use crate::values::lets_pass_by;
+use crate::scene::{Scene, SourceTile, TextTests};
 use prop_values::Entries;
 use property_tables::LayerType;
-use std::alloc::{AllocError, Global};
 use tile_reader::{Feature, Tile};
 
 /// A feature of a layer, with its number in the list of the layer's features and its state.
@@ -50,36 +48,6 @@ impl<'a> LayerFeatures<'a> {
             features: &[],
             number: 0,
         }
-    }
-
-    /// Takes the next feature that the filter of the layer lets pass, by what the filter answers of every feature where
-    /// that is known.
-    pub(crate) fn next_shown<E: Evaluator>(
-        &mut self,
-        alloc: Global,
-        layer: &StyleLayer,
-        scene: &'a Scene<'_, E>,
-        of_every: Option<bool>,
-    ) -> Result<Option<LayerFeature<'a>>, AllocError>
-        requires few { HasFewLeft self.old }
-        requires decides { Decides (scene_seen E.tests scene.now) (filter_seen layer.now.filter) of_every }
-        ensures left { IfOk result (λ found. MatchOption found
-            (those_shown (scene_seen E.tests scene.now) (layer_seen layer.now) (features_left self.old) ≡ [])
-            (λ feature. those_shown (scene_seen E.tests scene.now) (layer_seen layer.now) (features_left self.old)
-            ≡ feature_seen feature ∷ those_shown (scene_seen E.tests scene.now) (layer_seen layer.now) (features_left self.new))) }
-        ensures few { HasFewLeft self.new }
-    {
-        while let Some((number, feature)) = self.next() {
-            let state = state_of(layer, scene, feature.id);
-            if lets_pass_by(alloc, &layer.filter, of_every, scene, feature, state)? {
-                return Ok(Some(LayerFeature {
-                    number,
-                    feature,
-                    state,
-                }));
-            }
-        }
-        Ok(None)
     }
 
     /// Takes the next feature, with its number.
@@ -135,12 +103,12 @@ impl<'a> LayerFeatures<'a> {
 
 /// The members of the state of a feature, which one without an id has not.
 #[tactic(auto, unfolding(crate::specs::CodeView::scene_seen))]
-pub fn state_of<'a, E: Evaluator>(
+pub fn state_of<'a, T: TextTests>(
     layer: &StyleLayer,
-    scene: &'a Scene<'_, E>,
+    scene: &'a Scene<'_, T>,
     id: Option<u64>,
 ) -> Option<&'a Entries>
-    ensures { world.state_of result ≡ state_of (scene_seen E.tests scene.now) (layer_seen layer.now) id }
+    ensures { world.state_of result ≡ state_of (scene_seen T.tests scene.now) (layer_seen layer.now) id }
 {
     scene
         .states

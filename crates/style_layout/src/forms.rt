@@ -131,7 +131,7 @@ fn reads_feature_as(alloc: Global, globals: &Entries, json: &Json) -> Result<boo
 }
 
 /// Whether an expression reads the feature or its state.
-pub(crate) fn reads_feature(expression: &Expr) -> bool
+fn reads_feature(expression: &Expr) -> bool
     ensures { result ≡ reads_feature (mentions (term_of expression.now)) }
 {
     let found = mentions(expression);

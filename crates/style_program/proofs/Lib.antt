@@ -2,6 +2,7 @@ pub mod FeatureNumbers
 pub mod GeneratedRuns
 mod TypedOutcome
 pub mod Answered
+pub mod AnsweredSteps
 pub mod AtFirst
 pub mod Kept
 pub mod ListedFaults

@@ -8,10 +8,10 @@ use Rattle.outside_io.specs.Writing.{Gains, GainsPrefix}
 use Rattle.outside_io.specs.WritingLaws.{front_of_nothing, gains_nothing}
 use Rattle.program_runs.specs.Ending.{status_of}
 use Rattle.program_runs.specs.FailedReads.{NoneFailed}
-use Rattle.program_runs.specs.Outcome.{RunOutcome, said}
-use Rattle.program_runs.specs.Progress.{ComesTo, HaltsAt, GoesOn, Halts, IsBegun, IsCut, IsWritten}
+use Rattle.program_runs.specs.Outcome.{RunOutcome}
+use Rattle.program_runs.specs.Progress.{ComesTo, HaltsAt, GoesOn, Halts, IsBegun, IsCut, IsWritten, stretch_outcome}
 use Rattle.program_runs.specs.Runs.{Run, HasOutcome, HasSaid, AreTold, IsFileless}
-use Rattle.program_runs.specs.Written.{OutTextIsDue}
+use Rattle.program_runs.specs.Written.{OutTextIsDue, RoseBetween, StepsAreDue}
 use Rattle.program_runs.specs.declared.halt.WriteStop.TheVariants as write
 use Rattle.program_runs.specs.declared.status.Ending.{Ending}
 use Rattle.program_runs.specs.declared.status.Status.{Status}
@@ -80,26 +80,34 @@ module _ (files : List ℕ → Option (List ℕ)) (run rest : Run) (asked_old as
   text_is_due : OutTextIsDue files rest asked_new asked_new → OutTextIsDue files run asked_old asked_new
   text_is_due (text, said, some) = (text, comes.says asked_new text said, some)
 
-  -- What is promised, by how the answers ended.
+  steps_are_due : (old new : ℕ) → StepsAreDue files rest asked_new asked_new old new → StepsAreDue files run asked_old asked_new old new
+  steps_are_due old new (most, counted, few) = (most, comes.counts asked_new most counted, few)
+
+  -- What is promised, by how the answers ended. No step was counted before them.
   module _ (FilesStay : Type 0) (fileless : IsFileless run → FilesStay) (reads₀ reads₁ : ℕ) (unread₀ unread₁ out₀ out₁ err : Option (List ℕ)) (outs₀ outs₁ errs : ℕ)
-      (none : NoneFailed reads₀ reads₁ unread₀ unread₁) where
+      (steps₀ mid steps₁ : ℕ) (still : mid ≡ steps₀) (none : NoneFailed reads₀ reads₁ unread₀ unread₁) where
     abbrev Keeps : Status → Type 0
     Keeps answer =
-        KeepsPromises files run answer (outside reads₀ unread₀ asked_old out₀ outs₀ err errs) (outside reads₁ unread₁ asked_new out₁ outs₁ err errs) FilesStay
+        KeepsPromises files run answer (outside reads₀ unread₀ asked_old out₀ outs₀ err errs steps₀)
+        (outside reads₁ unread₁ asked_new out₁ outs₁ err errs steps₁) FilesStay
 
-    pub all_answered : (ending : Ending) (answer : Status) → IsWritten files rest asked_new out₀ out₁ ending → outs₁ ≡ outs₀ → answer ≡ status_of ending → Keeps answer
-    all_answered ending answer (text, made, gains) same is =
-        written files run FilesStay fileless reads₀ reads₁ asked_old asked_new unread₀ unread₁ out₀ out₁ err err outs₀ outs₁ errs errs
-        (said text ending) (comes.outcomes asked_new (said text ending) made) none
-        (length text, subst (λ (t : List ℕ). Gains out₀ out₁ t) (sym (take-length text)) gains) (front_of_nothing err [])
+    pub all_answered : (ending : Ending) (answer : Status) → IsWritten files rest asked_new out₀ out₁ mid steps₁ ending → outs₁ ≡ outs₀ → answer ≡ status_of ending → Keeps answer
+    all_answered ending answer (s, made, gains, rose) same is =
+        written files run FilesStay fileless reads₀ reads₁ asked_old asked_new unread₀ unread₁ out₀ out₁ err err outs₀ outs₁ errs errs steps₀ steps₁
+        (stretch_outcome s ending) (comes.outcomes asked_new (stretch_outcome s ending) made) none
+        (length s.text, subst (λ (t : List ℕ). Gains out₀ out₁ t) (sym (take-length s.text)) gains) (front_of_nothing err [])
+        (subst (λ (n : ℕ). RoseBetween n steps₁ s.least s.most) still rose)
         (gains, gains_nothing err) (same, refl) answer is
 
-    pub memory_lacked : IsCut files rest asked_new out₀ out₁ outs₀ outs₁ write.NoMemory → Keeps status.NoMemory
-    memory_lacked (begun, same) =
-        lacks_memory files run FilesStay fileless reads₀ reads₁ asked_old asked_new unread₀ unread₁ out₀ out₁ err outs₀ outs₁ errs
+    due_now : StepsAreDue files rest asked_new asked_new mid steps₁ → StepsAreDue files run asked_old asked_new steps₀ steps₁
+    due_now due = subst (λ (n : ℕ). StepsAreDue files run asked_old asked_new n steps₁) still (steps_are_due mid steps₁ due)
+
+    pub memory_lacked : IsCut files rest asked_new out₀ out₁ mid steps₁ outs₀ outs₁ write.NoMemory → Keeps status.NoMemory
+    memory_lacked (begun, due, same) =
+        lacks_memory files run FilesStay fileless reads₀ reads₁ asked_old asked_new unread₀ unread₁ steps₀ steps₁ (due_now due) out₀ out₁ err outs₀ outs₁ errs
         none (comes.reads asked_new (none_asked files rest asked_new)) (begun_is_prefix out₀ out₁ begun) same
 
-    pub write_failed : IsCut files rest asked_new out₀ out₁ outs₀ outs₁ write.Unwritten → Keeps status.WriteFault
-    write_failed (begun, due, counted) =
-        cut_short files run FilesStay fileless reads₀ reads₁ asked_old asked_new unread₀ unread₁ out₀ out₁ err outs₀ outs₁ errs
+    pub write_failed : IsCut files rest asked_new out₀ out₁ mid steps₁ outs₀ outs₁ write.Unwritten → Keeps status.WriteFault
+    write_failed (begun, steps, due, counted) =
+        cut_short files run FilesStay fileless reads₀ reads₁ asked_old asked_new unread₀ unread₁ steps₀ steps₁ (due_now steps) out₀ out₁ err outs₀ outs₁ errs
         none (comes.reads asked_new (none_asked files rest asked_new)) (begun_is_prefix out₀ out₁ begun) (text_is_due due) counted

@@ -1,5 +1,5 @@
 -- The run of each command, and of the words after the program's name.
-use Rattle.std.specs.Prelude.{ℕ, List, [], ◌++◌, codes, Bool}
+use Rattle.std.specs.Prelude.{ℕ, List, [], ◌++◌, codes, Bool, true, false}
 use Rattle.lint_runs.specs.LintRun.{lint_run}
 use Rattle.program_runs.specs.declared.status.Ending.TheVariants.{Fine, Usage}
 use Rattle.program_runs.specs.Outcome.{line, said, told}
@@ -66,6 +66,13 @@ help_text =
 
 abbrev pub version_text : List ℕ
 version_text = line (codes "pirgesh 0.1.0")
+
+-- the commands that list what a style shows: only those evaluate cells
+abbrev pub lists_cells : words.Asked → Bool
+lists_cells (words.Eval w) = true
+lists_cells (words.Script kind w) = true
+lists_cells (words.Generate features) = true
+lists_cells _ = false
 
 -- `can_change` says whether the test of images can change
 module _ (images scripts : List ℕ → Bool) (can_change : Bool) where

@@ -6,9 +6,9 @@ use Rattle.program_runs.specs.declared.status.Status.{Status}
 use Rattle.program_runs.specs.declared.status.Status.TheVariants.{NoMemory, ReadFault, WriteFault}
 use Rattle.program_runs.specs.FailedReads.{ReadFails}
 use Rattle.program_runs.specs.Runs.{Run, HasAsked, IsFileless}
-use Rattle.program_runs.specs.Written.{Completes, OutFront, ErrFront, WriteFails, EndsAtFailedRead, unread_line}
+use Rattle.program_runs.specs.Written.{Completes, OutFront, ErrFront, StepsAreDue, StepsFront, WriteFails, EndsAtFailedRead, unread_line}
 
--- What is seen of files and sinks, before a run or after it.
+-- What is seen of files, sinks and the ledger of steps, before a run or after it.
 pub record Outside : Type 0 where
   -- how many reads failed so far, and the name of the file of the last of them
   pub failed_reads : ℕ
@@ -20,9 +20,12 @@ pub record Outside : Type 0 where
   pub failed_outs : ℕ
   pub err : Option (List ℕ)
   pub failed_errs : ℕ
+  -- the steps that evaluations counted so far
+  pub steps : ℕ
 
-abbrev pub outside : (failed_reads : ℕ) (unread : Option (List ℕ)) (asked : List (List ℕ)) (out : Option (List ℕ)) (failed_outs : ℕ) (err : Option (List ℕ)) (failed_errs : ℕ) → Outside
-outside failed_reads unread asked out failed_outs err failed_errs = record {
+abbrev pub outside : (failed_reads : ℕ) (unread : Option (List ℕ)) (asked : List (List ℕ)) (out : Option (List ℕ)) (failed_outs : ℕ)
+    (err : Option (List ℕ)) (failed_errs steps : ℕ) → Outside
+outside failed_reads unread asked out failed_outs err failed_errs steps = record {
   failed_reads = failed_reads;
   unread = unread;
   asked = asked;
@@ -30,6 +33,7 @@ outside failed_reads unread asked out failed_outs err failed_errs = record {
   failed_outs = failed_outs;
   err = err;
   failed_errs = failed_errs;
+  steps = steps;
 }
 
 -- `files` gives the known contents of files, and `FilesStay` says that the value through which they are read
@@ -38,11 +42,12 @@ pub record KeepsPromises (files : List ℕ → Option (List ℕ)) (run : Run) (s
   -- Where memory suffices and nothing outside fails, the run is its outcome.
   pub exact :
       status ≢ NoMemory → Still before.failed_reads after.failed_reads → Still before.failed_outs after.failed_outs
-      → Still before.failed_errs after.failed_errs → Completes files run before.asked after.asked status before.out after.out before.err after.err
+      → Still before.failed_errs after.failed_errs
+      → Completes files run before.asked after.asked status before.out after.out before.err after.err before.steps after.steps
   -- So it is after every answer but three, whatever the counts of faults.
   pub completes :
       status ≢ NoMemory → status ≢ ReadFault → status ≢ WriteFault
-      → Completes files run before.asked after.asked status before.out after.out before.err after.err
+      → Completes files run before.asked after.asked status before.out after.out before.err after.err before.steps after.steps
   -- In every run what is written is a prefix of what is defined, or of the line of a read that failed.
   pub out_front : OutFront files run before.asked after.asked before.out after.out
   pub err_front : ErrFront files run before.asked after.asked before.failed_reads after.failed_reads after.unread before.err after.err
@@ -59,5 +64,8 @@ pub record KeepsPromises (files : List ℕ → Option (List ℕ)) (run : Run) (s
   -- Of the files that the run comes to read, in their order, each is read once at most, and no other. Where the run has its outcome, as
   -- above, each was read.
   pub names : HasAsked files run before.asked after.asked
+  -- In every run the steps rise by no more than the evaluations count to which it came, nor than its outcome says.
+  pub steps : StepsAreDue files run before.asked after.asked before.steps after.steps
+  pub steps_front : StepsFront files run before.asked after.asked before.steps after.steps
   -- A run that names no file reads none.
   pub fileless : IsFileless run → FilesStay

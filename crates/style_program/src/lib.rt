@@ -8,8 +8,9 @@
 //! What is promised: `run_style` is proved over one value: `run_of` of `specs/Commands.antt` gives the words'
 //! run, which says what is read, in which order, and which out text, err text and ending come of it
 //! (`program_runs`); no words have two outcomes (`words_have_one_outcome`). Where nothing outside fails and
-//! memory suffices, the run has its outcome; in every run what is written is a prefix of it, or of the line
-//! that says which file could not be read; and each status has its cause.
+//! memory suffices, the run has its outcome, and the steps rise as it says; in every run what is written is a prefix
+//! of it, or of the line that says which file could not be read, and the steps rise by no more than it says; and each
+//! status has its cause. A command that lists nothing counts no step.
 //!
 //! The text to believe is in `specs/`: `Words`, `Refusals`, `ValueRun`, `StyleFile`, `ValidateRun`,
 //! `MigrateRun`, `SimplifyRun`, `ShownRun`, `EvalRun`, `ReplayRun`, `TileRun`, `GenerateRun`, `Commands`, `Promises`,

@@ -21,10 +21,11 @@ use crate::words::{ScriptKind, ScriptRequest};
 use edit_session::{CELL_LIMIT, Session};
 use fixed_num::Fixed;
 use host_ops::HostOp;
-use outside_io::{Files, Sink};
+use outside_io::{Files, Sink, Steps};
 use program_runs::{Ending, RunHalt, Subject, WriteStop, read_file};
 use script_runs::answer_script;
 use std::alloc::Global;
+use std::sync::ledger::Ledger;
 use view_desk::{DESK_LIMIT, Desk, answer_desk};
 
 /// The longest script, in bytes.
@@ -46,7 +47,7 @@ pub fn open_script<'a, F: Files>(
 ) -> Result<OpenedScript<'a>, RunHalt<'a>>
     ensures told { F.told files.new ≡ F.told files.old }
     ensures failed { OnOk result (NoneFailed (F.faults files.old) (F.faults files.new) (F.failed files.old) (F.failed files.new)) }
-    ensures sound { IfOk result (λ opened. IsSoundSession opened.session) }
+    ensures sound { (images scripts : List ℕ → Bool) → IfOk result (λ opened. IsSoundSession opened.session images scripts) }
     ensures on { (images scripts : List ℕ → Bool) (can_change : Bool) → IfOk result (λ opened. ComesTo (F.told files.old)
         (script_kind_run request.now.kind (script_words request.now) images scripts can_change) (opened_script_run images scripts can_change opened)
         (F.asked files.old) (F.asked files.new)) }
@@ -77,21 +78,21 @@ fn limit_of(kind: ScriptKind) -> u64
 }
 
 /// Writes what each line of the script is answered, before the next line is looked at.
-pub fn answer_lines<O: Sink>(
-    alloc: Global,
+pub fn answer_lines<O: Sink, L: Ledger>(
     opened: OpenedScript<'_>,
     images: &mut dyn HostOp,
     scripts: &dyn HostOp,
     out: &mut O,
+    steps: &mut Steps<L>,
 ) -> Result<Ending, WriteStop>
-    requires { IsSoundSession opened.session }
+    requires { IsSoundSession opened.session (test images.old) (test scripts.now) }
     ensures written { (files : List ℕ → Option (List ℕ)) (asked : List (List ℕ)) → IfOk result (IsWritten files
         (opened_script_run (test images.old) (test scripts.now) (changes images.old) opened.entry) asked
-        (O.held out.old) (O.held out.new)) }
+        (O.held out.old) (O.held out.new) steps.old steps.new) }
     ensures none_failed { OnOk result (O.faults out.new ≡ O.faults out.old) }
     ensures stop { (files : List ℕ → Option (List ℕ)) (asked : List (List ℕ)) → IfErr result (IsCut files
         (opened_script_run (test images.old) (test scripts.now) (changes images.old) opened.entry) asked
-        (O.held out.old) (O.held out.new) (O.faults out.old) (O.faults out.new)) }
+        (O.held out.old) (O.held out.new) steps.old steps.new (O.faults out.old) (O.faults out.new)) }
 {
     let OpenedScript {
         kind,
@@ -100,11 +101,11 @@ pub fn answer_lines<O: Sink>(
     } = opened;
     match kind {
         ScriptKind::Replay => {
-            answer_script(alloc, session, script.as_slice(), images, scripts, out)
+            answer_script(session, script.as_slice(), images, scripts, out, steps)
         }
         ScriptKind::Desk => {
-            let desk = Desk::new(alloc, session);
-            answer_desk(alloc, desk, script.as_slice(), images, scripts, out)
+            let desk = Desk::new(session);
+            answer_desk(desk, script.as_slice(), images, scripts, out, steps)
         }
     }
 }
@@ -118,7 +119,7 @@ fn open_shown<'a>(
 ) -> Result<Session<'a>, RunHalt<'a>>
     requires sound { findings (tree_of shown.style) ≡ [] }
     requires few { limit ≤ cell_limit }
-    ensures sound { IfOk result IsSoundSession }
+    ensures sound { (images scripts : List ℕ → Bool) → IfOk result (λ session. IsSoundSession session images scripts) }
     ensures tiles { IfOk result (λ session. tiles_of session ≡ (shown_seen shown.entry).1) }
     ensures opened { IfOk result (λ session. (has_image : List ℕ → Bool)
         → session_state session has_image ≡ opened limit (shown_seen shown.entry).0 zoom has_image) }

@@ -1,11 +1,13 @@
-ghost use Rattle.std.specs.Prelude.{◌≡◌, ℕ, List, Bool, OnOk, IfOk, IfErr};
+ghost use Rattle.std.specs.Prelude.{◌≡◌, ℕ, List, Bool, false, OnErr, OnOk, IfOk, IfErr};
 ghost use Rattle.program_runs.specs.FailedReads.{NoneFailed};
-ghost use Rattle.program_runs.specs.Progress.{outcome_of, HaltsAt, IsStop};
+ghost use Rattle.program_runs.specs.Progress.{outcome_of, HaltSteps, HaltsAt, IsAnswered, IsStop};
 ghost use Rattle.program_runs.specs.Runs.{HasOutcome, IsFileless};
-ghost use Rattle.style_program.specs.Commands.{asked_run};
-ghost use Rattle.style_program.specs.PreparedRun.{IsPrepared};
+ghost use Rattle.program_runs.specs.Written.{StepsAreDue};
+ghost use Rattle.style_program.specs.Commands.{asked_run, lists_cells};
+ghost use Rattle.style_program.specs.PreparedRun.{IsPrepared, MayList};
 ghost use Rattle.style_program.specs.ReplayRun.{script_kind_run};
-ghost use Rattle.style_program.specs.WordsView.{answer_asked, asked_by, script_words};
+ghost use Rattle.style_program.specs.Words.{Script};
+ghost use Rattle.style_program.specs.WordsView.{answer_asked, asked_by, listing_asked, script_words};
 
 use crate::eval_command::answer_eval;
 use crate::generate_command::answer_generate;
@@ -15,12 +17,13 @@ use crate::simplify_command::answer_simplify;
 use crate::tile_command::answer_tile;
 use crate::validate_command::answer_validate;
 use crate::value_command::answer_value;
-use crate::words::{AnswerRequest, Request, ScriptRequest};
+use crate::words::{AnswerRequest, ListingRequest, Request, ScriptRequest};
 use host_ops::HostOp;
 use lint_runs::answer_lint;
-use outside_io::Files;
+use outside_io::{Files, Steps};
 use program_runs::{RunHalt, RunOutput, RunStop, answer_said, answer_usage};
 use std::alloc::Global;
+use std::sync::ledger::Ledger;
 
 const HELP: &[u8] =
     b"pirgesh checks, upgrades and evaluates MapLibre styles. Every answer is proved.
@@ -83,24 +86,34 @@ pub enum PreparedRun<'a> {
 }
 
 /// The run that is asked for, be it refused.
-pub fn prepare_run<'a, F: Files>(
+pub fn prepare_run<'a, F: Files, L: Ledger>(
     alloc: Global,
     request: &Request<'a>,
     files: &mut F,
     images: &mut dyn HostOp,
     scripts: &dyn HostOp,
+    steps: &mut Steps<L>,
 ) -> Result<PreparedRun<'a>, RunStop<'a>>
     ensures told { F.told files.new ≡ F.told files.old }
     ensures failed { OnOk result (NoneFailed (F.faults files.old) (F.faults files.new) (F.failed files.old) (F.failed files.new)) }
     ensures fileless { IsFileless (asked_run (test images.old) (test scripts.now) (changes images.old) (asked_by request.now)) → files.new ≡ files.old }
     ensures run { IfOk result (IsPrepared (test images.new) (test scripts.now) (changes images.new) (F.told files.old)
-        (asked_run (test images.old) (test scripts.now) (changes images.old) (asked_by request.now)) (F.asked files.old) (F.asked files.new)) }
+        (asked_run (test images.old) (test scripts.now) (changes images.old) (asked_by request.now))
+        (F.asked files.old) (F.asked files.new) steps.old steps.new) }
+    ensures script { IfOk result (MayList (asked_by request.now)) }
     ensures stop { IfErr result (λ stop. IsStop (F.told files.old)
         (asked_run (test images.old) (test scripts.now) (changes images.old) (asked_by request.now))
         (F.faults files.old) (F.faults files.new) (F.failed files.old) (F.failed files.new) (F.asked files.old) (F.asked files.new) stop) }
+    ensures due { OnErr result (StepsAreDue (F.told files.old)
+        (asked_run (test images.old) (test scripts.now) (changes images.old) (asked_by request.now))
+        (F.asked files.old) (F.asked files.new) steps.old steps.new) }
+    ensures steps { lists_cells (asked_by request.now) ≡ false → steps.new ≡ steps.old }
 {
     match request {
         Request::Answer(answer) => prepare_answer(alloc, answer, files, images, scripts),
+        Request::Listing(listing) => {
+            prepare_listing(alloc, listing, files, images, scripts, steps)
+        }
         Request::Script(script) => prepare_script(alloc, script, files),
     }
 }
@@ -115,8 +128,10 @@ fn prepare_answer<'a, F: Files>(
     ensures told { F.told files.new ≡ F.told files.old }
     ensures failed { OnOk result (NoneFailed (F.faults files.old) (F.faults files.new) (F.failed files.old) (F.failed files.new)) }
     ensures fileless { IsFileless (asked_run (test images.old) (test scripts.now) (changes images.old) (answer_asked request.now)) → files.new ≡ files.old }
-    ensures run { (then_images : List ℕ → Bool) (then_changes : Bool) → IfOk result (IsPrepared then_images (test scripts.now) then_changes (F.told files.old)
-        (asked_run (test images.old) (test scripts.now) (changes images.old) (answer_asked request.now)) (F.asked files.old) (F.asked files.new)) }
+    ensures run { (then_images : List ℕ → Bool) (then_changes : Bool) (steps : ℕ) → IfOk result (IsPrepared then_images (test scripts.now) then_changes
+        (F.told files.old) (asked_run (test images.old) (test scripts.now) (changes images.old) (answer_asked request.now))
+        (F.asked files.old) (F.asked files.new) steps steps) }
+    ensures script { IfOk result (MayList (answer_asked request.now)) }
     ensures stop { IfErr result (λ stop. IsStop (F.told files.old)
         (asked_run (test images.old) (test scripts.now) (changes images.old) (answer_asked request.now))
         (F.faults files.old) (F.faults files.new) (F.failed files.old) (F.failed files.new) (F.asked files.old) (F.asked files.new) stop) }
@@ -152,12 +167,68 @@ fn answer_to<'a, F: Files>(
         AnswerRequest::Lint(form, styles) => answer_lint(alloc, *form, styles, files),
         AnswerRequest::Migrate(style) => answer_migrate(alloc, style, files),
         AnswerRequest::Simplify(style) => answer_simplify(alloc, style, files),
-        AnswerRequest::Eval(request) => answer_eval(alloc, request, files, images, scripts),
         AnswerRequest::Tile(tile) => answer_tile(alloc, tile, files),
-        AnswerRequest::Generate(features) => answer_generate(alloc, *features, images, scripts),
         AnswerRequest::Help => Ok(answer_said(alloc, HELP)?),
         AnswerRequest::Version => Ok(answer_said(alloc, VERSION)?),
         AnswerRequest::Wrong => Ok(answer_usage(alloc)?),
+    }
+}
+
+fn prepare_listing<'a, F: Files, L: Ledger>(
+    alloc: Global,
+    request: &ListingRequest<'a>,
+    files: &mut F,
+    images: &mut dyn HostOp,
+    scripts: &dyn HostOp,
+    steps: &mut Steps<L>,
+) -> Result<PreparedRun<'a>, RunStop<'a>>
+    ensures told { F.told files.new ≡ F.told files.old }
+    ensures failed { OnOk result (NoneFailed (F.faults files.old) (F.faults files.new) (F.failed files.old) (F.failed files.new)) }
+    ensures fileless { IsFileless (asked_run (test images.old) (test scripts.now) (changes images.old) (listing_asked request.now)) → files.new ≡ files.old }
+    ensures run { (then_images : List ℕ → Bool) (then_changes : Bool) → IfOk result (IsPrepared then_images (test scripts.now) then_changes
+        (F.told files.old) (asked_run (test images.old) (test scripts.now) (changes images.old) (listing_asked request.now))
+        (F.asked files.old) (F.asked files.new) steps.old steps.new) }
+    ensures script { IfOk result (MayList (listing_asked request.now)) }
+    ensures stop { IfErr result (λ stop. IsStop (F.told files.old)
+        (asked_run (test images.old) (test scripts.now) (changes images.old) (listing_asked request.now))
+        (F.faults files.old) (F.faults files.new) (F.failed files.old) (F.failed files.new) (F.asked files.old) (F.asked files.new) stop) }
+    ensures due { OnErr result (StepsAreDue (F.told files.old)
+        (asked_run (test images.old) (test scripts.now) (changes images.old) (listing_asked request.now))
+        (F.asked files.old) (F.asked files.new) steps.old steps.new) }
+{
+    match answer_listing(alloc, request, files, images, scripts, steps) {
+        Ok(answer) => Ok(PreparedRun::Ended(answer)),
+        Err(RunHalt::Refused(answer)) => Ok(PreparedRun::Ended(answer)),
+        Err(RunHalt::Stopped(stop)) => Err(stop),
+    }
+}
+
+fn answer_listing<'a, F: Files, L: Ledger>(
+    alloc: Global,
+    request: &ListingRequest<'a>,
+    files: &mut F,
+    images: &mut dyn HostOp,
+    scripts: &dyn HostOp,
+    steps: &mut Steps<L>,
+) -> Result<RunOutput, RunHalt<'a>>
+    ensures told { F.told files.new ≡ F.told files.old }
+    ensures failed { OnOk result (NoneFailed (F.faults files.old) (F.faults files.new) (F.failed files.old) (F.failed files.new)) }
+    ensures fileless { IsFileless (asked_run (test images.old) (test scripts.now) (changes images.old) (listing_asked request.now)) → files.new ≡ files.old }
+    ensures answer { IfOk result (IsAnswered (F.told files.old)
+        (asked_run (test images.old) (test scripts.now) (changes images.old) (listing_asked request.now))
+        (F.asked files.old) (F.asked files.new) steps.old steps.new) }
+    ensures halt { IfErr result (λ halt. HaltsAt (F.told files.old)
+        (asked_run (test images.old) (test scripts.now) (changes images.old) (listing_asked request.now))
+        (F.faults files.old) (F.faults files.new) (F.failed files.old) (F.failed files.new) (F.asked files.old) (F.asked files.new) halt) }
+    ensures steps { IfErr result (HaltSteps (F.told files.old)
+        (asked_run (test images.old) (test scripts.now) (changes images.old) (listing_asked request.now))
+        (F.asked files.old) (F.asked files.new) steps.old steps.new) }
+{
+    match request {
+        ListingRequest::Eval(request) => answer_eval(alloc, request, files, images, scripts, steps),
+        ListingRequest::Generate(features) => {
+            answer_generate(alloc, *features, images, scripts, steps)
+        }
     }
 }
 
@@ -168,8 +239,9 @@ fn prepare_script<'a, F: Files>(
 ) -> Result<PreparedRun<'a>, RunStop<'a>>
     ensures told { F.told files.new ≡ F.told files.old }
     ensures failed { OnOk result (NoneFailed (F.faults files.old) (F.faults files.new) (F.failed files.old) (F.failed files.new)) }
-    ensures run { (images scripts : List ℕ → Bool) (can_change : Bool) → IfOk result (IsPrepared images scripts can_change (F.told files.old)
-        (script_kind_run request.now.kind (script_words request.now) images scripts can_change) (F.asked files.old) (F.asked files.new)) }
+    ensures run { (images scripts : List ℕ → Bool) (can_change : Bool) (steps : ℕ) → IfOk result (IsPrepared images scripts can_change (F.told files.old)
+        (script_kind_run request.now.kind (script_words request.now) images scripts can_change) (F.asked files.old) (F.asked files.new) steps steps) }
+    ensures script { IfOk result (MayList (Script request.now.kind (script_words request.now))) }
     ensures stop { (images scripts : List ℕ → Bool) (can_change : Bool) → IfErr result (λ stop. IsStop (F.told files.old)
         (script_kind_run request.now.kind (script_words request.now) images scripts can_change)
         (F.faults files.old) (F.faults files.new) (F.failed files.old) (F.failed files.new) (F.asked files.old) (F.asked files.new) stop) }

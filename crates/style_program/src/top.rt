@@ -1,10 +1,11 @@
-ghost use Rattle.std.specs.Prelude.{◌≡◌, map, string_bytes, OnOk, IfOk, IfErr};
+ghost use Rattle.std.specs.Prelude.{◌≡◌, false, map, string_bytes, OnErr, OnOk, IfOk, IfErr};
 ghost use Rattle.program_runs.specs.FailedReads.{NoneFailed};
 ghost use Rattle.program_runs.specs.Progress.{IsStop};
 ghost use Rattle.program_runs.specs.Runs.{IsFileless};
-ghost use Rattle.style_program.specs.Commands.{run_of};
+ghost use Rattle.program_runs.specs.Written.{StepsAreDue};
+ghost use Rattle.style_program.specs.Commands.{lists_cells, run_of};
 ghost use Rattle.style_program.specs.ListedFaults.{ListsItsFault};
-ghost use Rattle.style_program.specs.PreparedRun.{IsPrepared};
+ghost use Rattle.style_program.specs.PreparedRun.{IsPrepared, MayList};
 ghost use Rattle.style_program.specs.Promises.{KeepsPromises, outside};
 ghost use Rattle.style_program.specs.Words.{asked};
 
@@ -18,8 +19,8 @@ use std::alloc::Global;
 use std::sync::ledger::Ledger;
 use typing_laws::faults_are_listed;
 
-/// Does what the words after the program's name ask for: reads from `files`, writes to `out` and `err`, and
-/// answers how the run ended.
+/// Does what the words after the program's name ask for: reads from `files`, writes to `out` and `err`, counts the steps
+/// of evaluations in `steps`, and answers how the run ended.
 ///
 /// `images` and `scripts` are the tests that expressions ask. Nothing is written before all reading is done, and the
 /// answer to each line of a script is written before the next line is looked at. A failed allocation is the only free
@@ -34,57 +35,71 @@ pub fn run_style<F: Files, O: Sink, E: Sink, L: Ledger>(
     scripts: Box<dyn HostOp>,
     steps: &mut Steps<L>,
 ) -> Status
-    // What is read, written and answered is what the run of the words says.
+    // What is read, written, counted and answered is what the run of the words says.
     ensures promises { KeepsPromises (F.told files.old)
         (run_of (test images) (test scripts) (changes images) (map string_bytes words.now)) result
-        (outside (F.faults files.old) (F.failed files.old) (F.asked files.old) (O.held out.old) (O.faults out.old) (E.held err.old) (E.faults err.old))
-        (outside (F.faults files.new) (F.failed files.new) (F.asked files.new) (O.held out.new) (O.faults out.new) (E.held err.new) (E.faults err.new))
+        (outside (F.faults files.old) (F.failed files.old) (F.asked files.old) (O.held out.old) (O.faults out.old)
+        (E.held err.old) (E.faults err.old) steps.old)
+        (outside (F.faults files.new) (F.failed files.new) (F.asked files.new) (O.held out.new) (O.faults out.new)
+        (E.held err.new) (E.faults err.new) steps.new)
         (files.new ≡ files.old) }
 
     // Where `value` ends in a fault, typing had listed it.
     ensures listed { result ≡ Status.Found → ListsItsFault (test images) (test scripts) (asked (map string_bytes words.now)) }
 
-    // No read changes the known contents of files, and no command counts a step so far.
+    // No read changes the known contents of files, and a command that lists nothing counts no step.
     ensures told { F.told files.new ≡ F.told files.old }
-    ensures steps { steps.new ≡ steps.old }
+    ensures steps { lists_cells (asked (map string_bytes words.now)) ≡ false → steps.new ≡ steps.old }
 {
     let mut images = images;
-    let call = Call { alloc, words };
-    run_words(call, files, out, err, &mut *images, &*scripts)
+    let call = Call {
+        alloc,
+        words,
+        scripts: &*scripts,
+    };
+    run_words(call, files, out, err, &mut *images, steps)
 }
 
-// The words of a call, and where memory for their run is taken.
+// The words of a call, where memory for their run is taken, and the test of scripts, of type `&dyn HostOp`.
 #[derive(Clone, Copy)]
-struct Call<'a> {
+struct Call<'a, T> {
     alloc: Global,
     words: &'a [String],
+    scripts: T,
 }
 
-fn run_words<F: Files, O: Sink, E: Sink>(
-    call: Call<'_>,
+fn run_words<F: Files, O: Sink, E: Sink, L: Ledger>(
+    call: Call<'_, &dyn HostOp>,
     files: &mut F,
     out: &mut O,
     err: &mut E,
     images: &mut dyn HostOp,
-    scripts: &dyn HostOp,
+    steps: &mut Steps<L>,
 ) -> Status
     ensures promises { KeepsPromises (F.told files.old)
-        (run_of (test images.old) (test scripts.now) (changes images.old) (map string_bytes call.entry.words.now)) result
-        (outside (F.faults files.old) (F.failed files.old) (F.asked files.old) (O.held out.old) (O.faults out.old) (E.held err.old) (E.faults err.old))
-        (outside (F.faults files.new) (F.failed files.new) (F.asked files.new) (O.held out.new) (O.faults out.new) (E.held err.new) (E.faults err.new))
+        (run_of (test images.old) (test call.entry.scripts.now) (changes images.old) (map string_bytes call.entry.words.now)) result
+        (outside (F.faults files.old) (F.failed files.old) (F.asked files.old) (O.held out.old) (O.faults out.old)
+        (E.held err.old) (E.faults err.old) steps.old)
+        (outside (F.faults files.new) (F.failed files.new) (F.asked files.new) (O.held out.new) (O.faults out.new)
+        (E.held err.new) (E.faults err.new) steps.new)
         (files.new ≡ files.old) }
-    ensures listed { result ≡ Status.Found → ListsItsFault (test images.old) (test scripts.now) (asked (map string_bytes call.entry.words.now)) }
+    ensures listed { result ≡ Status.Found → ListsItsFault (test images.old) (test call.entry.scripts.now) (asked (map string_bytes call.entry.words.now)) }
     ensures told { F.told files.new ≡ F.told files.old }
+    ensures steps { lists_cells (asked (map string_bytes call.entry.words.now)) ≡ false → steps.new ≡ steps.old }
 {
     faults_are_listed();
-    let Call { alloc, words } = call;
-    match prepared(alloc, words, files, images, scripts) {
+    let Call {
+        alloc,
+        words,
+        scripts,
+    } = call;
+    match prepared(alloc, words, files, images, scripts, steps) {
         Ok(PreparedRun::Ended(answer)) => match write_answer(&answer, out, err) {
             Ok(()) => answer.ending.status(),
             Err(_) => Status::WriteFault,
         },
         Ok(PreparedRun::Script(opened)) => {
-            match answer_lines(alloc, opened, images, scripts, out) {
+            match answer_lines(opened, images, scripts, out, steps) {
                 Ok(ending) => ending.status(),
                 Err(WriteStop::NoMemory) => Status::NoMemory,
                 Err(WriteStop::Unwritten) => Status::WriteFault,
@@ -96,24 +111,31 @@ fn run_words<F: Files, O: Sink, E: Sink>(
 }
 
 // The run of the words.
-fn prepared<'a, F: Files>(
+fn prepared<'a, F: Files, L: Ledger>(
     alloc: Global,
     words: &'a [String],
     files: &mut F,
     images: &mut dyn HostOp,
     scripts: &dyn HostOp,
+    steps: &mut Steps<L>,
 ) -> Result<PreparedRun<'a>, RunStop<'a>>
     ensures told { F.told files.new ≡ F.told files.old }
     ensures failed { OnOk result (NoneFailed (F.faults files.old) (F.faults files.new) (F.failed files.old) (F.failed files.new)) }
     ensures fileless { IsFileless (run_of (test images.old) (test scripts.now) (changes images.old) (map string_bytes words.now)) → files.new ≡ files.old }
     ensures run { IfOk result (IsPrepared (test images.new) (test scripts.now) (changes images.new) (F.told files.old)
-        (run_of (test images.old) (test scripts.now) (changes images.old) (map string_bytes words.now)) (F.asked files.old) (F.asked files.new)) }
+        (run_of (test images.old) (test scripts.now) (changes images.old) (map string_bytes words.now))
+        (F.asked files.old) (F.asked files.new) steps.old steps.new) }
+    ensures script { IfOk result (MayList (asked (map string_bytes words.now))) }
     ensures stop { IfErr result (λ stop. IsStop (F.told files.old)
         (run_of (test images.old) (test scripts.now) (changes images.old) (map string_bytes words.now))
         (F.faults files.old) (F.faults files.new) (F.failed files.old) (F.failed files.new) (F.asked files.old) (F.asked files.new) stop) }
+    ensures due { OnErr result (StepsAreDue (F.told files.old)
+        (run_of (test images.old) (test scripts.now) (changes images.old) (map string_bytes words.now))
+        (F.asked files.old) (F.asked files.new) steps.old steps.new) }
+    ensures steps { lists_cells (asked (map string_bytes words.now)) ≡ false → steps.new ≡ steps.old }
 {
     let Ok(request) = request_of(alloc, words) else {
         return Err(RunStop::NoMemory);
     };
-    prepare_run(alloc, &request, files, images, scripts)
+    prepare_run(alloc, &request, files, images, scripts, steps)
 }

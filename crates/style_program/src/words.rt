@@ -43,13 +43,15 @@ pub struct ScriptRequest<'a> {
 /// What the words ask for.
 #[derive(Debug, Drop)]
 pub enum Request<'a> {
-    /// One answer, once all is read.
+    /// One answer, once all is read, which evaluates no cell.
     Answer(AnswerRequest<'a>),
+    /// One answer, which lists what a style shows.
+    Listing(ListingRequest<'a>),
     /// The answers to a script: what a style shows while it is edited.
     Script(ScriptRequest<'a>),
 }
 
-/// What is asked for where one answer is given.
+/// What is asked for where one answer is given, which evaluates no cell.
 #[derive(Debug, Drop)]
 pub enum AnswerRequest<'a> {
     /// The value of this expression.
@@ -62,16 +64,21 @@ pub enum AnswerRequest<'a> {
     Migrate(&'a str),
     /// A style with the same meaning and less in it.
     Simplify(&'a str),
-    /// What a style shows.
-    Eval(EvalRequest<'a>),
     /// What a tile holds.
     Tile(&'a str),
-    /// How much it shows of so many features that are made.
-    Generate(u32),
     Help,
     Version,
     /// Nothing that the program knows.
     Wrong,
+}
+
+/// What is asked for where one answer lists what a style shows.
+#[derive(Debug, Drop)]
+pub enum ListingRequest<'a> {
+    /// What a style shows.
+    Eval(EvalRequest<'a>),
+    /// How much it shows of so many features that are made.
+    Generate(u32),
 }
 
 /// What the words after the program's name ask for.
@@ -133,7 +140,7 @@ fn request_with<'a>(
 {
     match words {
         [] => Ok(Request::Answer(AnswerRequest::Wrong)),
-        [word] => Ok(Request::Answer(request_of_one(command, word.as_str()))),
+        [word] => Ok(request_of_one(command, word.as_str())),
         [style, word, words @ ..] => {
             request_of_more(alloc, command, style.as_str(), word.as_str(), words)
         }
@@ -150,20 +157,20 @@ fn request_alone<'a>(word: &str) -> AnswerRequest<'a>
     }
 }
 
-fn request_of_one<'a>(command: &str, word: &'a str) -> AnswerRequest<'a>
-    ensures { answer_asked result ≡ asked_of_one command.now word.now }
+fn request_of_one<'a>(command: &str, word: &'a str) -> Request<'a>
+    ensures { asked_by result ≡ asked_of_one command.now word.now }
 {
     match command {
-        "value" => AnswerRequest::Value(word),
-        "validate" => AnswerRequest::Validate(word),
-        "migrate" => AnswerRequest::Migrate(word),
-        "simplify" => AnswerRequest::Simplify(word),
-        "tile" => AnswerRequest::Tile(word),
+        "value" => Request::Answer(AnswerRequest::Value(word)),
+        "validate" => Request::Answer(AnswerRequest::Validate(word)),
+        "migrate" => Request::Answer(AnswerRequest::Migrate(word)),
+        "simplify" => Request::Answer(AnswerRequest::Simplify(word)),
+        "tile" => Request::Answer(AnswerRequest::Tile(word)),
         "generate" => match features_named(word) {
-            Some(features) => AnswerRequest::Generate(features),
-            None => AnswerRequest::Wrong,
+            Some(features) => Request::Listing(ListingRequest::Generate(features)),
+            None => Request::Answer(AnswerRequest::Wrong),
         },
-        _ => AnswerRequest::Wrong,
+        _ => Request::Answer(AnswerRequest::Wrong),
     }
 }
 
@@ -201,7 +208,7 @@ fn request_of_more<'a>(
 {
     match command {
         "eval" => match shown_request(alloc, style, word, words)? {
-            Some(request) => Ok(Request::Answer(AnswerRequest::Eval(request))),
+            Some(request) => Ok(Request::Listing(ListingRequest::Eval(request))),
             None => Ok(Request::Answer(AnswerRequest::Wrong)),
         },
         "desk" => match shown_at(alloc, style, zero(), words)? {

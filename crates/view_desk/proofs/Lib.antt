@@ -1,5 +1,7 @@
+pub mod LineKinds
 pub mod DeskLineRuns
 pub mod DeskLinesRead
 pub mod Pieces
 pub mod ViewPlaces
 pub mod ViewsDone
+pub mod ViewsSound

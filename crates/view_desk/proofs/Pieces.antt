@@ -1,5 +1,5 @@
 -- Two pieces that are written one after the other.
-use Rattle.std.specs.Prelude.{◌≡◌, ℕ, List, ◌++◌, length, take, drop, Option, Result, Ok, Err, OnErr}
+use Rattle.std.specs.Prelude.{◌≡◌, ℕ, List, ◌++◌, length, take, drop, Option}
 use Rattle.std.proofs.Common.{◌∙◌, sym, ap, subst, append_assoc}
 use Rattle.std.proofs.Math.Seq.{take-append_seam}
 use Rattle.std.proofs.lemmas.List.{take-append-drop}
@@ -23,7 +23,3 @@ later_prefix a b c first second gains (n, more) =
     front_taken a c (first ++ take n second) (drop n second) (first ++ second)
     (ap (λ (t : List ℕ). first ++ t) (sym (take-append-drop n second)) ∙ sym (append_assoc first (take n second) (drop n second)))
     (gains_both a b c first (take n second) gains more)
-
-pub given_on_err : {T E P : Type 0} (r : Result T E) → P → OnErr r P
-given_on_err (Ok x) p = tt
-given_on_err (Err e) p = p

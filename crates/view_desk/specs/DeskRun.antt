@@ -5,14 +5,14 @@ use Rattle.decimal_json.specs.Tree.{Tree}
 use Rattle.edit_script.specs.declared.command.LineFault.{LineFault}
 use Rattle.edit_script.specs.declared.command.LineFault.TheVariants.{Json}
 use Rattle.program_runs.specs.Outcome.{line, said}
-use Rattle.program_runs.specs.Runs.{Run, ends, says, may_parse}
+use Rattle.program_runs.specs.Runs.{Run, ends, says, counts, may_parse}
 use Rattle.script_runs.specs.AnswerTexts as texts
 use Rattle.script_runs.specs.AnswerTexts.{fault_name, ok_line, refused_line, reply_text}
 use Rattle.script_runs.specs.ScriptLines.{script_lines}
 use Rattle.script_runs.specs.ScriptRun.{ending_by}
 use Rattle.style_layout.specs.Shown.{SourceTile}
 use Rattle.view_desk.specs.DeskLines.{DeskEdit, desk_command}
-use Rattle.view_desk.specs.DeskState.{DeskState, DeskReply, faulty, refused, done, style_reply, view_reply, desk_applied}
+use Rattle.view_desk.specs.DeskState.{DeskState, DeskReply, faulty, refused, done, style_reply, view_reply, desk_applied, desk_least, desk_most}
 use Rattle.view_desk.specs.declared.answers.DeskRefusal.{DeskRefusal}
 use Rattle.view_desk.specs.declared.answers.DeskRefusal.TheVariants.{UnknownView, ViewTaken, ZoomRange, ViewLimit}
 
@@ -69,14 +69,16 @@ module _ (tiles : List SourceTile) (scripts : List ℕ → Bool) (can_change : B
   abbrev pub desk_out : ℕ → DeskState → Result DeskEdit LineFault → DeskOut
   desk_out number d read = desk_replied number (desk_answered d read)
 
-  -- The run of lines from this number on: each is answered before the next is looked at. `any` says whether a line before them
-  -- was refused.
+  -- The run of lines from this number on: each is answered before the next is looked at. `any` says whether a line
+  -- before them was refused.
   abbrev pub desk_lines_run : (number : ℕ) → DeskState → (any : Bool) → List (List ℕ) → Run
   desk_lines_run number d any [] = ends (said [] (ending_by any))
   desk_lines_run number d any (l ∷ ls) =
       may_parse l (λ t.
-      says (desk_out number d (desk_line t)).text
-      (desk_lines_run (number + 1) (desk_out number d (desk_line t)).after (any || (desk_out number d (desk_line t)).is_refused) ls))
+      counts (desk_least tiles scripts d (desk_line t)) (desk_most tiles scripts d (desk_line t)) (
+      says (desk_out number d (desk_line t)).text (
+      desk_lines_run (number + 1) (desk_out number d (desk_line t)).after
+      (any || (desk_out number d (desk_line t)).is_refused) ls)))
 
   -- The run of a script of a desk.
   abbrev pub desk_script_run : DeskState → List ℕ → Run

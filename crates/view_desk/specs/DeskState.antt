@@ -1,10 +1,11 @@
 -- What a desk represents, and what a line makes of it. Source: own.
-use Rattle.std.specs.Prelude.{ℕ, ℤ, List, [], ◌∷◌, ◌++◌, length, Bool, not, nat_le, Option, Some, None, is_some, if◌then◌else◌}
+use Rattle.std.specs.Prelude.{ℕ, ℤ, List, [], ◌∷◌, ◌++◌, length, Bool, not, nat_le, Option, Some, None, is_some, Result, Ok, if◌then◌else◌}
 use Rattle.std.specs.Bool.{then_some}
 use Rattle.std.specs.Str.{bytes_eq}
 use Rattle.edit_script.specs.Edit.{Edit}
 use Rattle.edit_script.specs.declared.command.LineFault.{LineFault}
-use Rattle.edit_session.specs.Applied.{FeatureStates, Reply, applied}
+use Rattle.edit_session.specs.Applied.{Reply, applied, least_steps, most_steps}
+use Rattle.edit_session.specs.OpenViews.{OpenView, fresh_view, in_each, shown_in, view_left}
 use Rattle.edit_session.specs.SessionState.{SessionState}
 use Rattle.style_edits.specs.Causes.{first_cause}
 use Rattle.style_layout.specs.Shown.{SourceTile}
@@ -12,12 +13,6 @@ use Rattle.style_parts.specs.Numbers.{is_zoom}
 use Rattle.view_desk.specs.DeskLines.{DeskEdit, open_view, close_view, in_view, of_style}
 use Rattle.view_desk.specs.declared.answers.DeskRefusal.{DeskRefusal}
 use Rattle.view_desk.specs.declared.answers.DeskRefusal.TheVariants.{UnknownView, ViewTaken, ZoomRange, ViewLimit}
-
--- A view that is open: its name, its zoom in millionths, and the states of features in it.
-pub record OpenView : Type 0 where
-  pub name : List ℕ
-  pub zoom : ℤ
-  pub states : FeatureStates
 
 -- A style under edit, and the views that are open, in the order in which they were opened.
 pub record DeskState : Type 0 where
@@ -53,21 +48,6 @@ abbrev pub without_view : List ℕ → List OpenView → List OpenView
 without_view name [] = []
 without_view name (v ∷ vs) = if is_named name v then vs else v ∷ without_view name vs
 
--- a view in which no feature has a state
-abbrev pub fresh_view : List ℕ → ℤ → OpenView
-fresh_view name zoom = record { name = name; zoom = zoom; states = λ source layer id. [] }
-
--- what a view shows: the style, at its zoom and by its states
-abbrev pub shown_in : SessionState → OpenView → SessionState
-shown_in p v = record p { zoom = v.zoom; states = v.states }
-
--- what is left of the style, and of the view, by what is shown in it
-abbrev pub style_left : SessionState → SessionState → SessionState
-style_left p after = record after { zoom = p.zoom; states = p.states }
-
-abbrev pub view_left : OpenView → SessionState → OpenView
-view_left v after = record v { zoom = after.zoom; states = after.states }
-
 -- ---- what is answered
 
 pub data DeskReply : Type 0 where
@@ -89,7 +69,7 @@ opening_refusal d name zoom = first_cause (
 
 abbrev pub opened_unless : Option DeskRefusal → DeskState → List ℕ → ℤ → DeskState × DeskReply
 opened_unless (Some refusal) d name zoom = (d, refused refusal)
-opened_unless None d name zoom = (record d { views = d.views ++ fresh_view name zoom ∷ [] }, done)
+opened_unless None d name zoom = (record d { views = d.views ++ fresh_view d.style name zoom ∷ [] }, done)
 
 abbrev pub closed_if : DeskState → List ℕ → Option OpenView → DeskState × DeskReply
 closed_if d name (Some v) = (record d { views = without_view name d.views }, done)
@@ -97,21 +77,44 @@ closed_if d name None = (d, refused UnknownView)
 
 -- over tiles, with the test on texts that can be shown; `can_change` says whether the test of images can change
 module _ (tiles : List SourceTile) (scripts : List ℕ → Bool) (can_change : Bool) where
-  -- what is left of what is shown in a view, and the answer
+  -- what is left of a view by what is shown in it, and the answer: the style and the other views stay
   abbrev pub left_by : DeskState → List ℕ → OpenView → SessionState × Reply → DeskState × DeskReply
-  left_by d name v a =
-      (record { style = style_left d.style a.0; views = with_view name (view_left v a.0) d.views }, view_reply name a.1)
+  left_by d name v a = (record d { views = with_view name (view_left v a.0) d.views }, view_reply name a.1)
 
   abbrev pub done_if : DeskState → List ℕ → Edit → Option OpenView → DeskState × DeskReply
   done_if d name edit (Some v) = left_by d name v (applied tiles scripts can_change (shown_in d.style v) edit)
   done_if d name edit None = (d, refused UnknownView)
 
-  abbrev pub done_to_style : DeskState → SessionState × Reply → DeskState × DeskReply
-  done_to_style d a = (record d { style = a.0 }, style_reply a.1)
+  -- what is left of the style, and the answer: the edit is one in every view
+  abbrev pub done_to_all : DeskState → Edit → SessionState × Reply → DeskState × DeskReply
+  done_to_all d edit a =
+      (record { style = a.0; views = in_each tiles scripts can_change d.style edit d.views }, style_reply a.1)
 
-  -- What a desk represents after a line, and what is answered. A line of the style is one in every view. Source: own.
+  -- What a desk represents after a line, and what is answered. Source: own.
   abbrev pub desk_applied : DeskState → DeskEdit → DeskState × DeskReply
   desk_applied d (open_view name zoom) = opened_unless (opening_refusal d name zoom) d name zoom
   desk_applied d (close_view name) = closed_if d name (view_named name d.views)
   desk_applied d (in_view name edit) = done_if d name edit (view_named name d.views)
-  desk_applied d (of_style edit) = done_to_style d (applied tiles scripts can_change d.style edit)
+  desk_applied d (of_style edit) = done_to_all d edit (applied tiles scripts can_change d.style edit)
+
+-- ---- steps
+
+module _ (tiles : List SourceTile) (scripts : List ℕ → Bool) where
+  -- in a view, where it is open
+  abbrev pub least_in : SessionState → Edit → Option OpenView → ℕ
+  least_in p edit (Some v) = least_steps tiles scripts (shown_in p v) edit
+  least_in p edit None = 0
+
+  abbrev pub most_in : SessionState → Edit → Option OpenView → ℕ
+  most_in p edit (Some v) = most_steps tiles scripts (shown_in p v) edit
+  most_in p edit None = 0
+
+  -- The steps that what a line says counts: at least so many where it is answered, and at most so many in any case.
+  -- Only a listing in a view counts any. Source: own.
+  abbrev pub desk_least : DeskState → Result DeskEdit LineFault → ℕ
+  desk_least d (Ok (in_view name edit)) = least_in d.style edit (view_named name d.views)
+  desk_least d read = 0
+
+  abbrev pub desk_most : DeskState → Result DeskEdit LineFault → ℕ
+  desk_most d (Ok (in_view name edit)) = most_in d.style edit (view_named name d.views)
+  desk_most d read = 0

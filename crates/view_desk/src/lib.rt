@@ -1,16 +1,21 @@
-//! Several views over one style: each has its own zoom and its own states of features, and all show the style as it is edited.
+//! Several views over one style: each has its own zoom, its own states of features and its own kept cells, and all show
+//! the style as it is edited.
 //!
 //! ```text
-//! let mut desk = Desk::new(alloc, session);
-//! desk.line(b"[\"open-view\",\"map\",3]", images, scripts)?;                // Done
-//! desk.line(b"[\"view\",\"map\",[\"list\"]]", images, scripts)?;             // View("map", Listing(..))
-//! desk.line(b"[\"set-paint\",\"c\",\"circle-radius\",2]", images, scripts)?; // Style(Done): in every view
+//! let mut desk = Desk::new(session);
+//! desk.line(b"[\"open-view\",\"map\",3]", images, scripts, steps)?;                // Done
+//! desk.line(b"[\"view\",\"map\",[\"list\"]]", images, scripts, steps)?;             // View("map", Listing(..))
+//! desk.line(b"[\"view\",\"map\",[\"stats\"]]", images, scripts, steps)?;            // View("map", Stats(..))
+//! desk.line(b"[\"set-paint\",\"c\",\"circle-radius\",2]", images, scripts, steps)?; // Style(Done): in every view
 //! ```
 //!
 //! What is promised: `desk_state` says what a desk represents: a style under edit, and the views that are open, each with its name, its
-//! zoom and the states of features. `line` answers the bytes of a line by `desk_applied`: a line that opens or closes a view, a line of
-//! one view, or a line of the style, which is answered as a session answers it. Once allocation fails a desk answers so ever after.
-//! `answer_desk` writes the text of each answer before the next line is looked at: the outcome of `desk_run` of `specs/DeskRun.antt`.
+//! zoom, the states of features, the cells that it keeps, and the number of evaluations of its last listing. `line` answers the bytes of
+//! a line by `desk_applied`: a line that opens or closes a view, a line of one view, which leaves the style and the other views, or a
+//! line of the style, which is answered as a session answers it and done in each view. A listing in a view counts at least
+//! `desk_least` and at most `desk_most` steps, and no other line counts any. Once allocation fails a desk answers so ever after.
+//! `answer_desk` writes the text of each answer before the next line is looked at: the outcome of `desk_script_run` of
+//! `specs/DeskRun.antt`.
 //!
 //! At most eight views are open, so that a view is found by its name along the list of them.
 //!

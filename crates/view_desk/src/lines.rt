@@ -4,7 +4,7 @@ ghost use Rattle.std.specs.Prelude.{◌≡◌, [], ◌∷◌, IfOk};
 ghost use Rattle.decimal_json.specs.Tree as trees;
 ghost use Rattle.decimal_json.specs.View.{items_view, tree_of};
 ghost use Rattle.view_desk.specs.DeskLines.{AnswersDeskLine, array_command, close_form, command_named, desk_command, is_view_line, is_view_name, nested_command, open_form, style_edit, view_form};
-ghost use Rattle.view_desk.specs.View.{desk_read_seen};
+ghost use Rattle.view_desk.specs.View.{desk_read_seen, IsWellSorted};
 ghost use Rattle.edit_script.specs.View.{read_seen};
 
 use decimal_json::{Json, NumText, Text, parse};
@@ -28,7 +28,8 @@ pub(crate) fn read_desk_line(
     alloc: Global,
     line: &[u8],
 ) -> Result<Result<DeskCommand, LineFault>, AllocError>
-    ensures { IfOk result (λ read. AnswersDeskLine line.now (desk_read_seen read)) }
+    ensures answers { IfOk result (λ read. AnswersDeskLine line.now (desk_read_seen read)) }
+    ensures sorted { IfOk result (λ read. IfOk read IsWellSorted) }
 {
     match parse(alloc, line)? {
         Ok(json) => read_desk_command(alloc, &json),

@@ -5,15 +5,16 @@ ghost use Rattle.outside_io.specs.Counts.{raised};
 ghost use Rattle.outside_io.specs.Writing.{Gains, GainsPrefix};
 ghost use Rattle.program_runs.specs.Progress.{IsCut, IsWritten};
 ghost use Rattle.view_desk.specs.DeskRun.{desk_script_run};
-ghost use Rattle.view_desk.specs.View.{desk_line_seen, desk_state, desk_tiles, DeskLineGives, IsSoundDesk};
+ghost use Rattle.view_desk.specs.View.{desk_line_seen, desk_state, desk_tiles, DeskLineGives, IsSoundDesk, StepsAreOfDeskLine};
 
 use crate::answers::line_answer;
 use crate::desk::Desk;
 use host_ops::HostOp;
-use outside_io::{Sink, SinkFailed};
+use outside_io::{Sink, SinkFailed, Steps};
 use program_runs::{Ending, WriteStop, write_piece};
 use script_runs::{ScriptLine, ending_by, next_line};
-use std::alloc::{AllocError, Global};
+use std::alloc::AllocError;
+use std::sync::ledger::Ledger;
 
 /// What a line of a desk is answered.
 #[derive(Drop)]
@@ -27,22 +28,22 @@ pub struct DeskLineAnswer {
 
 /// Writes what each line of a script is answered, before the next line is looked at, over a desk that was just opened or is
 /// sound. The text of one answer is in memory at a time.
-pub fn answer_desk<O: Sink>(
-    alloc: Global,
+pub fn answer_desk<O: Sink, L: Ledger>(
     desk: Desk<'_>,
     script: &[u8],
     images: &mut dyn HostOp,
     scripts: &dyn HostOp,
     out: &mut O,
+    steps: &mut Steps<L>,
 ) -> Result<Ending, WriteStop>
-    requires { IsSoundDesk desk }
+    requires { IsSoundDesk desk (test images.old) (test scripts.now) }
     ensures written { (files : List ℕ → Option (List ℕ)) (asked : List (List ℕ)) → IfOk result (IsWritten files
-        (desk_script_run (desk_tiles desk.entry) (test scripts.now) (changes images.old) (desk_state desk.entry (test images.old)) script.now) asked
-        (O.held out.old) (O.held out.new)) }
+        (desk_script_run (desk_tiles desk.entry) (test scripts.now) (changes images.old) (desk_state desk.entry (test images.old)) script.now)
+        asked (O.held out.old) (O.held out.new) steps.old steps.new) }
     ensures none_failed { OnOk result (O.faults out.new ≡ O.faults out.old) }
     ensures stop { (files : List ℕ → Option (List ℕ)) (asked : List (List ℕ)) → IfErr result (IsCut files
-        (desk_script_run (desk_tiles desk.entry) (test scripts.now) (changes images.old) (desk_state desk.entry (test images.old)) script.now) asked
-        (O.held out.old) (O.held out.new) (O.faults out.old) (O.faults out.new)) }
+        (desk_script_run (desk_tiles desk.entry) (test scripts.now) (changes images.old) (desk_state desk.entry (test images.old)) script.now)
+        asked (O.held out.old) (O.held out.new) steps.old steps.new (O.faults out.old) (O.faults out.new)) }
 {
     let mut desk = desk;
     let mut any = false;
@@ -53,7 +54,7 @@ pub fn answer_desk<O: Sink>(
             number,
             bytes: line,
         };
-        let Ok(answer) = answer_line(alloc, &mut desk, &line, images, scripts) else {
+        let Ok(answer) = answer_line(&mut desk, &line, images, scripts, steps) else {
             return Err(WriteStop::NoMemory);
         };
         match write_pieces(answer.view.as_slice(), answer.text.as_slice(), out) {
@@ -79,21 +80,23 @@ fn write_pieces<O: Sink>(first: &[u8], second: &[u8], out: &mut O) -> Result<(),
 }
 
 // The answer to the line of this number.
-fn answer_line(
-    alloc: Global,
+fn answer_line<L: Ledger>(
     desk: &mut Desk<'_>,
     line: &ScriptLine<'_>,
     images: &mut dyn HostOp,
     scripts: &dyn HostOp,
+    steps: &mut Steps<L>,
 ) -> Result<DeskLineAnswer, AllocError>
-    requires { IsSoundDesk desk.old }
-    ensures sound { IsSoundDesk desk.new }
+    requires { IsSoundDesk desk.old (test images.old) (test scripts.now) }
+    ensures sound { IsSoundDesk desk.new (test images.new) (test scripts.now) }
     ensures tiles { desk_tiles desk.new ≡ desk_tiles desk.old }
     ensures changes { changes images.new ≡ changes images.old }
-    ensures gives { IfOk result (λ answer. DeskLineGives (desk_tiles desk.old) (test scripts.now) (changes images.old) line.now.number
-        (desk_state desk.old (test images.old)) line.now.bytes.now
+    ensures gives { IfOk result (λ answer. DeskLineGives (desk_tiles desk.old) (test scripts.now) steps.old steps.new (changes images.old)
+        line.now.number (desk_state desk.old (test images.old)) line.now.bytes.now
         (desk_line_seen (desk_state desk.new (test images.new)) answer)) }
+    ensures most { OnErr result (StepsAreOfDeskLine (desk_tiles desk.old) (test scripts.now) steps.old steps.new
+        (desk_state desk.old (test images.old)) line.now.bytes.now) }
 {
-    let answer = desk.line(line.bytes, images, scripts)?;
-    line_answer(alloc, line.number, answer)
+    let answer = desk.line(line.bytes, images, scripts, steps)?;
+    line_answer(desk.alloc(), line.number, answer)
 }

@@ -1,2 +1,4 @@
-pub mod LineKinds
+pub mod LayersThere
+pub mod NothingKept
+pub mod ViewEdits
 pub mod Projections

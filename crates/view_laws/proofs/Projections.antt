@@ -3,22 +3,22 @@ use Rattle.std.proofs.Common.{◌≡◌, ◌∙◌, sym, refl, ap, subst, ℕ, �
 use Rattle.std.specs.Bool.{then_some}
 use Rattle.std.specs.Str.{bytes_eq}
 use Rattle.decimal_json.specs.Tree.{Tree}
-use Rattle.edit_script.specs.Edit as edits
 use Rattle.edit_script.specs.Edit.{Edit}
 use Rattle.edit_script.specs.declared.command.LineFault.{LineFault}
-use Rattle.edit_session.specs.Applied.{Reply, applied, refusal, unless_refused, presented_after}
+use Rattle.edit_session.specs.Applied.{Reply, applied, is_of_view}
+use Rattle.edit_session.specs.OpenViews.{OpenView, after_edit, fresh_view, in_each, shown_in, view_left}
 use Rattle.edit_session.specs.SessionState.{SessionState, opened}
-use Rattle.edit_session.specs.declared.answer.Refusal.{Refusal}
 use Rattle.key_index.proofs.Keys.{same_bytes, bytes_same}
 use Rattle.style_edits.specs.Causes.{first_cause}
 use Rattle.style_layout.specs.Shown.{SourceTile}
 use Rattle.view_desk.specs.DeskLines.{DeskEdit, open_view, close_view, in_view, of_style}
 use Rattle.view_desk.specs.DeskRun.{desk_answered, desk_line}
-use Rattle.view_desk.specs.DeskState.{OpenView, DeskState, DeskReply, view_named, with_view, without_view, fresh_view, shown_in, style_left, view_left, opening_refusal, opened_unless, closed_if, done_if, desk_limit, desk_over}
+use Rattle.view_desk.specs.DeskState.{DeskState, DeskReply, view_named, with_view, without_view, opening_refusal, opened_unless, closed_if, done_if, desk_limit, desk_over}
 use Rattle.view_desk.specs.declared.answers.DeskRefusal.{DeskRefusal}
 use Rattle.view_desk.specs.declared.answers.DeskRefusal.TheVariants.{ViewTaken, ZoomRange, ViewLimit}
-use Rattle.view_laws.specs.ViewLaw.{closes, of_one, desk_after, view_replies, is_of_view, style_command, style_commands, command_in, commands_until_closed, replayed, EachViewIsAReplay}
-use Rattle.view_laws.proofs.LineKinds.{has_kind, line_kind}
+use Rattle.view_laws.specs.ViewLaw.{closes, of_one, desk_after, view_replies, style_command, style_commands, command_in, commands_until_closed, replayed, EachViewIsAReplay}
+use Rattle.view_desk.proofs.LineKinds.{has_kind, line_kind}
+use Rattle.view_laws.proofs.ViewEdits.{fresh_stays, style_shown, view_shown}
 
 -- ---- names
 
@@ -90,7 +90,7 @@ found_last name v (p ∷ ps) n h = none_if (bytes_eq p.name name) p v (view_name
 -- ---- openings
 
 opened_views : (o : Option DeskRefusal) (d : DeskState) (v : OpenView) (other : List ℕ) (zoom : ℤ) (name : List ℕ) → view_named name d.views ≡ Some v → view_named name (opened_unless o d other zoom).0.views ≡ Some v
-opened_views None d v other zoom name h = still_there name v d.views (fresh_view other zoom ∷ []) h
+opened_views None d v other zoom name h = still_there name v d.views (fresh_view d.style other zoom ∷ []) h
 opened_views (Some r) d v other zoom name h = h
 
 opened_style : (o : Option DeskRefusal) (d : DeskState) (other : List ℕ) (zoom : ℤ) → (opened_unless o d other zoom).0.style ≡ d.style
@@ -117,59 +117,21 @@ module _ (tiles : List SourceTile) (scripts : List ℕ → Bool) (can_change : B
   abbrev after : DeskState → Result DeskEdit LineFault → DeskState × DeskReply
   after d read = desk_answered tiles scripts can_change d read
 
-  -- ---- an edit of the style gives the same in every view
+  abbrev leaves : SessionState → Edit → OpenView → OpenView
+  leaves p edit v = after_edit tiles scripts can_change p edit v
 
-  unless_in : (r : Option Refusal) (p q : SessionState) (v : OpenView) → unless_refused r (shown_in p v) (shown_in q v) ≡ (shown_in (unless_refused r p q).0 v, (unless_refused r p q).1)
-  unless_in None p q v = refl
-  unless_in (Some r) p q v = refl
+  -- an edit of the style, at the name of a view
+  left_if : (b : Bool) (p : SessionState) (edit : Edit) (u v : OpenView) (o q : Option OpenView) → (o ≡ Some v → q ≡ Some (leaves p edit v))
+      → (if b then Some u else o) ≡ Some v → (if b then Some (leaves p edit u) else q) ≡ Some (leaves p edit v)
+  left_if true p edit u v o q h is = let same : u ≡ v = cc in ap (λ (w : OpenView). Some (leaves p edit w)) same
+  left_if false p edit u v o q h is = h is
 
-  abbrev InView : SessionState → OpenView → Edit → Type 0
-  InView p v edit = gives (shown_in p v) edit ≡ (shown_in (gives p edit).0 v, (gives p edit).1)
-
-  in_each_view : (p : SessionState) (v : OpenView) (edit : Edit) → not (is_of_view edit) ≡ true → InView p v edit
-  in_each_view p v (edits.set_paint layer name value) h = unless_in (refusal tiles scripts can_change p (edits.set_paint layer name value)) p (presented_after p (edits.set_paint layer name value)) v
-  in_each_view p v (edits.set_layout layer name value) h = unless_in (refusal tiles scripts can_change p (edits.set_layout layer name value)) p (presented_after p (edits.set_layout layer name value)) v
-  in_each_view p v (edits.set_filter layer filter) h = unless_in (refusal tiles scripts can_change p (edits.set_filter layer filter)) p (presented_after p (edits.set_filter layer filter)) v
-  in_each_view p v (edits.set_range layer min max) h = unless_in (refusal tiles scripts can_change p (edits.set_range layer min max)) p (presented_after p (edits.set_range layer min max)) v
-  in_each_view p v (edits.add_layer layer before) h = unless_in (refusal tiles scripts can_change p (edits.add_layer layer before)) p (presented_after p (edits.add_layer layer before)) v
-  in_each_view p v (edits.remove_layer id) h = unless_in (refusal tiles scripts can_change p (edits.remove_layer id)) p (presented_after p (edits.remove_layer id)) v
-  in_each_view p v (edits.move_layer id before) h = unless_in (refusal tiles scripts can_change p (edits.move_layer id before)) p (presented_after p (edits.move_layer id before)) v
-  in_each_view p v (edits.set_zoom zoom) h = absurd (cc)
-  in_each_view p v (edits.set_state source layer id members) h = absurd (cc)
-  in_each_view p v (edits.remove_state source layer id key) h = absurd (cc)
-  in_each_view p v (edits.add_image name) h = unless_in (refusal tiles scripts can_change p (edits.add_image name)) p (presented_after p (edits.add_image name)) v
-  in_each_view p v (edits.remove_image name) h = unless_in (refusal tiles scripts can_change p (edits.remove_image name)) p (presented_after p (edits.remove_image name)) v
-  in_each_view p v (edits.set_global name d) h = unless_in (refusal tiles scripts can_change p (edits.set_global name d)) p (presented_after p (edits.set_global name d)) v
-  in_each_view p v edits.list h = absurd (cc)
-  in_each_view p v edits.stats h = absurd (cc)
-  in_each_view p v edits.style h = refl
-
-  -- ---- an edit of a view leaves the style
-
-  abbrev LeavesStyle : SessionState → OpenView → Edit → Type 0
-  LeavesStyle p v edit = (style_left p (gives (shown_in p v) edit).0 ≡ p) × (shown_in p (view_left v (gives (shown_in p v) edit).0) ≡ (gives (shown_in p v) edit).0)
-
-  zoom_leaves : (r : Option Refusal) (p : SessionState) (v : OpenView) (zoom : ℤ) →
-      let a = (unless_refused r (shown_in p v) (record (shown_in p v) { zoom = zoom })).0 in (style_left p a ≡ p) × (shown_in p (view_left v a) ≡ a)
-  zoom_leaves None p v zoom = (refl, refl)
-  zoom_leaves (Some r) p v zoom = (refl, refl)
-
-  states_leave : (r : Option Refusal) (p : SessionState) (v : OpenView) (edit : Edit) →
-      presented_after (shown_in p v) edit ≡ record (shown_in p v) { states = (presented_after (shown_in p v) edit).states } →
-      let a = (unless_refused r (shown_in p v) (presented_after (shown_in p v) edit)).0 in (style_left p a ≡ p) × (shown_in p (view_left v a) ≡ a)
-  states_leave None p v edit h =
-      (ap (λ (s : SessionState). style_left p s) h, ap (λ (s : SessionState). shown_in p (view_left v s)) h ∙ sym h)
-  states_leave (Some r) p v edit h = (refl, refl)
-
-  leaves_style : (p : SessionState) (v : OpenView) (edit : Edit) → is_of_view edit ≡ true → LeavesStyle p v edit
-  leaves_style p v (edits.set_zoom zoom) h = zoom_leaves (refusal tiles scripts can_change (shown_in p v) (edits.set_zoom zoom)) p v zoom
-  leaves_style p v (edits.set_state source layer id members) h =
-      states_leave (refusal tiles scripts can_change (shown_in p v) (edits.set_state source layer id members)) p v (edits.set_state source layer id members) refl
-  leaves_style p v (edits.remove_state source layer id key) h =
-      states_leave (refusal tiles scripts can_change (shown_in p v) (edits.remove_state source layer id key)) p v (edits.remove_state source layer id key) refl
-  leaves_style p v edits.list h = (refl, refl)
-  leaves_style p v edits.stats h = (refl, refl)
-  leaves_style p v _ h = absurd (cc)
+  left_named : (name : List ℕ) (p : SessionState) (edit : Edit) (vs : List OpenView) (v : OpenView) → view_named name vs ≡ Some v
+      → view_named name (in_each tiles scripts can_change p edit vs) ≡ Some (leaves p edit v)
+  left_named name p edit [] v h = absurd (cc)
+  left_named name p edit (u ∷ us) v h =
+      left_if (bytes_eq u.name name) p edit u v (view_named name us) (view_named name (in_each tiles scripts can_change p edit us))
+      (left_named name p edit us v) h
 
   -- ---- the lines after the one that opens a view
 
@@ -197,15 +159,16 @@ module _ (tiles : List SourceTile) (scripts : List ℕ → Bool) (can_change : B
   close_if false number name other ts d v (Some u) e h k = k (record d { views = without_view other d.views }) v (gone_apart other name d.views e ∙ h)
   close_if false number name other ts d v None e h k = k d v h
 
+  is_false : (b : Bool) → not b ≡ true → b ≡ false
+  is_false true q = absurd (cc)
+  is_false false q = refl
+
   style_goes_on : (number : ℕ) (name : List ℕ) (ts : List (Option Tree)) (edit : Edit) → not (is_of_view edit) ≡ true → GoesOn (number + 1) name ts → LineGoesOn number name ts (Ok (of_style edit))
   style_goes_on number name ts edit c k d v h =
-      k (record d { style = (gives d.style edit).0 }) v h
-      ∙ (ap (λ (a : SessionState × Reply). rest_replayed number name a.0 ts) (sym (in_each_view d.style v edit c))
+      let next = (after d (Ok (of_style edit))).0 in
+      k next (leaves d.style edit v) (left_named name d.style edit d.views v h)
+      ∙ (ap (λ (p : SessionState). rest_replayed number name p ts) (style_shown tiles scripts can_change d.style v edit c)
       ∙ ap (λ (b : Bool). (if b then (number, (gives (shown_in d.style v) edit).1) ∷ [] else []) ++ rest_replayed number name (gives (shown_in d.style v) edit).0 ts) (sym (is_false (is_of_view edit) c)))
-    where
-      is_false : (b : Bool) → not b ≡ true → b ≡ false
-      is_false true q = absurd (cc)
-      is_false false q = refl
 
   view_if : (b : Bool) (number : ℕ) (name other : List ℕ) (edit : Edit) (ts : List (Option Tree)) (d : DeskState) (v : OpenView) (o : Option OpenView) → is_of_view edit ≡ true → bytes_eq other name ≡ b → view_named other d.views ≡ o → view_named name d.views ≡ Some v → GoesOn (number + 1) name ts →
       of_one number name (done_if tiles scripts can_change d other edit o).1 ++ rest_replies number name (done_if tiles scripts can_change d other edit o).0 ts
@@ -217,13 +180,12 @@ module _ (tiles : List SourceTile) (scripts : List ℕ → Bool) (can_change : B
       let q : Some u ≡ Some v = sym f ∙ (ap (λ (x : List ℕ). view_named x d.views) n ∙ h) in
       let same : u ≡ v = cc in
       let a = gives (shown_in d.style u) edit in
-      let left = leaves_style d.style u edit c in
-      let w = view_left u a.0 in
+      let w = leaves d.style edit u in
       let named : bytes_eq w.name name ≡ true = subst (λ (x : List ℕ). bytes_eq u.name x ≡ true) n (has_name other d.views u f) in
       let there : view_named name (with_view other w d.views) ≡ Some w =
       subst (λ (x : List ℕ). view_named name (with_view x w d.views) ≡ Some w) (sym n) (put_at name v w d.views named h) in
       let next = (done_if tiles scripts can_change d other edit (Some u)).0 in
-      let shows : shown_in (style_left d.style a.0) w ≡ a.0 = ap (λ (p : SessionState). shown_in p w) left.0 ∙ left.1 in
+      let shows : shown_in d.style w ≡ a.0 = view_shown tiles scripts can_change d.style u edit c in
       ap (λ (t : Bool). (if t then (number, a.1) ∷ [] else []) ++ rest_replies number name next ts) e
       ∙ (ap (λ (rest : List (ℕ × Reply)). (number, a.1) ∷ rest) (k next w there ∙ ap (λ (p : SessionState). rest_replayed number name p ts) shows)
       ∙ (ap (λ (t : Bool). (if t then (number, a.1) ∷ [] else []) ++ rest_replayed number name a.0 ts) (sym c)
@@ -231,12 +193,10 @@ module _ (tiles : List SourceTile) (scripts : List ℕ → Bool) (can_change : B
   view_if false number name other edit ts d v None c e f h k = k d v h
   view_if false number name other edit ts d v (Some u) c e f h k =
       let a = gives (shown_in d.style u) edit in
-      let left = leaves_style d.style u edit c in
-      let w = view_left u a.0 in
+      let w = leaves d.style edit u in
       let next = (done_if tiles scripts can_change d other edit (Some u)).0 in
       ap (λ (t : Bool). (if t then (number, a.1) ∷ [] else []) ++ rest_replies number name next ts) e
-      ∙ (k next v (put_apart other name w d.views e (has_name other d.views u f) ∙ h)
-      ∙ ap (λ (p : SessionState). rest_replayed number name (shown_in p v) ts) left.0)
+      ∙ k next v (put_apart other name w d.views e (has_name other d.views u f) ∙ h)
 
   line_goes_on : (number : ℕ) (name : List ℕ) (ts : List (Option Tree)) (read : Result DeskEdit LineFault) → has_kind read ≡ true → GoesOn (number + 1) name ts → LineGoesOn number name ts read
   line_goes_on number name ts (Ok (open_view other zoom)) c k d v h =
@@ -253,46 +213,48 @@ module _ (tiles : List SourceTile) (scripts : List ℕ → Bool) (can_change : B
   goes_on number name [] d v h = refl
   goes_on number name (t ∷ ts) d v h = line_goes_on number name ts (desk_line t) (line_kind t) (goes_on (number + 1) name ts) d v h
 
-  -- ---- the lines before it
+  -- ---- the lines before it: nothing was done in the view
 
-  abbrev from : SessionState → OpenView → List (ℕ × Edit) → List (ℕ × Reply)
-  from p v cs = replayed tiles scripts can_change (shown_in p v) cs
+  module _ (name : List ℕ) (zoom : ℤ) where
+    abbrev from : SessionState → List (ℕ × Edit) → List (ℕ × Reply)
+    from p cs = replayed tiles scripts can_change (shown_in p (fresh_view p name zoom)) cs
 
-  abbrev UpTo : ℕ → OpenView → List (Option Tree) → Type 0
-  UpTo number v ts = (d : DeskState) (rest : List (ℕ × Edit)) →
-      from (desk_after tiles scripts can_change d ts).style v rest ≡ from d.style v (style_commands number ts ++ rest)
+    abbrev UpTo : ℕ → List (Option Tree) → Type 0
+    UpTo number ts = (d : DeskState) (rest : List (ℕ × Edit)) →
+        from (desk_after tiles scripts can_change d ts).style rest ≡ from d.style (style_commands number ts ++ rest)
 
-  abbrev LineUpTo : ℕ → OpenView → List (Option Tree) → Result DeskEdit LineFault → Type 0
-  LineUpTo number v ts read = (d : DeskState) (rest : List (ℕ × Edit)) →
-      from (after d read).0.style v (style_commands (number + 1) ts ++ rest) ≡ from d.style v ((style_command number read ++ style_commands (number + 1) ts) ++ rest)
+    abbrev LineUpTo : ℕ → List (Option Tree) → Result DeskEdit LineFault → Type 0
+    LineUpTo number ts read = (d : DeskState) (rest : List (ℕ × Edit)) →
+        from (after d read).0.style (style_commands (number + 1) ts ++ rest) ≡ from d.style ((style_command number read ++ style_commands (number + 1) ts) ++ rest)
 
-  same_start : (v : OpenView) (p q : SessionState) (cs : List (ℕ × Edit)) → p ≡ q → from p v cs ≡ from q v cs
-  same_start v p q cs e = ap (λ (x : SessionState). from x v cs) e
+    same_start : (p q : SessionState) (cs : List (ℕ × Edit)) → p ≡ q → from p cs ≡ from q cs
+    same_start p q cs e = ap (λ (x : SessionState). from x cs) e
 
-  done_style : (d : DeskState) (other : List ℕ) (edit : Edit) (o : Option OpenView) → is_of_view edit ≡ true → (done_if tiles scripts can_change d other edit o).0.style ≡ d.style
-  done_style d other edit (Some u) c = (leaves_style d.style u edit c).0
-  done_style d other edit None c = refl
+    done_style : (d : DeskState) (other : List ℕ) (edit : Edit) (o : Option OpenView) → (done_if tiles scripts can_change d other edit o).0.style ≡ d.style
+    done_style d other edit (Some u) = refl
+    done_style d other edit None = refl
 
-  style_up_to : (number : ℕ) (v : OpenView) (ts : List (Option Tree)) (edit : Edit) → not (is_of_view edit) ≡ true → LineUpTo number v ts (Ok (of_style edit))
-  style_up_to number v ts edit c d rest =
-      let cs = style_commands (number + 1) ts ++ rest in
-      ap (λ (a : SessionState × Reply). replayed tiles scripts can_change a.0 cs) (sym (in_each_view d.style v edit c))
-      ∙ ap (λ (b : Bool). (if b then (number, (gives (shown_in d.style v) edit).1) ∷ [] else []) ++ replayed tiles scripts can_change (gives (shown_in d.style v) edit).0 cs) (sym (is_false (is_of_view edit) c))
-    where
-      is_false : (b : Bool) → not b ≡ true → b ≡ false
-      is_false true q = absurd (cc)
-      is_false false q = refl
+    style_up_to : (number : ℕ) (ts : List (Option Tree)) (edit : Edit) → not (is_of_view edit) ≡ true → LineUpTo number ts (Ok (of_style edit))
+    style_up_to number ts edit c d rest =
+        let cs = style_commands (number + 1) ts ++ rest in
+        let v = fresh_view d.style name zoom in
+        let style = (gives d.style edit).0 in
+        let shows : shown_in style (fresh_view style name zoom) ≡ (gives (shown_in d.style v) edit).0 =
+        ap (λ (u : OpenView). shown_in style u) (sym (fresh_stays tiles scripts can_change d.style name zoom edit c))
+        ∙ style_shown tiles scripts can_change d.style v edit c in
+        ap (λ (p : SessionState). replayed tiles scripts can_change p cs) shows
+        ∙ ap (λ (b : Bool). (if b then (number, (gives (shown_in d.style v) edit).1) ∷ [] else []) ++ replayed tiles scripts can_change (gives (shown_in d.style v) edit).0 cs) (sym (is_false (is_of_view edit) c))
 
-  line_up_to : (number : ℕ) (v : OpenView) (ts : List (Option Tree)) (read : Result DeskEdit LineFault) → has_kind read ≡ true → LineUpTo number v ts read
-  line_up_to number v ts (Ok (open_view other zoom)) c d rest = same_start v _ _ (style_commands (number + 1) ts ++ rest) (opened_style (opening_refusal d other zoom) d other zoom)
-  line_up_to number v ts (Ok (close_view other)) c d rest = same_start v _ _ (style_commands (number + 1) ts ++ rest) (closed_style d other (view_named other d.views))
-  line_up_to number v ts (Ok (in_view other edit)) c d rest = same_start v _ _ (style_commands (number + 1) ts ++ rest) (done_style d other edit (view_named other d.views) c)
-  line_up_to number v ts (Ok (of_style edit)) c d rest = style_up_to number v ts edit c d rest
-  line_up_to number v ts (Err fault) c d rest = refl
+    line_up_to : (number : ℕ) (ts : List (Option Tree)) (read : Result DeskEdit LineFault) → has_kind read ≡ true → LineUpTo number ts read
+    line_up_to number ts (Ok (open_view other height)) c d rest = same_start _ _ (style_commands (number + 1) ts ++ rest) (opened_style (opening_refusal d other height) d other height)
+    line_up_to number ts (Ok (close_view other)) c d rest = same_start _ _ (style_commands (number + 1) ts ++ rest) (closed_style d other (view_named other d.views))
+    line_up_to number ts (Ok (in_view other edit)) c d rest = same_start _ _ (style_commands (number + 1) ts ++ rest) (done_style d other edit (view_named other d.views))
+    line_up_to number ts (Ok (of_style edit)) c d rest = style_up_to number ts edit c d rest
+    line_up_to number ts (Err fault) c d rest = refl
 
-  up_to : (number : ℕ) (v : OpenView) (ts : List (Option Tree)) → UpTo number v ts
-  up_to number v [] d rest = refl
-  up_to number v (t ∷ ts) d rest = up_to (number + 1) v ts (after d (desk_line t)).0 rest ∙ line_up_to number v ts (desk_line t) (line_kind t) d rest
+    up_to : (number : ℕ) (ts : List (Option Tree)) → UpTo number ts
+    up_to number [] d rest = refl
+    up_to number (t ∷ ts) d rest = up_to (number + 1) ts (after d (desk_line t)).0 rest ∙ line_up_to number ts (desk_line t) (line_kind t) d rest
 
   -- ---- both
 
@@ -305,7 +267,7 @@ pub each_view : EachViewIsAReplay
 each_view tiles scripts has_image can_change document before after line name zoom l h =
     let start = desk_over (opened desk_limit document (pos 0) has_image) in
     let d = desk_after tiles scripts can_change start before in
-    let v = fresh_view name zoom in
+    let v = fresh_view d.style name zoom in
     let next : DeskState = record d { views = d.views ++ v ∷ [] } in
     let number = length before + 2 in
     let opens : (desk_answered tiles scripts can_change d (desk_line line)).0 ≡ next =
@@ -313,4 +275,4 @@ each_view tiles scripts has_image can_change document before after line name zoo
     ∙ ap (λ (o : Option DeskRefusal). (opened_unless o d name zoom).0) h in
     ap (λ (x : DeskState). view_replies tiles scripts can_change number name x after) (after_more tiles scripts can_change start before line ∙ opens)
     ∙ (goes_on tiles scripts can_change number name after next v (found_last name v d.views (self_named name) (not_taken _ _ _ h))
-    ∙ up_to tiles scripts can_change 1 v before start (commands_until_closed number name after))
+    ∙ up_to tiles scripts can_change name zoom 1 before start (commands_until_closed number name after))

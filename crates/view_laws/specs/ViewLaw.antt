@@ -1,12 +1,12 @@
--- Views do not notice one another: the lines of a view are answered as `replay` answers them in a script of the lines of the style and
--- its own alone. Source: own.
-use Rattle.std.specs.Prelude.{◌≡◌, ℕ, ◌+◌, ℤ, pos, List, [], ◌∷◌, ◌++◌, length, Bool, true, false, Option, None, Result, Ok, if◌then◌else◌}
+-- Views do not notice one another: the lines of a view are answered as `replay` answers them in a script of the lines of
+-- the style and its own alone. So each view keeps its own cells: `stats` gives the number that it would give there.
+-- Source: own.
+use Rattle.std.specs.Prelude.{◌≡◌, ℕ, ◌+◌, ℤ, pos, List, [], ◌∷◌, ◌++◌, length, Bool, false, Option, None, Result, Ok, if◌then◌else◌}
 use Rattle.std.specs.Str.{bytes_eq}
 use Rattle.decimal_json.specs.Tree.{Tree}
-use Rattle.edit_script.specs.Edit as edits
 use Rattle.edit_script.specs.Edit.{Edit}
 use Rattle.edit_script.specs.declared.command.LineFault.{LineFault}
-use Rattle.edit_session.specs.Applied.{Reply, applied}
+use Rattle.edit_session.specs.Applied.{Reply, applied, is_of_view}
 use Rattle.edit_session.specs.SessionState.{SessionState, opened}
 use Rattle.style_layout.specs.Shown.{SourceTile}
 use Rattle.view_desk.specs.DeskLines.{DeskEdit, open_view, close_view, in_view, of_style}
@@ -42,15 +42,6 @@ module _ (tiles : List SourceTile) (scripts : List ℕ → Bool) (can_change : B
       ++ view_replies (number + 1) name (desk_answered tiles scripts can_change d (desk_line t)).0 ts
 
 -- ---- the script of one view: the lines of the style, and its own, each with its number
-
--- the edits of lines that belong to a view
-abbrev pub is_of_view : Edit → Bool
-is_of_view (edits.set_zoom zoom) = true
-is_of_view (edits.set_state source layer id members) = true
-is_of_view (edits.remove_state source layer id key) = true
-is_of_view edits.list = true
-is_of_view edits.stats = true
-is_of_view edit = false
 
 abbrev pub style_command : ℕ → Result DeskEdit LineFault → List (ℕ × Edit)
 style_command number (Ok (of_style edit)) = (number, edit) ∷ []

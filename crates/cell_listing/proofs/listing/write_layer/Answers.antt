@@ -7,7 +7,7 @@ use Rattle.cell_listing.proofs.listing.write_layer.Goals as goal
 pub write_below-requires-clause-writable : goal.write_below-requires-clause-writable
 write_below-requires-clause-writable g c =
     let at = c.args.at.now in
-    let tests = g.V.Evaluator.tests in
+    let tests = g.V.TextTests.tests in
     let layer = layer_seen at.layer.now in
     let show = c.show-show.result in
     let is = shown_at tests at.scene.now layer c.exact.result show c.exact.ensures c.show-show.ensures in
@@ -17,7 +17,7 @@ write_below-requires-clause-writable g c =
 pub returns : goal.returns
 returns g c =
     let at = c.args.at.now in
-    let tests = g.V.Evaluator.tests in
+    let tests = g.V.TextTests.tests in
     let layer = layer_seen at.layer.now in
     let old = c.args.out.now.items in
     let mid = c.write_layer_line.new.out.items in

@@ -1,18 +1,32 @@
 use Rattle.std.proofs.Common.{false}
 use Rattle.edit_session.specs.View.{session_state, tiles_of}
+use Rattle.outside_io.specs.WritingLaws.{at_error}
 use Rattle.script_runs.specs.ScriptRun.{lines_run}
 use Rattle.generated_runs.specs.Counted.{counted}
 use Rattle.generated_runs.specs.GeneratedScript.{generated_lines}
-use Rattle.generated_runs.proofs.ScriptLaws.{all_counted, answered}
+use Rattle.generated_runs.proofs.ScriptLaws.{all_counted, due_so_far}
 use Rattle.generated_runs.proofs.counting.count_answers.Goals as goal
 
-pub returns : goal.returns
-returns g c =
+pub returns-clause-answer : goal.returns-clause-answer
+returns-clause-answer g c =
     let images = (goal.HostOp-dyn g c.args.images.now).test c.args.images.now.1 in
     let last_images = (goal.HostOp-dyn g c.args.images.now).test c.answer_all.new.images in
     let can_change = (goal.HostOp-dyn g c.args.images.now).changes c.args.images.now.1 in
     let scripts = (goal.HostOp-dyn g c.args.scripts.now).test c.args.scripts.now.1 in
     let start = session_state c.args.session.now images in
     let run = counted c.args.features (lines_run (tiles_of c.args.session.now) scripts can_change 1 start false (generated_lines c.args.features)) in
-    λ files asked. answered files run asked _ c.finish.result c.finish.ensures
-    (all_counted files c.args.features scripts can_change last_images c.answer_all.new.session c.answer_all.new.self run asked c.in_ok-answer_all.ensures)
+    all_counted c.args.features scripts can_change last_images c.answer_all.new.session c.answer_all.new.self run _ _ c.finish.result
+    c.in_ok-answer_all.ensures.on c.finish.ensures
+
+-- the line of counts does not fit into memory
+pub returns-clause-due : goal.returns-clause-due
+returns-clause-due g c =
+    let images = (goal.HostOp-dyn g c.args.images.now).test c.args.images.now.1 in
+    let can_change = (goal.HostOp-dyn g c.args.images.now).changes c.args.images.now.1 in
+    let scripts = (goal.HostOp-dyn g c.args.scripts.now).test c.args.scripts.now.1 in
+    let start = session_state c.args.session.now images in
+    let run = counted c.args.features (lines_run (tiles_of c.args.session.now) scripts can_change 1 start false (generated_lines c.args.features)) in
+    λ files asked. at_error c.finish.result (due_so_far _ _ run _ files asked c.in_ok-answer_all.ensures.on)
+
+pub returns-in_err-answer_all-clause-due : goal.returns-in_err-answer_all-clause-due
+returns-in_err-answer_all-clause-due g c = λ files asked. at_error c.from_residual.result (c.in_err-answer_all.ensures.due files asked)

@@ -1,5 +1,5 @@
 use Rattle.std.proofs.Common.{◌∙◌, map, string_bytes}
-use Rattle.lint_runs.specs.LintRun.{LintedStyles, lint_parts, none_linted}
+use Rattle.lint_runs.specs.LintRun.{lint_parts, none_linted}
 use Rattle.lint_runs.specs.Views.{styles_seen}
 use Rattle.program_runs.specs.Progress.{Halts}
 use Rattle.program_runs.proofs.Going.{at_residual}

@@ -1,17 +1,32 @@
-use Rattle.std.proofs.Common.{ap}
+use Rattle.std.proofs.Common.{ap, inl, refl, arith}
+use Rattle.outside_io.specs.WritingLaws.{at_error}
 use Rattle.edit_script.specs.View.{command_seen, read_seen}
 use Rattle.edit_session.specs.View.{session_state, reply_seen, tiles_of}
-use Rattle.script_runs.proofs.LineRuns.{reply_given, fault_given}
+use Rattle.script_runs.proofs.LineRuns.{command_steps, fault_given, reply_given}
 use Rattle.script_runs.proofs.script.answer_line.Goals as goal
 
 pub returns-in_ok-answer-in-Ok-clause-gives : goal.returns-in_ok-answer-in-Ok-clause-gives
 returns-in_ok-answer-in-Ok-clause-gives g c =
-    reply_given (tiles_of c.args.session.now) _ _ c.args.line.now.number (session_state c.args.session.now _) c.args.line.now.bytes.now
+    reply_given (tiles_of c.args.session.now) _ _ _ _ c.args.line.now.number (session_state c.args.session.now _) c.args.line.now.bytes.now
     (read_seen c.in_ok-command.field-0) (command_seen c.in-Ok.command) (session_state c.apply.new.self _) (reply_seen c.in_ok-answer-in-Ok.answer) c.answer_of.result
-    c.in_ok-command.ensures (ap read_seen c.in-Ok.is) c.in_ok-answer-in-Ok.ensures.answer c.answer_of.ensures.text c.answer_of.ensures.refused
+    c.in_ok-command.ensures (ap read_seen c.in-Ok.is) c.in_ok-answer-in-Ok.ensures.answer (c.in_ok-answer-in-Ok.ensures.least, c.in_ok-answer-in-Ok.ensures.most)
+    c.answer_of.ensures.text c.answer_of.ensures.refused
+
+pub returns-in_ok-answer-in-Ok-clause-most : goal.returns-in_ok-answer-in-Ok-clause-most
+returns-in_ok-answer-in-Ok-clause-most g c = at_error c.answer_of.result
+    (command_steps (tiles_of c.args.session.now) _ _ _ (session_state c.args.session.now _) c.args.line.now.bytes.now
+    (read_seen c.in_ok-command.field-0) (command_seen c.in-Ok.command) c.in_ok-command.ensures (ap read_seen c.in-Ok.is) c.in_ok-answer-in-Ok.ensures.most)
+
+pub returns-in_err-answer-in-Ok-clause-most : goal.returns-in_err-answer-in-Ok-clause-most
+returns-in_err-answer-in-Ok-clause-most g c = at_error c.from_residual-in_err-answer-in-Ok.result
+    (command_steps (tiles_of c.args.session.now) _ _ _ (session_state c.args.session.now _) c.args.line.now.bytes.now
+    (read_seen c.in_ok-command.field-0) (command_seen c.in-Ok.command) c.in_ok-command.ensures (ap read_seen c.in-Ok.is) c.in_err-answer-in-Ok.ensures.most)
 
 pub returns-in-Err-clause-gives : goal.returns-in-Err-clause-gives
 returns-in-Err-clause-gives g c =
-    fault_given (tiles_of c.args.session.now) _ _ c.args.line.now.number (session_state c.args.session.now _) c.args.line.now.bytes.now
+    fault_given (tiles_of c.args.session.now) _ _ _ _ c.args.line.now.number (session_state c.args.session.now _) c.args.line.now.bytes.now
     (read_seen c.in_ok-command.field-0) c.in-Err.fault c.fault_answer.result
-    c.in_ok-command.ensures (ap read_seen c.in-Err.is) c.fault_answer.ensures.text c.fault_answer.ensures.refused
+    c.in_ok-command.ensures (ap read_seen c.in-Err.is) refl c.fault_answer.ensures.text c.fault_answer.ensures.refused
+
+pub returns-in-Err-clause-most : goal.returns-in-Err-clause-most
+returns-in-Err-clause-most g c = at_error c.fault_answer.result (inl (omega arith))

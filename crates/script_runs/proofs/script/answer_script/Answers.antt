@@ -1,13 +1,14 @@
-use Rattle.std.proofs.Common.{rules, ◌≡◌, ◌∙◌, ◌+◌, ◌++◌, ◌||◌, [], List, ℕ, refl, sym, subst, ap, arith}
+use Rattle.std.proofs.Common.{rules, ◌≡◌, ◌∙◌, ◌||◌, [], List, ℕ, refl, sym, subst, ap, arith}
 use Rattle.edit_session.specs.View.{session_state, tiles_of}
 use Rattle.outside_io.specs.Counts.{raised}
 use Rattle.outside_io.specs.WritingLaws.{gains_both, gains_nothing}
+use Rattle.program_runs.proofs.Counting.{rose_on}
 use Rattle.program_runs.proofs.Pieces.{all_written, cut_by_memory, cut_by_write, none_written, piece_written}
-use Rattle.program_runs.specs.Progress.{HasWritten, IsWritten}
+use Rattle.program_runs.specs.Progress.{HasWritten, IsWritten, Stretch, no_stretch, then_stretch}
 use Rattle.program_runs.specs.declared.status.Ending.{Ending}
 use Rattle.script_runs.specs.ScriptLines.{script_lines}
 use Rattle.script_runs.specs.ScriptRun.{lines_run, script_run, ending_by}
-use Rattle.script_runs.proofs.LineRuns.{writes_line}
+use Rattle.script_runs.proofs.LineRuns.{due_of_line, writes_line}
 use Rattle.script_runs.proofs.script.answer_script.Goals as goal
 
 pub loop-line-init : goal.loop-line-init
@@ -17,7 +18,7 @@ loop-line-init g c = record {
   changes = refl;
   counted = omega arith;
   none_failed = refl;
-  written = ([], gains_nothing (g.O.Sink.held c.args.out.now), none_written _);
+  written = (no_stretch, gains_nothing (g.O.Sink.held c.args.out.now), (omega arith, omega arith), none_written _);
 }
 
 pub loop-line-preserved : goal.loop-line-preserved
@@ -25,6 +26,11 @@ loop-line-preserved g c =
     let scripts = (goal.HostOp-dyn g c.args.scripts.now).test c.args.scripts.now.1 in
     let any : (c.loop-line.any || c.in-Ok.answer.is_refused) ≡ c.if-any.any = search rules in
     let before = c.loop-line.invariant.written in
+    let text = c.in-Ok.answer.text.items in
+    let next =
+    writes_line scripts _ _ c.loop-line.invariant.tiles _ _ c.loop-line.number (session_state c.loop-line.session _) c.loop-line.any
+    _ _ _ c.in-Some.ensures.some _ _ c.loop-line.invariant.changes _ text c.in-Ok.answer.is_refused _ any c.in-Ok.ensures.gives in
+    let piece : Stretch = record { text = text; least = next.0; most = next.1 } in
     record {
       sound = c.answer_line.ensures.sound;
       tiles = c.answer_line.ensures.tiles ∙ c.loop-line.invariant.tiles;
@@ -32,11 +38,10 @@ loop-line-preserved g c =
       counted = omega (arith, c.in-Some.ensures.shorter, c.loop-line.invariant.counted);
       none_failed = c.in-Ok-write_piece.ensures.none_failed ∙ c.loop-line.invariant.none_failed;
       written = (
-        before.0 ++ c.in-Ok.answer.text.items,
-        gains_both _ _ _ before.0 c.in-Ok.answer.text.items before.1 (rw c.as_slice.ensures.value at c.in-Ok-write_piece.ensures.ok),
-        piece_written _ _ _ before.0 c.in-Ok.answer.text.items before.2
-            (writes_line scripts _ _ c.loop-line.invariant.tiles _ _ c.loop-line.invariant.changes c.loop-line.number (session_state c.loop-line.session _) c.loop-line.any
-            _ _ _ c.in-Some.ensures.some _ c.in-Ok.answer.text.items c.in-Ok.answer.is_refused _ any c.in-Ok.ensures.gives),
+        then_stretch before.0 piece,
+        gains_both _ _ _ before.0.text text before.1 (rw c.as_slice.ensures.value at c.in-Ok-write_piece.ensures.ok),
+        rose_on _ _ _ before.0.least before.0.most next.0 next.1 before.2 next.3,
+        piece_written _ _ _ before.0 piece before.3 next.2,
       );
     }
 
@@ -52,21 +57,29 @@ returns-clause-written g c =
     let none : script_lines c.loop-line.rest.now ≡ [] = search rules in
     let ended : HasWritten run before.0 (lines_run (tiles_of c.args.session) scripts can_change c.loop-line.number (session_state c.loop-line.session images) c.loop-line.any []) =
     subst (λ (ls : List (List ℕ)). HasWritten run before.0 (lines_run (tiles_of c.args.session) scripts can_change c.loop-line.number (session_state c.loop-line.session images) c.loop-line.any ls))
-    none before.2 in
-    λ files asked. subst (λ (e : Ending). IsWritten files run asked (g.O.Sink.held c.args.out.now) (g.O.Sink.held c.loop-line.out) e) (sym c.ending_by.ensures)
-    (all_written files run run asked before.0 _ _ before.1 (ending_by c.loop-line.any) ended)
+    none before.3 in
+    λ files asked. subst (λ (e : Ending). IsWritten files run asked (g.O.Sink.held c.args.out.now) (g.O.Sink.held c.loop-line.out) c.args.steps.now c.loop-line.steps e)
+    (sym c.ending_by.ensures) (all_written files run run asked before.0 _ _ before.1 _ _ before.2 (ending_by c.loop-line.any) ended)
 
 pub returns-in_default-answer_line-clause-stop : goal.returns-in_default-answer_line-clause-stop
 returns-in_default-answer_line-clause-stop g c =
+    let scripts = (goal.HostOp-dyn g c.args.scripts.now).test c.args.scripts.now.1 in
+    let can_change = (goal.HostOp-dyn g c.args.images.now).changes c.args.images.now.1 in
     let before = c.loop-line.invariant.written in
-    λ files asked. cut_by_memory files _ _ asked before.0 _ _ before.1 _ _ before.2 c.loop-line.invariant.none_failed
+    λ files asked. cut_by_memory files _ _ asked before.0 _ _ before.1 _ _ before.2 _ _ _ before.3
+    (due_of_line scripts _ _ c.loop-line.invariant.tiles _ _ c.loop-line.number (session_state c.loop-line.session _) c.loop-line.any
+    _ _ _ c.in-Some.ensures.some can_change files asked c.in_default-answer_line.ensures.most)
+    c.loop-line.invariant.none_failed
 
 pub returns-in-Err-clause-stop : goal.returns-in-Err-clause-stop
 returns-in-Err-clause-stop g c =
     let scripts = (goal.HostOp-dyn g c.args.scripts.now).test c.args.scripts.now.1 in
     let before = c.loop-line.invariant.written in
-    λ files asked. cut_by_write files _ _ asked before.0 _ _ before.1 _ _ c.in-Ok.answer.text.items _ _ before.2
-    (writes_line scripts _ _ c.loop-line.invariant.tiles _ _ c.loop-line.invariant.changes c.loop-line.number (session_state c.loop-line.session _) c.loop-line.any
-    _ _ _ c.in-Some.ensures.some _ c.in-Ok.answer.text.items c.in-Ok.answer.is_refused _ refl c.in-Ok.ensures.gives)
+    let text = c.in-Ok.answer.text.items in
+    let next =
+    writes_line scripts _ _ c.loop-line.invariant.tiles _ _ c.loop-line.number (session_state c.loop-line.session _) c.loop-line.any
+    _ _ _ c.in-Some.ensures.some _ _ c.loop-line.invariant.changes _ text c.in-Ok.answer.is_refused _ refl c.in-Ok.ensures.gives in
+    let piece : Stretch = record { text = text; least = next.0; most = next.1 } in
+    λ files asked. cut_by_write files _ _ asked before.0 _ _ before.1 _ _ before.2 _ _ piece _ _ _ before.3 next.2 next.3
     (rw c.as_slice.ensures.value at c.in-Err.ensures.err) (rw c.as_slice.ensures.value at c.in-Err.ensures.one_failed.0)
     (c.in-Err.ensures.one_failed.1 ∙ ap raised c.loop-line.invariant.none_failed)

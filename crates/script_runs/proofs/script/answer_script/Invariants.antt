@@ -1,7 +1,8 @@
-use Rattle.std.proofs.Common.{◌≡◌, ◌≤◌, ◌+◌, ℕ, List, length}
+use Rattle.std.proofs.Common.{◌≡◌, ◌≤◌, ◌+◌, length}
 use Rattle.edit_session.specs.View.{session_state, tiles_of, IsSoundSession}
 use Rattle.outside_io.specs.Writing.{Gains}
-use Rattle.program_runs.specs.Progress.{HasWritten}
+use Rattle.program_runs.specs.Progress.{Stretch, HasWritten}
+use Rattle.program_runs.specs.Written.{RoseBetween}
 use Rattle.script_runs.specs.ScriptLines.{script_lines}
 use Rattle.script_runs.specs.ScriptRun.{lines_run, script_run}
 use Rattle.script_runs.proofs.script.answer_script.Given as goal
@@ -13,13 +14,14 @@ invariant-loop-line g l =
     let can_change = (goal.HostOp-dyn g l.fn.images.now).changes l.fn.images.now.1 in
     let scripts = (goal.HostOp-dyn g l.scripts.now).test l.scripts.now.1 in
     record {
-      sound : IsSoundSession l.session;
+      sound : IsSoundSession l.session images scripts;
       tiles : tiles_of l.session ≡ tiles_of l.fn.session;
       changes : (goal.HostOp-dyn g l.images.now).changes l.images.now.1 ≡ can_change;
       counted : l.number + length l.rest ≤ length l.fn.script + 1;
       none_failed : g.O.Sink.faults l.out ≡ g.O.Sink.faults l.fn.out;
-      written : (text : List ℕ) × Gains (g.O.Sink.held l.fn.out) (g.O.Sink.held l.out) text
-          × HasWritten (script_run (tiles_of l.fn.session) scripts can_change (session_state l.fn.session images_first) l.fn.script) text
+      written : (s : Stretch) × Gains (g.O.Sink.held l.fn.out) (g.O.Sink.held l.out) s.text
+          × RoseBetween l.fn.steps l.steps s.least s.most
+          × HasWritten (script_run (tiles_of l.fn.session) scripts can_change (session_state l.fn.session images_first) l.fn.script) s
           (lines_run (tiles_of l.fn.session) scripts can_change l.number (session_state l.session images) l.any (script_lines l.rest));
     }
 

@@ -8,6 +8,9 @@ use Rattle.style_program.specs.ReplayRun.{answered_by}
 use Rattle.view_desk.specs.DeskRun.{desk_script_run}
 use Rattle.style_program.proofs.replay_command.answer_lines.Goals as goal
 
+pub answer_desk-requires : goal.answer_desk-requires
+answer_desk-requires g c = c.new-desk.ensures.sound _ _ c.requires
+
 pub returns-in-Replay-clause-stop : goal.returns-in-Replay-clause-stop
 returns-in-Replay-clause-stop g c = λ files asked.
     let images = (goal.HostOp-dyn g c.args.images.now).test c.args.images.now.1 in
@@ -19,7 +22,7 @@ returns-in-Replay-clause-stop g c = λ files asked.
     ap (λ (text : List ℕ). script_run (tiles_of s) scripts can_change (session_state s images) text) c.as_slice.ensures.value
     ∙ ap (λ kind. answered_by kind scripts can_change (tiles_of s) (session_state s images) c.args.opened.script.items) (sym c.in-Replay.is) in
     subst (λ (r : Run). IfErr c.answer_script.result (IsCut files r asked (g.O.Sink.held c.args.out.now) (g.O.Sink.held c.answer_script.new.out)
-    (g.O.Sink.faults c.args.out.now) (g.O.Sink.faults c.answer_script.new.out))) run (c.answer_script.ensures.stop files asked)
+    c.args.steps.now c.answer_script.new.steps (g.O.Sink.faults c.args.out.now) (g.O.Sink.faults c.answer_script.new.out))) run (c.answer_script.ensures.stop files asked)
 
 pub returns-clause-written : goal.returns-clause-written
 returns-clause-written g c = λ files asked.
@@ -29,7 +32,8 @@ returns-clause-written g c = λ files asked.
     let s = c.args.opened.session in
     let run = (λ k. desk_script_run (c.new-desk.ensures.tiles k) scripts can_change (c.new-desk.ensures.state images k) (c.as_slice-in-Desk.ensures.value k))
     ∙ ap (λ kind. answered_by kind scripts can_change (tiles_of s) (session_state s images) c.args.opened.script.items) (sym c.in-Desk.is) in
-    subst (λ (r : Run). IfOk c.answer_desk.result (IsWritten files r asked (g.O.Sink.held c.args.out.now) (g.O.Sink.held c.answer_desk.new.out)))
+    subst (λ (r : Run). IfOk c.answer_desk.result (IsWritten files r asked (g.O.Sink.held c.args.out.now) (g.O.Sink.held c.answer_desk.new.out)
+    c.args.steps.now c.answer_desk.new.steps))
     run (c.answer_desk.ensures.written files asked)
 
 pub returns-clause-stop : goal.returns-clause-stop
@@ -41,4 +45,4 @@ returns-clause-stop g c = λ files asked.
     let run = (λ k. desk_script_run (c.new-desk.ensures.tiles k) scripts can_change (c.new-desk.ensures.state images k) (c.as_slice-in-Desk.ensures.value k))
     ∙ ap (λ kind. answered_by kind scripts can_change (tiles_of s) (session_state s images) c.args.opened.script.items) (sym c.in-Desk.is) in
     subst (λ (r : Run). IfErr c.answer_desk.result (IsCut files r asked (g.O.Sink.held c.args.out.now) (g.O.Sink.held c.answer_desk.new.out)
-    (g.O.Sink.faults c.args.out.now) (g.O.Sink.faults c.answer_desk.new.out))) run (c.answer_desk.ensures.stop files asked)
+    c.args.steps.now c.answer_desk.new.steps (g.O.Sink.faults c.args.out.now) (g.O.Sink.faults c.answer_desk.new.out))) run (c.answer_desk.ensures.stop files asked)

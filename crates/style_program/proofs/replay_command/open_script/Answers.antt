@@ -9,6 +9,9 @@ use Rattle.style_program.specs.WordsView.{script_words}
 use Rattle.style_program.proofs.ScriptRuns.{script_comes, script_halts, opening_halts}
 use Rattle.style_program.proofs.replay_command.open_script.Goals as goal
 
+pub returns-clause-sound : goal.returns-clause-sound
+returns-clause-sound g c = λ images scripts. c.in_ok-session.ensures.sound images scripts
+
 pub returns-clause-on : goal.returns-clause-on
 returns-clause-on g c =
     let files = g.F.Files.told c.args.files.now in

@@ -15,7 +15,8 @@ use Rattle.style_program.proofs.AtFirst.{of_ok}
 use Rattle.style_program.proofs.replay_command.open_shown.Goals as goal
 
 pub returns-in-Ok-clause-sound : goal.returns-in-Ok-clause-sound
-returns-in-Ok-clause-sound c = of_ok IsSoundSession c.in_ok-session.field-0 c.in-Ok.session c.in-Ok.is c.in_ok-session.ensures.sound
+returns-in-Ok-clause-sound c = λ images scripts.
+    of_ok (λ session. IsSoundSession session images scripts) c.in_ok-session.field-0 c.in-Ok.session c.in-Ok.is (c.in_ok-session.ensures.sound images scripts)
 
 pub returns-in-Ok-clause-tiles : goal.returns-in-Ok-clause-tiles
 returns-in-Ok-clause-tiles c =

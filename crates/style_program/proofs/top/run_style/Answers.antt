@@ -13,9 +13,9 @@ returns-clause-promises g c = moved
     (run_of ((goal.HostOp-dyn g p).test p.1) ((goal.HostOp-dyn g q).test q.1) ((goal.HostOp-dyn g p).changes p.1) (map string_bytes c.args.words.now))
     c.run_words.result
     (outside (g.F.Files.faults c.args.files.now) (g.F.Files.failed c.args.files.now) (g.F.Files.asked c.args.files.now) (g.O.Sink.held c.args.out.now)
-    (g.O.Sink.faults c.args.out.now) (g.E.Sink.held c.args.err.now) (g.E.Sink.faults c.args.err.now))
+    (g.O.Sink.faults c.args.out.now) (g.E.Sink.held c.args.err.now) (g.E.Sink.faults c.args.err.now) c.args.steps.now)
     (outside (g.F.Files.faults c.run_words.new.files) (g.F.Files.failed c.run_words.new.files) (g.F.Files.asked c.run_words.new.files) (g.O.Sink.held c.run_words.new.out)
-    (g.O.Sink.faults c.run_words.new.out) (g.E.Sink.held c.run_words.new.err) (g.E.Sink.faults c.run_words.new.err))
+    (g.O.Sink.faults c.run_words.new.out) (g.E.Sink.held c.run_words.new.err) (g.E.Sink.faults c.run_words.new.err) c.run_words.new.steps)
     (c.run_words.new.files ≡ c.args.files.now))
     c.deref_box_mut-1.ensures.value.1 c.deref_box-1.ensures.1 c.run_words.ensures.promises
 

@@ -1,8 +1,12 @@
 use Rattle.std.proofs.Common.{refl, map, string_bytes}
 use Rattle.outside_io.specs.WritingLaws.{front_of_nothing}
-use Rattle.program_runs.specs.Outcome.{said}
-use Rattle.program_runs.specs.Progress.{outcome_of}
+use Rattle.program_runs.specs.Progress.{outcome_of, stretch_outcome, IsAnswered}
+use Rattle.program_runs.specs.Runs.{after_counts}
+use Rattle.style_program.specs.Commands.{run_of}
+use Rattle.style_program.specs.PreparedRun.{IsPrepared}
 use Rattle.style_program.specs.Words.{asked}
+use Rattle.style_program.specs.declared.reply.PreparedRun.TheVariants as runs
+use Rattle.style_program.proofs.AnsweredSteps.{answered_rose, never_both}
 use Rattle.style_program.proofs.Kept.{written, not_written, lacks_memory, stops_unread}
 use Rattle.style_program.proofs.ListedFaults.{found_is_listed}
 use Rattle.style_program.proofs.ScriptRuns.{all_answered, memory_lacked, write_failed}
@@ -12,69 +16,141 @@ use Rattle.style_program.proofs.top.run_words.Goals as goal
 
 pub returns-in-Ok-clause-promises : goal.returns-in-Ok-clause-promises
 returns-in-Ok-clause-promises g c =
-    written _ _ _ c.prepared.ensures.fileless _ _ _ _ _ _ _ _ _ _ _ _ _ _ (outcome_of c.in-Ok-Ended.answer) (rw c.in-Ok-Ended.field-0-is at c.in-Ok-Ended.ensures.run)
-    c.in-Ok-Ended.ensures.failed c.write_answer.ensures.out c.write_answer.ensures.err c.in-Ok.ensures.ok c.in-Ok.ensures.none_failed
-    c.status.result c.status.ensures
+    let images = (goal.HostOp-dyn g c.args.images.now).test c.args.images.now.1 in
+    let scripts = (goal.HostOp-dyn g c.args.call.scripts.now).test c.args.call.scripts.now.1 in
+    let can_change = (goal.HostOp-dyn g c.args.images.now).changes c.args.images.now.1 in
+    let run = run_of images scripts can_change (map string_bytes c.args.call.words.now) in
+    let made : IsAnswered (g.F.Files.told c.args.files.now) run (g.F.Files.asked c.args.files.now) (g.F.Files.asked c.prepared.new.files)
+    c.args.steps.now c.prepared.new.steps c.in-Ok-Ended.answer = rw c.in-Ok-Ended.field-0-is at c.in-Ok-Ended.ensures.run in
+    written _ _ _ c.prepared.ensures.fileless _ _ _ _ _ _ _ _ _ _ _ _ _ _ _ _ (after_counts made.0 made.1 (outcome_of c.in-Ok-Ended.answer)) made.2
+    c.in-Ok-Ended.ensures.failed (rw c.in-Ok-Ended.field-0-is at c.write_answer.ensures.out) (rw c.in-Ok-Ended.field-0-is at c.write_answer.ensures.err) (answered_rose _ _ made.0 made.1 made.3)
+    (rw c.in-Ok-Ended.field-0-is at c.in-Ok.ensures.ok) c.in-Ok.ensures.none_failed c.status.result (rw c.in-Ok-Ended.field-0-is at c.status.ensures)
 
 pub returns-in-Ok-Ended-clause-promises : goal.returns-in-Ok-Ended-clause-promises
 returns-in-Ok-Ended-clause-promises g c =
-    not_written _ _ _ c.prepared.ensures.fileless _ _ _ _ _ _ _ _ _ _ _ _ _ _ (outcome_of c.in-Ok-Ended.answer) (rw c.in-Ok-Ended.field-0-is at c.in-Ok-Ended.ensures.run)
-    c.in-Ok-Ended.ensures.failed c.write_answer.ensures.out c.write_answer.ensures.err c.in-Err.ensures.one_failed
+    let images = (goal.HostOp-dyn g c.args.images.now).test c.args.images.now.1 in
+    let scripts = (goal.HostOp-dyn g c.args.call.scripts.now).test c.args.call.scripts.now.1 in
+    let can_change = (goal.HostOp-dyn g c.args.images.now).changes c.args.images.now.1 in
+    let run = run_of images scripts can_change (map string_bytes c.args.call.words.now) in
+    let made : IsAnswered (g.F.Files.told c.args.files.now) run (g.F.Files.asked c.args.files.now) (g.F.Files.asked c.prepared.new.files)
+    c.args.steps.now c.prepared.new.steps c.in-Ok-Ended.answer = rw c.in-Ok-Ended.field-0-is at c.in-Ok-Ended.ensures.run in
+    not_written _ _ _ c.prepared.ensures.fileless _ _ _ _ _ _ _ _ _ _ _ _ _ _ _ _ (after_counts made.0 made.1 (outcome_of c.in-Ok-Ended.answer)) made.2
+    c.in-Ok-Ended.ensures.failed (rw c.in-Ok-Ended.field-0-is at c.write_answer.ensures.out) (rw c.in-Ok-Ended.field-0-is at c.write_answer.ensures.err) (answered_rose _ _ made.0 made.1 made.3) (rw c.in-Ok-Ended.field-0-is at c.in-Err.ensures.one_failed)
 
 pub returns-in-Ok-clause-listed : goal.returns-in-Ok-clause-listed
 returns-in-Ok-clause-listed g c = λ is.
+    let images = (goal.HostOp-dyn g c.args.images.now).test c.args.images.now.1 in
+    let scripts = (goal.HostOp-dyn g c.args.call.scripts.now).test c.args.call.scripts.now.1 in
+    let can_change = (goal.HostOp-dyn g c.args.images.now).changes c.args.images.now.1 in
+    let run = run_of images scripts can_change (map string_bytes c.args.call.words.now) in
+    let made : IsAnswered (g.F.Files.told c.args.files.now) run (g.F.Files.asked c.args.files.now) (g.F.Files.asked c.prepared.new.files)
+    c.args.steps.now c.prepared.new.steps c.in-Ok-Ended.answer = rw c.in-Ok-Ended.field-0-is at c.in-Ok-Ended.ensures.run in
     found_is_listed c.faults_are_listed.ensures (g.F.Files.told c.args.files.now) _ _ _ (map string_bytes c.args.call.words.now)
-    (asked (map string_bytes c.args.call.words.now)) _ _ (outcome_of c.in-Ok-Ended.answer) _ refl (rw c.in-Ok-Ended.field-0-is at c.in-Ok-Ended.ensures.run) c.status.ensures is
+    (asked (map string_bytes c.args.call.words.now)) _ _ (after_counts made.0 made.1 (outcome_of c.in-Ok-Ended.answer)) _ refl made.2 (rw c.in-Ok-Ended.field-0-is at c.status.ensures) is
 
 -- ---- it came to a script, whose lines are answered
 
 pub answer_lines-requires : goal.answer_lines-requires
-answer_lines-requires g c = (rw c.in-Ok-Script.field-0-is at c.in-Ok-Script.ensures.run).0
+answer_lines-requires g c =
+    let images = (goal.HostOp-dyn g c.args.images.now).test c.args.images.now.1 in
+    let scripts = (goal.HostOp-dyn g c.args.call.scripts.now).test c.args.call.scripts.now.1 in
+    let can_change = (goal.HostOp-dyn g c.args.images.now).changes c.args.images.now.1 in
+    let then_images = (goal.HostOp-dyn g c.args.images.now).test c.prepared.new.images in
+    let then_changes = (goal.HostOp-dyn g c.args.images.now).changes c.prepared.new.images in
+    let run = run_of images scripts can_change (map string_bytes c.args.call.words.now) in
+    let ready : IsPrepared then_images scripts then_changes (g.F.Files.told c.args.files.now) run (g.F.Files.asked c.args.files.now)
+    (g.F.Files.asked c.prepared.new.files) c.args.steps.now c.prepared.new.steps (runs.Script c.in-Ok-Script.opened) =
+    rw c.in-Ok-Script.field-0-is at c.in-Ok-Script.ensures.run in
+    rw c.in-Ok-Script.field-0-is ready.0
 
 pub returns-in-Ok-answer_lines-clause-promises : goal.returns-in-Ok-answer_lines-clause-promises
 returns-in-Ok-answer_lines-clause-promises g c =
     let files = g.F.Files.told c.args.files.now in
     let asked_new = g.F.Files.asked c.prepared.new.files in
-    let comes = (rw c.in-Ok-Script.field-0-is at c.in-Ok-Script.ensures.run).1 in
-    all_answered files _ _ (g.F.Files.asked c.args.files.now) asked_new comes _ c.prepared.ensures.fileless _ _ _ _ _ _ _ _ _ _ c.in-Ok-Script.ensures.failed
-    c.in-Ok-answer_lines.ending c.status-in-Ok-answer_lines.result (c.in-Ok-answer_lines.ensures.written files asked_new) c.in-Ok-answer_lines.ensures.none_failed c.status-in-Ok-answer_lines.ensures
+    let images = (goal.HostOp-dyn g c.args.images.now).test c.args.images.now.1 in
+    let scripts = (goal.HostOp-dyn g c.args.call.scripts.now).test c.args.call.scripts.now.1 in
+    let can_change = (goal.HostOp-dyn g c.args.images.now).changes c.args.images.now.1 in
+    let then_images = (goal.HostOp-dyn g c.args.images.now).test c.prepared.new.images in
+    let then_changes = (goal.HostOp-dyn g c.args.images.now).changes c.prepared.new.images in
+    let run = run_of images scripts can_change (map string_bytes c.args.call.words.now) in
+    let ready : IsPrepared then_images scripts then_changes (g.F.Files.told c.args.files.now) run (g.F.Files.asked c.args.files.now)
+    (g.F.Files.asked c.prepared.new.files) c.args.steps.now c.prepared.new.steps (runs.Script c.in-Ok-Script.opened) =
+    rw c.in-Ok-Script.field-0-is at c.in-Ok-Script.ensures.run in
+    all_answered files _ _ (g.F.Files.asked c.args.files.now) asked_new ready.1 _ c.prepared.ensures.fileless _ _ _ _ _ _ _ _ _ _ _ _ _ ready.2 c.in-Ok-Script.ensures.failed
+    c.in-Ok-answer_lines.ending c.status-in-Ok-answer_lines.result (rw c.in-Ok-Script.field-0-is at c.in-Ok-answer_lines.ensures.written files asked_new) c.in-Ok-answer_lines.ensures.none_failed c.status-in-Ok-answer_lines.ensures
 
 pub returns-in-Ok-answer_lines-clause-listed : goal.returns-in-Ok-answer_lines-clause-listed
 returns-in-Ok-answer_lines-clause-listed g c = λ is.
     let files = g.F.Files.told c.args.files.now in
     let asked_new = g.F.Files.asked c.prepared.new.files in
-    let comes = (rw c.in-Ok-Script.field-0-is at c.in-Ok-Script.ensures.run).1 in
-    let ended = c.in-Ok-answer_lines.ensures.written files asked_new in
+    let images = (goal.HostOp-dyn g c.args.images.now).test c.args.images.now.1 in
+    let scripts = (goal.HostOp-dyn g c.args.call.scripts.now).test c.args.call.scripts.now.1 in
+    let can_change = (goal.HostOp-dyn g c.args.images.now).changes c.args.images.now.1 in
+    let then_images = (goal.HostOp-dyn g c.args.images.now).test c.prepared.new.images in
+    let then_changes = (goal.HostOp-dyn g c.args.images.now).changes c.prepared.new.images in
+    let run = run_of images scripts can_change (map string_bytes c.args.call.words.now) in
+    let ready : IsPrepared then_images scripts then_changes (g.F.Files.told c.args.files.now) run (g.F.Files.asked c.args.files.now)
+    (g.F.Files.asked c.prepared.new.files) c.args.steps.now c.prepared.new.steps (runs.Script c.in-Ok-Script.opened) =
+    rw c.in-Ok-Script.field-0-is at c.in-Ok-Script.ensures.run in
+    let ended = rw c.in-Ok-Script.field-0-is at c.in-Ok-answer_lines.ensures.written files asked_new in
+    let made = stretch_outcome ended.0 c.in-Ok-answer_lines.ending in
     found_is_listed c.faults_are_listed.ensures files _ _ _ (map string_bytes c.args.call.words.now)
-    (asked (map string_bytes c.args.call.words.now)) _ _ (said ended.0 c.in-Ok-answer_lines.ending) _ refl
-    (comes.outcomes asked_new (said ended.0 c.in-Ok-answer_lines.ending) ended.1) c.status-in-Ok-answer_lines.ensures is
+    (asked (map string_bytes c.args.call.words.now)) _ _ made _ refl (ready.1.outcomes asked_new made ended.1) c.status-in-Ok-answer_lines.ensures is
 
 pub returns-in-Err-NoMemory-answer_lines-clause-promises : goal.returns-in-Err-NoMemory-answer_lines-clause-promises
 returns-in-Err-NoMemory-answer_lines-clause-promises g c =
     let files = g.F.Files.told c.args.files.now in
     let asked_new = g.F.Files.asked c.prepared.new.files in
-    let comes = (rw c.in-Ok-Script.field-0-is at c.in-Ok-Script.ensures.run).1 in
-    memory_lacked files _ _ (g.F.Files.asked c.args.files.now) asked_new comes _ c.prepared.ensures.fileless _ _ _ _ _ _ _ _ _ _ c.in-Ok-Script.ensures.failed
-    (rw c.in-Err-NoMemory-answer_lines.field-0-is at c.in-Err-NoMemory-answer_lines.ensures.stop files asked_new)
+    let images = (goal.HostOp-dyn g c.args.images.now).test c.args.images.now.1 in
+    let scripts = (goal.HostOp-dyn g c.args.call.scripts.now).test c.args.call.scripts.now.1 in
+    let can_change = (goal.HostOp-dyn g c.args.images.now).changes c.args.images.now.1 in
+    let then_images = (goal.HostOp-dyn g c.args.images.now).test c.prepared.new.images in
+    let then_changes = (goal.HostOp-dyn g c.args.images.now).changes c.prepared.new.images in
+    let run = run_of images scripts can_change (map string_bytes c.args.call.words.now) in
+    let ready : IsPrepared then_images scripts then_changes (g.F.Files.told c.args.files.now) run (g.F.Files.asked c.args.files.now)
+    (g.F.Files.asked c.prepared.new.files) c.args.steps.now c.prepared.new.steps (runs.Script c.in-Ok-Script.opened) =
+    rw c.in-Ok-Script.field-0-is at c.in-Ok-Script.ensures.run in
+    memory_lacked files _ _ (g.F.Files.asked c.args.files.now) asked_new ready.1 _ c.prepared.ensures.fileless _ _ _ _ _ _ _ _ _ _ _ _ _ ready.2 c.in-Ok-Script.ensures.failed
+    (rw (c.in-Err-NoMemory-answer_lines.field-0-is, c.in-Ok-Script.field-0-is) at c.in-Err-NoMemory-answer_lines.ensures.stop files asked_new)
 
 pub returns-in-Ok-Script-clause-promises : goal.returns-in-Ok-Script-clause-promises
 returns-in-Ok-Script-clause-promises g c =
     let files = g.F.Files.told c.args.files.now in
     let asked_new = g.F.Files.asked c.prepared.new.files in
-    let comes = (rw c.in-Ok-Script.field-0-is at c.in-Ok-Script.ensures.run).1 in
-    write_failed files _ _ (g.F.Files.asked c.args.files.now) asked_new comes _ c.prepared.ensures.fileless _ _ _ _ _ _ _ _ _ _ c.in-Ok-Script.ensures.failed
-    (rw c.in-Err-Unwritten.field-0-is at c.in-Err-Unwritten.ensures.stop files asked_new)
+    let images = (goal.HostOp-dyn g c.args.images.now).test c.args.images.now.1 in
+    let scripts = (goal.HostOp-dyn g c.args.call.scripts.now).test c.args.call.scripts.now.1 in
+    let can_change = (goal.HostOp-dyn g c.args.images.now).changes c.args.images.now.1 in
+    let then_images = (goal.HostOp-dyn g c.args.images.now).test c.prepared.new.images in
+    let then_changes = (goal.HostOp-dyn g c.args.images.now).changes c.prepared.new.images in
+    let run = run_of images scripts can_change (map string_bytes c.args.call.words.now) in
+    let ready : IsPrepared then_images scripts then_changes (g.F.Files.told c.args.files.now) run (g.F.Files.asked c.args.files.now)
+    (g.F.Files.asked c.prepared.new.files) c.args.steps.now c.prepared.new.steps (runs.Script c.in-Ok-Script.opened) =
+    rw c.in-Ok-Script.field-0-is at c.in-Ok-Script.ensures.run in
+    write_failed files _ _ (g.F.Files.asked c.args.files.now) asked_new ready.1 _ c.prepared.ensures.fileless _ _ _ _ _ _ _ _ _ _ _ _ _ ready.2 c.in-Ok-Script.ensures.failed
+    (rw (c.in-Err-Unwritten.field-0-is, c.in-Ok-Script.field-0-is) at c.in-Err-Unwritten.ensures.stop files asked_new)
+
+pub returns-in-Ok-answer_lines-clause-steps : goal.returns-in-Ok-answer_lines-clause-steps
+returns-in-Ok-answer_lines-clause-steps g c = λ none.
+    absurd (never_both _ (rw c.in-Ok-Script.field-0-is at c.in-Ok-Script.ensures.script) none)
+
+pub returns-in-Err-NoMemory-answer_lines-clause-steps : goal.returns-in-Err-NoMemory-answer_lines-clause-steps
+returns-in-Err-NoMemory-answer_lines-clause-steps g c = λ none.
+    absurd (never_both _ (rw c.in-Ok-Script.field-0-is at c.in-Ok-Script.ensures.script) none)
+
+pub returns-in-Ok-Script-clause-steps : goal.returns-in-Ok-Script-clause-steps
+returns-in-Ok-Script-clause-steps g c = λ none.
+    absurd (never_both _ (rw c.in-Ok-Script.field-0-is at c.in-Ok-Script.ensures.script) none)
 
 -- ---- the run has no answer
 
 pub returns-in-Err-NoMemory-clause-promises : goal.returns-in-Err-NoMemory-clause-promises
 returns-in-Err-NoMemory-clause-promises g c =
     let stopped = rw c.in-Err-NoMemory.field-0-is at c.in-Err-NoMemory.ensures.stop in
-    lacks_memory _ _ _ c.prepared.ensures.fileless _ _ _ _ _ _ (g.O.Sink.held c.args.out.now) _ _ _ _ _ stopped.0 stopped.1
+    lacks_memory _ _ _ c.prepared.ensures.fileless _ _ _ _ _ _ _ _ c.in-Err-NoMemory.ensures.due (g.O.Sink.held c.args.out.now) _ _ _ _ _ stopped.0 stopped.1
     (λ _ o _ _. front_of_nothing (g.O.Sink.held c.args.out.now) o.out) refl
 
 pub returns-clause-promises : goal.returns-clause-promises
 returns-clause-promises g c =
-    stops_unread _ _ _ c.prepared.ensures.fileless _ _ _ _ _ _ _ _ _ _ _ _ c.in-Err-Unread.name.now
+    stops_unread _ _ _ c.prepared.ensures.fileless _ _ _ _ _ _ _ _ c.in-Err-Unread.ensures.due _ _ _ _ _ _ c.in-Err-Unread.name.now
     (rw c.in-Err-Unread.field-0-is at c.in-Err-Unread.ensures.stop)
-    c.write_unread.ensures.front c.write_unread.result c.write_unread.ensures.status
+    (rw c.in-Err-Unread.field-0-is at c.write_unread.ensures.front) c.write_unread.result (rw c.in-Err-Unread.field-0-is at c.write_unread.ensures.status)

@@ -1,10 +1,11 @@
 use Rattle.std.proofs.lemmas.Result.{on_err_weaker}
-use Rattle.view_desk.proofs.Pieces.{given_on_err, later_prefix, longer_prefix}
+use Rattle.outside_io.specs.WritingLaws.{at_error}
+use Rattle.view_desk.proofs.Pieces.{later_prefix, longer_prefix}
 use Rattle.view_desk.proofs.script.write_pieces.Goals as goal
 
 pub returns-in_err-write_piece-clause-err : goal.returns-in_err-write_piece-clause-err
 returns-in_err-write_piece-clause-err g c =
-    given_on_err c.from_residual.result (longer_prefix _ _ c.args.first.now c.args.second.now c.in_err-write_piece.ensures.err)
+    at_error c.from_residual.result (longer_prefix _ _ c.args.first.now c.args.second.now c.in_err-write_piece.ensures.err)
 
 pub returns-clause-err : goal.returns-clause-err
 returns-clause-err g c =

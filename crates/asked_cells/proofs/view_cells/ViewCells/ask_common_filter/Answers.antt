@@ -13,7 +13,7 @@ pub returns-then-has_feature_cells-clause-asks : goal.returns-then-has_feature_c
 returns-then-has_feature_cells-clause-asks g c = λ x meaning s right meant.
     let at = c.args.at.now in
     let b = c.args.self.now.buckets in
-    let scene = scene_seen g.V.Evaluator.tests at.scene.now in
+    let scene = scene_seen g.V.TextTests.tests at.scene.now in
     let own : has_own_cells (x Filter) ≡ true =
     sym (own_cells_same (g.E.CountedEvaluator.slots (evaluator_of b)) Filter (x Filter) (source_of b at.number Filter) (s Filter))
     ∙ (ap has_feature_cells (sym c.source-source.ensures) ∙ (sym c.has_feature_cells.ensures ∙ c.if-has_feature_cells.true)) in
@@ -25,7 +25,7 @@ pub returns-clause-asks : goal.returns-clause-asks
 returns-clause-asks g c = λ x meaning s right meant.
     let at = c.args.at.now in
     let b = c.args.self.now.buckets in
-    let scene = scene_seen g.V.Evaluator.tests at.scene.now in
+    let scene = scene_seen g.V.TextTests.tests at.scene.now in
     let own : has_own_cells (x Filter) ≡ false =
     sym (own_cells_same (g.E.CountedEvaluator.slots (evaluator_of b)) Filter (x Filter) (source_of b at.number Filter) (s Filter))
     ∙ (ap has_feature_cells (sym c.source-source.ensures) ∙ (sym c.has_feature_cells.ensures ∙ c.if-has_feature_cells.false)) in

@@ -23,7 +23,7 @@ new-features-requires g c =
 pub loop-found-init : goal.loop-found-init
 loop-found-init g c =
     let at = c.args.at.now in
-    let scene = scene_seen g.V.Evaluator.tests at.scene.now in
+    let scene = scene_seen g.V.TextTests.tests at.scene.now in
     let layer = layer_seen at.layer.now in
     let all = numbered 0 (layer_features (map tile_seen c.args.tiles.now) layer) in
     let fs = layer_features (map tile_seen c.args.tiles.now) layer in
@@ -56,7 +56,7 @@ ask_feature-requires-clause-feature g c =
 pub loop-found-preserved : goal.loop-found-preserved
 loop-found-preserved g c =
     let at = c.args.at.now in
-    let scene = scene_seen g.V.Evaluator.tests at.scene.now in
+    let scene = scene_seen g.V.TextTests.tests at.scene.now in
     let layer = layer_seen at.layer.now in
     let all = numbered 0 (layer_features (map tile_seen c.args.tiles.now) layer) in
     let first = c.args.self.now.buckets in
@@ -104,7 +104,7 @@ returns-in_err-more-clause-sources g c = leaves_then c.args.at.now.number c.args
 pub returns-in_err-more-clause-asks : goal.returns-in_err-more-clause-asks
 returns-in_err-more-clause-asks g c = λ x meaning s right common meant.
     let at = c.args.at.now in
-    let scene = scene_seen g.V.Evaluator.tests at.scene.now in
+    let scene = scene_seen g.V.TextTests.tests at.scene.now in
     let layer = layer_seen at.layer.now in
     let all = numbered 0 (layer_features (map tile_seen c.args.tiles.now) layer) in
     let first = c.args.self.now.buckets in
@@ -141,7 +141,7 @@ returns-in_err-number-clause-sources g c = leaves_then c.args.at.now.number c.ar
 pub returns-in_err-number-clause-asks : goal.returns-in_err-number-clause-asks
 returns-in_err-number-clause-asks g c = λ x meaning s right common meant.
     let at = c.args.at.now in
-    let scene = scene_seen g.V.Evaluator.tests at.scene.now in
+    let scene = scene_seen g.V.TextTests.tests at.scene.now in
     let layer = layer_seen at.layer.now in
     let all = numbered 0 (layer_features (map tile_seen c.args.tiles.now) layer) in
     let first = c.args.self.now.buckets in
@@ -175,7 +175,7 @@ returns-in_err-number-clause-asks g c = λ x meaning s right common meant.
 pub returns-clause-asks : goal.returns-clause-asks
 returns-clause-asks g c = λ x meaning s right common meant.
     let at = c.args.at.now in
-    let scene = scene_seen g.V.Evaluator.tests at.scene.now in
+    let scene = scene_seen g.V.TextTests.tests at.scene.now in
     let layer = layer_seen at.layer.now in
     let all = numbered 0 (layer_features (map tile_seen c.args.tiles.now) layer) in
     let asked = λ (nfs : List (ℕ × Feature)). each_asked x scene layer nfs in

@@ -16,7 +16,7 @@ use Rattle.asked_cells.proofs.view_cells.ViewCells.ask_each.Given as goal
 
 abbrev pub invariant-loop-found : goal.invariant-loop-found
 invariant-loop-found g l =
-    let scene = scene_seen g.V.Evaluator.tests l.at.scene.now in
+    let scene = scene_seen g.V.TextTests.tests l.at.scene.now in
     let layer = layer_seen l.at.layer.now in
     let all = layer_features (map tile_seen l.fn.tiles) layer in
     let asked = λ (x : LayerExpressions) (nfs : List (ℕ × Feature)). each_asked x scene layer nfs in

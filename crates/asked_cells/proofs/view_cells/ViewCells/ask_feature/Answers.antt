@@ -10,7 +10,7 @@ use Rattle.asked_cells.proofs.view_cells.ViewCells.ask_feature.Goals as goal
 pub returns-in-Some-clause-asks : goal.returns-in-Some-clause-asks
 returns-in-Some-clause-asks g c = λ x meaning s right answer meant.
     let at = c.args.at.now in
-    let scene = scene_seen g.V.Evaluator.tests at.scene.now in
+    let scene = scene_seen g.V.TextTests.tests at.scene.now in
     let layer = layer_seen at.layer.now in
     let f = feature_seen c.args.feature.now in
     let known = subst (λ (a : Option Bool). IsAnswer x scene layer a f) c.in-Some.is answer in
@@ -23,6 +23,6 @@ returns-in-Some-clause-asks g c = λ x meaning s right answer meant.
 pub returns-in-None-clause-asks : goal.returns-in-None-clause-asks
 returns-in-None-clause-asks g c = λ x meaning s right answer meant.
     let at = c.args.at.now in
-    let known = subst (λ (a : Option Bool). IsAnswer x (scene_seen g.V.Evaluator.tests at.scene.now) (layer_seen at.layer.now) a
+    let known = subst (λ (a : Option Bool). IsAnswer x (scene_seen g.V.TextTests.tests at.scene.now) (layer_seen at.layer.now) a
     (feature_seen c.args.feature.now)) c.in-None.is answer in
     c.ask_if_passed.ensures.asks x meaning s right known meant

@@ -19,7 +19,7 @@ ask_each-requires-clause-features g c = c.ask_common_filter.ensures.sources.feat
 
 pub returns-in_err-common-clause-asks : goal.returns-in_err-common-clause-asks
 returns-in_err-common-clause-asks g c = λ x meaning s right decided meant.
-    let scene = scene_seen g.V.Evaluator.tests c.args.at.now.scene.now in
+    let scene = scene_seen g.V.TextTests.tests c.args.at.now.scene.now in
     let n = c.args.at.now.number in
     let layer = layer_seen c.args.at.now.layer.now in
     let tiles = map tile_seen c.args.tiles.now in
@@ -37,7 +37,7 @@ returns-in_err-others-clause-sources g c =
 
 pub returns-in_err-others-clause-asks : goal.returns-in_err-others-clause-asks
 returns-in_err-others-clause-asks g c = λ x meaning s right decided meant.
-    let scene = scene_seen g.V.Evaluator.tests c.args.at.now.scene.now in
+    let scene = scene_seen g.V.TextTests.tests c.args.at.now.scene.now in
     let n = c.args.at.now.number in
     let layer = layer_seen c.args.at.now.layer.now in
     let tiles = map tile_seen c.args.tiles.now in
@@ -66,7 +66,7 @@ returns-clause-sources g c = leaves_then c.args.at.now.number c.args.self.now.bu
 
 pub returns-clause-asks : goal.returns-clause-asks
 returns-clause-asks g c = λ x meaning s right decided meant.
-    let scene = scene_seen g.V.Evaluator.tests c.args.at.now.scene.now in
+    let scene = scene_seen g.V.TextTests.tests c.args.at.now.scene.now in
     let n = c.args.at.now.number in
     let layer = layer_seen c.args.at.now.layer.now in
     let tiles = map tile_seen c.args.tiles.now in

@@ -21,7 +21,7 @@ ask_passed-requires-clause-feature g c = feature_on c.args.at.now.number c.args.
 
 pub returns-in_err-first-clause-asks : goal.returns-in_err-first-clause-asks
 returns-in_err-first-clause-asks g c = λ x meaning s right answer meant_all.
-    let scene = scene_seen g.V.Evaluator.tests c.args.at.now.scene.now in
+    let scene = scene_seen g.V.TextTests.tests c.args.at.now.scene.now in
     let n = c.args.at.now.number in
     let layer = layer_seen c.args.at.now.layer.now in
     let f = feature_seen c.args.feature.now in
@@ -42,7 +42,7 @@ returns-in_err-others-clause-sources g c =
 
 pub returns-in_err-others-clause-asks : goal.returns-in_err-others-clause-asks
 returns-in_err-others-clause-asks g c = λ x meaning s right answer meant_all.
-    let scene = scene_seen g.V.Evaluator.tests c.args.at.now.scene.now in
+    let scene = scene_seen g.V.TextTests.tests c.args.at.now.scene.now in
     let n = c.args.at.now.number in
     let layer = layer_seen c.args.at.now.layer.now in
     let f = feature_seen c.args.feature.now in
@@ -77,7 +77,7 @@ returns-clause-sources g c = leaves_then c.args.at.now.number c.args.self.now.bu
 
 pub returns-clause-asks : goal.returns-clause-asks
 returns-clause-asks g c = λ x meaning s right answer meant_all.
-    let scene = scene_seen g.V.Evaluator.tests c.args.at.now.scene.now in
+    let scene = scene_seen g.V.TextTests.tests c.args.at.now.scene.now in
     let n = c.args.at.now.number in
     let layer = layer_seen c.args.at.now.layer.now in
     let f = feature_seen c.args.feature.now in

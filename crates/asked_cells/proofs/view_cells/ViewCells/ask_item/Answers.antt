@@ -15,7 +15,7 @@ returns-in-None-clause-asks g c = λ x meaning s right meant.
     let at = c.args.at.now in
     let b = c.args.self.now.buckets in
     let item = c.args.item in
-    none_there (g.E.CountedEvaluator.slots (evaluator_of b)) (scene_seen g.V.Evaluator.tests at.scene.now) (cell_feature c.args.feature) item
+    none_there (g.E.CountedEvaluator.slots (evaluator_of b)) (scene_seen g.V.TextTests.tests at.scene.now) (cell_feature c.args.feature) item
     meaning (kept_in b at.number) c.args.steps.now (x item) (source_of b at.number item) (s item) (sym c.source.ensures ∙ c.in-None.is)
 
 pub returns-in-Some-clause-sources : goal.returns-in-Some-clause-sources
@@ -23,7 +23,7 @@ returns-in-Some-clause-sources g c =
     let n = c.args.at.now.number in
     let b = c.args.self.now.buckets in
     let source = source_of b n c.args.item in
-    let world = cell_world (scene_seen g.V.Evaluator.tests c.args.at.now.scene.now) c.zoom_for.result (cell_feature c.args.feature) in
+    let world = cell_world (scene_seen g.V.TextTests.tests c.args.at.now.scene.now) c.zoom_for.result (cell_feature c.args.feature) in
     record {
       evaluator = c.refresh.ensures.evaluator;
       source = c.refresh.ensures.sources;
@@ -41,7 +41,7 @@ returns-in-Some-clause-asks g c = λ x meaning s right meant.
     let item = c.args.item in
     let source = source_of b n item in
     let slots = g.E.CountedEvaluator.slots (evaluator_of b) in
-    let scene = scene_seen g.V.Evaluator.tests at.scene.now in
+    let scene = scene_seen g.V.TextTests.tests at.scene.now in
     let feature = cell_feature c.args.feature in
     let old = kept_in b n in
     let new = kept_in c.refresh.new.self n in
@@ -51,7 +51,7 @@ returns-in-Some-clause-asks g c = λ x meaning s right meant.
     let given = λ (zoom : ℤ). given_at slots (slot_in_source source) (cell_world scene zoom feature) in
     let count = nodes_at slots (slot_in_source source) in
     let zoom : c.zoom_for.result ≡ source_zoom scene c.in-Some.source =
-    c.zoom_for.ensures ∙ ap (λ z. if c.in-Some.source.paint then z else floor_of z) (sym (scene_zoom g.V.Evaluator.tests at.scene.now)) in
+    c.zoom_for.ensures ∙ ap (λ z. if c.in-Some.source.paint then z else floor_of z) (sym (scene_zoom g.V.TextTests.tests at.scene.now)) in
     item_refreshed slots scene feature item meaning old new before after c.refresh.result (x item) source c.in-Some.source right (s item)
     (sym c.source.ensures ∙ c.in-Some.is)
     (subst (λ (o : Option ℕ). Refreshes (record { feature = o; item = item }) (given (source_zoom scene c.in-Some.source)) count old new

@@ -13,14 +13,14 @@ use Rattle.asked_cells.proofs.view_cells.ViewCells.ask_layer.Goals as goal
 pub returns-in-Hidden-clause-asks : goal.returns-in-Hidden-clause-asks
 returns-in-Hidden-clause-asks g c = λ x s right decided.
     let at = c.args.at.now in
-    let scene = scene_seen g.V.Evaluator.tests at.scene.now in
+    let scene = scene_seen g.V.TextTests.tests at.scene.now in
     let layer = layer_seen at.layer.now in
     let tiles = map tile_seen c.args.tiles.now in
     let means = meaning scene tiles layer x in
     let asked = λ (show : Show). shown_asked x scene tiles show layer in
     let old = kept_in c.args.self.now.buckets at.number in
     let show : show_of scene.zoom layer ≡ Hidden =
-    ap (λ z. show_of z layer) (scene_zoom g.V.Evaluator.tests at.scene.now ∙ sym c.exact.ensures) ∙ (sym c.show.ensures ∙ c.in-Hidden.is) in
+    ap (λ z. show_of z layer) (scene_zoom g.V.TextTests.tests at.scene.now ∙ sym c.exact.ensures) ∙ (sym c.show.ensures ∙ c.in-Hidden.is) in
     let same : asked Hidden ≡ layer_asked x scene tiles layer = sym (ap asked show) in
     asks_same means (asked Hidden) (layer_asked x scene tiles layer) old old _ c.args.steps.now c.args.steps.now same
     (none_asked means old c.args.steps.now)
@@ -28,14 +28,14 @@ returns-in-Hidden-clause-asks g c = λ x s right decided.
 pub returns-in-Unread-clause-asks : goal.returns-in-Unread-clause-asks
 returns-in-Unread-clause-asks g c = λ x s right decided.
     let at = c.args.at.now in
-    let scene = scene_seen g.V.Evaluator.tests at.scene.now in
+    let scene = scene_seen g.V.TextTests.tests at.scene.now in
     let layer = layer_seen at.layer.now in
     let tiles = map tile_seen c.args.tiles.now in
     let means = meaning scene tiles layer x in
     let asked = λ (show : Show). shown_asked x scene tiles show layer in
     let old = kept_in c.args.self.now.buckets at.number in
     let show : show_of scene.zoom layer ≡ Unread =
-    ap (λ z. show_of z layer) (scene_zoom g.V.Evaluator.tests at.scene.now ∙ sym c.exact.ensures) ∙ (sym c.show.ensures ∙ c.in-Unread.is) in
+    ap (λ z. show_of z layer) (scene_zoom g.V.TextTests.tests at.scene.now ∙ sym c.exact.ensures) ∙ (sym c.show.ensures ∙ c.in-Unread.is) in
     let same : asked Unread ≡ layer_asked x scene tiles layer = sym (ap asked show) in
     asks_same means (asked Unread) (layer_asked x scene tiles layer) old old _ c.args.steps.now c.args.steps.now same
     (none_asked means old c.args.steps.now)
@@ -43,14 +43,14 @@ returns-in-Unread-clause-asks g c = λ x s right decided.
 pub returns-in-OutsideFilter-clause-asks : goal.returns-in-OutsideFilter-clause-asks
 returns-in-OutsideFilter-clause-asks g c = λ x s right decided.
     let at = c.args.at.now in
-    let scene = scene_seen g.V.Evaluator.tests at.scene.now in
+    let scene = scene_seen g.V.TextTests.tests at.scene.now in
     let layer = layer_seen at.layer.now in
     let tiles = map tile_seen c.args.tiles.now in
     let means = meaning scene tiles layer x in
     let asked = λ (show : Show). shown_asked x scene tiles show layer in
     let old = kept_in c.args.self.now.buckets at.number in
     let show : show_of scene.zoom layer ≡ OutsideFilter =
-    ap (λ z. show_of z layer) (scene_zoom g.V.Evaluator.tests at.scene.now ∙ sym c.exact.ensures) ∙ (sym c.show.ensures ∙ c.in-OutsideFilter.is) in
+    ap (λ z. show_of z layer) (scene_zoom g.V.TextTests.tests at.scene.now ∙ sym c.exact.ensures) ∙ (sym c.show.ensures ∙ c.in-OutsideFilter.is) in
     let same : asked OutsideFilter ≡ layer_asked x scene tiles layer = sym (ap asked show) in
     asks_same means (asked OutsideFilter) (layer_asked x scene tiles layer) old (kept_in c.ask_values.new.self.buckets at.number) c.ask_values.result
     c.args.steps.now c.ask_values.new.steps same
@@ -60,14 +60,14 @@ returns-in-OutsideFilter-clause-asks g c = λ x s right decided.
 pub returns-in-Plain-clause-asks : goal.returns-in-Plain-clause-asks
 returns-in-Plain-clause-asks g c = λ x s right decided.
     let at = c.args.at.now in
-    let scene = scene_seen g.V.Evaluator.tests at.scene.now in
+    let scene = scene_seen g.V.TextTests.tests at.scene.now in
     let layer = layer_seen at.layer.now in
     let tiles = map tile_seen c.args.tiles.now in
     let means = meaning scene tiles layer x in
     let asked = λ (show : Show). shown_asked x scene tiles show layer in
     let old = kept_in c.args.self.now.buckets at.number in
     let show : show_of scene.zoom layer ≡ Plain =
-    ap (λ z. show_of z layer) (scene_zoom g.V.Evaluator.tests at.scene.now ∙ sym c.exact.ensures) ∙ (sym c.show.ensures ∙ c.in-Plain.is) in
+    ap (λ z. show_of z layer) (scene_zoom g.V.TextTests.tests at.scene.now ∙ sym c.exact.ensures) ∙ (sym c.show.ensures ∙ c.in-Plain.is) in
     let same : asked Plain ≡ layer_asked x scene tiles layer = sym (ap asked show) in
     asks_same means (asked Plain) (layer_asked x scene tiles layer) old (kept_in c.ask_plain.new.self.buckets at.number) c.ask_plain.result
     c.args.steps.now c.ask_plain.new.steps same

@@ -14,7 +14,7 @@ loop-property-init g c = record {
   sound = c.requires.sound;
   sources = leaves_all c.args.at.now.number c.args.self.now.buckets;
   asks = λ x meaning s right meant. all_remain meaning
-      (values_asked x (scene_seen g.V.Evaluator.tests c.args.at.now.scene.now) (cell_feature c.args.feature)
+      (values_asked x (scene_seen g.V.TextTests.tests c.args.at.now.scene.now) (cell_feature c.args.feature)
       (map property_seen c.args.properties.now)) (kept_in c.args.self.now.buckets c.args.at.now.number) c.args.steps.now right meant;
 }
 
@@ -29,7 +29,7 @@ ask_value-requires-clause-feature g c = feature_on c.args.at.now.number c.args.s
 
 pub loop-property-preserved : goal.loop-property-preserved
 loop-property-preserved g c =
-    let scene = scene_seen g.V.Evaluator.tests c.args.at.now.scene.now in
+    let scene = scene_seen g.V.TextTests.tests c.args.at.now.scene.now in
     let n = c.args.at.now.number in
     let feature = cell_feature c.args.feature in
     let first = c.args.self.now.buckets in
@@ -63,7 +63,7 @@ returns-in_err-more-clause-sources g c = leaves_then c.args.at.now.number c.args
 
 pub returns-in_err-more-clause-asks : goal.returns-in_err-more-clause-asks
 returns-in_err-more-clause-asks g c = λ x meaning s right meant.
-    let scene = scene_seen g.V.Evaluator.tests c.args.at.now.scene.now in
+    let scene = scene_seen g.V.TextTests.tests c.args.at.now.scene.now in
     let n = c.args.at.now.number in
     let feature = cell_feature c.args.feature in
     let first = c.args.self.now.buckets in
@@ -95,7 +95,7 @@ returns-in_err-number-clause-sources g c = leaves_then c.args.at.now.number c.ar
 
 pub returns-in_err-number-clause-asks : goal.returns-in_err-number-clause-asks
 returns-in_err-number-clause-asks g c = λ x meaning s right meant.
-    let scene = scene_seen g.V.Evaluator.tests c.args.at.now.scene.now in
+    let scene = scene_seen g.V.TextTests.tests c.args.at.now.scene.now in
     let n = c.args.at.now.number in
     let feature = cell_feature c.args.feature in
     let first = c.args.self.now.buckets in
@@ -123,7 +123,7 @@ returns-in_err-number-clause-asks g c = λ x meaning s right meant.
 
 pub returns-clause-asks : goal.returns-clause-asks
 returns-clause-asks g c = λ x meaning s right meant.
-    let scene = scene_seen g.V.Evaluator.tests c.args.at.now.scene.now in
+    let scene = scene_seen g.V.TextTests.tests c.args.at.now.scene.now in
     let asked = λ (xs : List Property).
     values_asked x scene (cell_feature c.args.feature) (map property_seen xs) in
     let ps = c.args.properties.now in

@@ -14,7 +14,7 @@ use Rattle.asked_cells.proofs.view_cells.ViewCells.ask_listed.Given as goal
 abbrev pub invariant-loop-property : goal.invariant-loop-property
 invariant-loop-property g l =
     let asked = λ (x : LayerExpressions) (ps : List Property).
-    values_asked x (scene_seen g.V.Evaluator.tests l.at.scene.now) (cell_feature l.feature) (map property_seen ps) in
+    values_asked x (scene_seen g.V.TextTests.tests l.at.scene.now) (cell_feature l.feature) (map property_seen ps) in
     record {
       sound : IsSound l.self.buckets;
       sources : LeavesSources l.at.number l.fn.self.buckets l.self.buckets;

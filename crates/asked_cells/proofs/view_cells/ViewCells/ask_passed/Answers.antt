@@ -8,7 +8,7 @@ use Rattle.asked_cells.proofs.view_cells.ViewCells.ask_passed.Goals as goal
 pub returns-then-passes-clause-asks : goal.returns-then-passes-clause-asks
 returns-then-passes-clause-asks g c = λ x meaning s right meant.
     let at = c.args.at.now in
-    let scene = scene_seen g.V.Evaluator.tests at.scene.now in
+    let scene = scene_seen g.V.TextTests.tests at.scene.now in
     let f = feature_seen c.args.feature.now in
     let ps = (layer_seen at.layer.now).properties in
     let values = values_asked x scene (Some f) ps in
@@ -20,7 +20,7 @@ returns-then-passes-clause-asks g c = λ x meaning s right meant.
 pub returns-else-passes-clause-asks : goal.returns-else-passes-clause-asks
 returns-else-passes-clause-asks g c = λ x meaning s right meant.
     let at = c.args.at.now in
-    let scene = scene_seen g.V.Evaluator.tests at.scene.now in
+    let scene = scene_seen g.V.TextTests.tests at.scene.now in
     let f = feature_seen c.args.feature.now in
     let ps = (layer_seen at.layer.now).properties in
     let same : [] ≡ passed_asked x scene c.args.passes f ps =

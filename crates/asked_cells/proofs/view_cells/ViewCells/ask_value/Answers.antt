@@ -10,7 +10,7 @@ use Rattle.asked_cells.proofs.view_cells.ViewCells.ask_value.Goals as goal
 pub returns-then-is_listed-clause-asks : goal.returns-then-is_listed-clause-asks
 returns-then-is_listed-clause-asks g c = λ x meaning s right meant.
     let at = c.args.at.now in
-    let scene = scene_seen g.V.Evaluator.tests at.scene.now in
+    let scene = scene_seen g.V.TextTests.tests at.scene.now in
     let feature = cell_feature c.args.feature in
     let p = property_seen c.args.property.now in
     let item = item_asked x scene feature (Property p.row.number) in
@@ -24,7 +24,7 @@ returns-then-is_listed-clause-asks g c = λ x meaning s right meant.
 pub returns-else-is_listed-clause-asks : goal.returns-else-is_listed-clause-asks
 returns-else-is_listed-clause-asks g c = λ x meaning s right meant.
     let at = c.args.at.now in
-    let scene = scene_seen g.V.Evaluator.tests at.scene.now in
+    let scene = scene_seen g.V.TextTests.tests at.scene.now in
     let feature = cell_feature c.args.feature in
     let p = property_seen c.args.property.now in
     let kept = kept_in c.args.self.now.buckets at.number in

@@ -1,6 +1,6 @@
-use Rattle.std.proofs.Common.{◌≡◌, ◌≤◌, ap, arith, get_or, map}
+use Rattle.std.proofs.Common.{◌≡◌, ap, arith, get_or, map}
 use Rattle.style_layout.specs.CodeView.{layer_seen, layers_seen, tile_seen}
-use Rattle.style_layout.specs.StyleLayout.{cell_count, layer_cells}
+use Rattle.style_layout.specs.StyleLayout.{layer_cells}
 use Rattle.edit_session.proofs.LayerLists.{cells_remove, cells_set}
 use Rattle.edit_session.proofs.layers.PreparedLayers.cells_with.Goals as goal
 

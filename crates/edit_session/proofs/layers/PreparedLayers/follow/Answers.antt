@@ -5,7 +5,9 @@ use Rattle.decimal_json.specs.View.{items_view}
 use Rattle.style_edits.specs.Undone.{IsWithin, undone_layers}
 use Rattle.style_edits.specs.declared.undo.Undo.{Undo}
 use Rattle.style_layout.specs.CodeView.{tile_seen}
-use Rattle.edit_session.specs.PreparedLayers.{ArePrepared, IsTyped, prepared_layer}
+use Rattle.edit_session.specs.PreparedLayers.{ArePrepared}
+use Rattle.kept_layers.specs.KeptLayers.{prepared_layer}
+use Rattle.kept_layers.specs.View.{IsTyped}
 use Rattle.edit_session.proofs.FollowSteps.{added_follows, changed_follows, moved_follows, removed_follows}
 use Rattle.edit_session.proofs.LayerLists.{item_at, typed_at}
 use Rattle.edit_session.proofs.layers.PreparedLayers.follow.Goals as goal

@@ -1,11 +1,17 @@
-use Rattle.std.proofs.Common.{◌∙◌, ap, sym, subst}
+use Rattle.std.proofs.Common.{◌∙◌, ◌+◌, ◌≤◌, ap, subst}
+use Rattle.std.specs.Prelude.{OnOk}
 use Rattle.edit_script.specs.View.{command_seen}
-use Rattle.edit_session.specs.View.{lacks_memory, tiles_of}
-use Rattle.edit_session.proofs.ViewLaws.{answered_through, sound_with}
+use Rattle.edit_session.specs.Applied.{least_steps, most_steps}
+use Rattle.edit_session.specs.View.{lacks_memory, session_state, tiles_of}
+use Rattle.edit_session.specs.declared.session.Session.{Session}
+use Rattle.edit_session.proofs.ViewLaws.{answered_through, own_sound, own_stays, sound_through, view_sound}
 use Rattle.edit_session.proofs.session.Session.apply_in.Goals as goal
 
 pub apply-answer-requires : goal.apply-answer-requires
-apply-answer-requires g c = sound_with c.args.self.now c.exchange.new.self c.args.view.now c.exchange.ensures.session c.requires
+apply-answer-requires g c =
+    let images = (goal.HostOp-dyn g c.args.images.now).test c.args.images.now.1 in
+    let scripts = (goal.HostOp-dyn g c.args.scripts.now).test c.args.scripts.now.1 in
+    sound_through c.args.self.now c.exchange.new.self c.args.view.now images scripts c.exchange.ensures.session c.requires.session c.requires.view
 
 pub returns-clause-answer : goal.returns-clause-answer
 returns-clause-answer g c =
@@ -14,30 +20,66 @@ returns-clause-answer g c =
     answered_through c.apply-answer.result c.args.self.now c.exchange.new.self c.apply-answer.new.self c.exchange-2.new.self
     c.args.view.now c.exchange.new.view c.exchange-2.new.view (images.test c.args.images.now.1) (images.test c.apply-answer.new.images) scripts
     (images.changes c.args.images.now.1) (command_seen c.args.command.now)
-    c.exchange.ensures.session c.exchange-2.ensures.session c.exchange-2.ensures.view c.apply-answer.ensures.answer
+    c.exchange.ensures.session c.exchange.ensures.view c.exchange-2.ensures.session c.exchange-2.ensures.view c.apply-answer.ensures.answer
 
 pub returns-clause-own : goal.returns-clause-own
-returns-clause-own g c = record {
-  zoom = ap (λ s. s.zoom) c.exchange-2.ensures.session ∙ ap (λ v. v.zoom) c.exchange.ensures.view;
-  states = ap (λ s. s.states) c.exchange-2.ensures.session ∙ ap (λ v. v.states) c.exchange.ensures.view;
-}
+returns-clause-own g c =
+    let images = goal.HostOp-dyn g c.args.images.now in
+    let scripts = (goal.HostOp-dyn g c.args.scripts.now).test c.args.scripts.now.1 in
+    own_stays c.apply-answer.result c.args.self.now c.exchange.new.self c.apply-answer.new.self c.exchange-2.new.self
+    c.args.view.now c.exchange.new.view c.exchange-2.new.view (images.test c.args.images.now.1) (images.test c.apply-answer.new.images) scripts
+    (images.changes c.args.images.now.1) (command_seen c.args.command.now)
+    c.exchange.ensures.session c.exchange.ensures.view c.exchange-2.ensures.session c.exchange-2.ensures.view c.apply-answer.ensures.answer c.requires.command
+
+pub returns-clause-name : goal.returns-clause-name
+returns-clause-name g c =
+    ap (λ v. v.name) c.exchange-2.ensures.view ∙ ap (λ v. v.name) c.exchange.ensures.view
 
 pub returns-clause-tiles : goal.returns-clause-tiles
 returns-clause-tiles g c =
     ap tiles_of c.exchange-2.ensures.session ∙ (c.apply-answer.ensures.tiles ∙ ap tiles_of c.exchange.ensures.session)
 
+pub returns-clause-sound_view : goal.returns-clause-sound_view
+returns-clause-sound_view g c =
+    let images = goal.HostOp-dyn g c.args.images.now in
+    let scripts = (goal.HostOp-dyn g c.args.scripts.now).test c.args.scripts.now.1 in
+    view_sound c.apply-answer.result c.args.self.now c.exchange.new.self c.apply-answer.new.self c.exchange-2.new.self
+    c.args.view.now c.exchange.new.view c.exchange-2.new.view (images.test c.args.images.now.1) (images.test c.apply-answer.new.images) scripts
+    (images.changes c.args.images.now.1) (command_seen c.args.command.now)
+    c.exchange.ensures.session c.exchange.ensures.view c.exchange-2.ensures.session c.exchange-2.ensures.view c.apply-answer.ensures.sound
+
 pub returns-clause-sound : goal.returns-clause-sound
 returns-clause-sound g c =
-    sound_with c.apply-answer.new.self c.exchange-2.new.self c.exchange.new.view c.exchange-2.ensures.session c.apply-answer.ensures.sound
-
-pub returns-clause-count : goal.returns-clause-count
-returns-clause-count g c = λ has_memory. c.apply-answer.ensures.count (ap lacks_memory c.exchange.ensures.session ∙ has_memory)
-
-pub returns-clause-silent : goal.returns-clause-silent
-returns-clause-silent g c = λ lacks. c.apply-answer.ensures.silent (ap lacks_memory c.exchange.ensures.session ∙ lacks)
+    let images = goal.HostOp-dyn g c.args.images.now in
+    let scripts = (goal.HostOp-dyn g c.args.scripts.now).test c.args.scripts.now.1 in
+    let own = own_stays c.apply-answer.result c.args.self.now c.exchange.new.self c.apply-answer.new.self c.exchange-2.new.self
+    c.args.view.now c.exchange.new.view c.exchange-2.new.view (images.test c.args.images.now.1) (images.test c.apply-answer.new.images) scripts
+    (images.changes c.args.images.now.1) (command_seen c.args.command.now)
+    c.exchange.ensures.session c.exchange.ensures.view c.exchange-2.ensures.session c.exchange-2.ensures.view c.apply-answer.ensures.answer c.requires.command in
+    own_sound c.apply-answer.result c.args.self.now c.exchange.new.self c.apply-answer.new.self c.exchange-2.new.self
+    c.args.view.now c.exchange.new.view c.exchange-2.new.view (images.test c.args.images.now.1) (images.test c.apply-answer.new.images) scripts
+    (images.changes c.args.images.now.1) (command_seen c.args.command.now)
+    c.exchange.ensures.session c.exchange.ensures.view c.exchange-2.ensures.session c.exchange-2.ensures.view c.apply-answer.ensures.sound
+    own c.apply-answer.ensures.tiles c.apply-answer.ensures.lacks c.apply-answer.ensures.memory c.requires.session
 
 pub returns-clause-lacks : goal.returns-clause-lacks
 returns-clause-lacks g c = ap lacks_memory c.exchange-2.ensures.session ∙ c.apply-answer.ensures.lacks
 
 pub returns-clause-memory : goal.returns-clause-memory
 returns-clause-memory g c = λ lacks. c.apply-answer.ensures.memory (ap lacks_memory c.exchange.ensures.session ∙ lacks)
+
+pub returns-clause-least : goal.returns-clause-least
+returns-clause-least g c =
+    let images = goal.HostOp-dyn g c.args.images.now in
+    let scripts = (goal.HostOp-dyn g c.args.scripts.now).test c.args.scripts.now.1 in
+    subst (λ (s : Session). OnOk c.apply-answer.result (c.args.steps.now + least_steps (tiles_of s) scripts
+    (session_state s (images.test c.args.images.now.1)) (command_seen c.args.command.now) ≤ c.apply-answer.new.steps))
+    c.exchange.ensures.session c.apply-answer.ensures.least
+
+pub returns-clause-most : goal.returns-clause-most
+returns-clause-most g c =
+    let images = goal.HostOp-dyn g c.args.images.now in
+    let scripts = (goal.HostOp-dyn g c.args.scripts.now).test c.args.scripts.now.1 in
+    subst (λ (s : Session). c.apply-answer.new.steps ≤ c.args.steps.now + most_steps (tiles_of s) scripts
+    (session_state s (images.test c.args.images.now.1)) (command_seen c.args.command.now))
+    c.exchange.ensures.session c.apply-answer.ensures.most

@@ -1,4 +1,4 @@
-use Rattle.std.proofs.Common.{◌≡◌, List, true, false, ap, map, sym, subst, ◌∙◌}
+use Rattle.std.proofs.Common.{◌≡◌, List, ap, map, sym, subst, ◌∙◌}
 use Rattle.decimal_json.specs.View.{items_view, tree_of}
 use Rattle.edit_script.specs.View.{command_seen}
 use Rattle.style_edits.proofs.DocumentLaws.{layers_listed}
@@ -9,7 +9,8 @@ use Rattle.style_layout.specs.Shown.{SourceTile}
 use Rattle.style_rules.specs.Findings.{findings}
 use Rattle.edit_session.specs.Applied.{done, refused}
 use Rattle.edit_session.specs.LayerMarks.{layer_mark}
-use Rattle.edit_session.specs.PreparedLayers.{AreTyped, ArePrepared, Follows}
+use Rattle.edit_session.specs.PreparedLayers.{ArePrepared, Follows}
+use Rattle.kept_layers.specs.View.{AreTyped}
 use Rattle.edit_session.specs.View.{session_state, tiles_of}
 use Rattle.edit_session.specs.declared.answer.Refusal.TheVariants.{CellLimit}
 use Rattle.edit_session.proofs.AppliedLaws.{accepted_is_sound, layers_accepted, layers_refused}

@@ -1,8 +1,9 @@
 use Rattle.std.proofs.Common.{◌≡◌, ◌∙◌, ◌≤◌, [], refl, subst, arith, ℕ, List, drop, length}
 use Rattle.std.proofs.lemmas.List.{drop_all}
+use Rattle.outside_io.specs.WritingLaws.{at_error}
 use Rattle.generated_runs.specs.Counting.{EndsAs, lines_left}
 use Rattle.generated_runs.specs.GeneratedScript.{generated_lines}
-use Rattle.generated_runs.proofs.ScriptLaws.{one_answered}
+use Rattle.generated_runs.proofs.ScriptLaws.{due_so_far, none_yet, one_answered, one_due}
 use Rattle.generated_runs.proofs.counting.Counting.answer_all.Goals as goal
 
 pub loop-place-init : goal.loop-place-init
@@ -11,7 +12,7 @@ loop-place-init g c = record {
   changes = refl;
   small = c.requires.small;
   number = c.requires.first;
-  on = λ files asked all o made. made;
+  on = none_yet _ _;
 }
 
 pub loop-place-preserved : goal.loop-place-preserved
@@ -25,19 +26,32 @@ loop-place-preserved g c =
       changes = c.answer.ensures.changes ∙ c.loop-place.invariant.changes;
       small = c.in_ok-answer.ensures.small (omega (arith, c.in_ok-answer.ensures.next, c.loop-place.invariant.number, c.loop-place-test.true, c.line_count_of-place-end.ensures.few));
       number = omega (arith, c.in_ok-answer.ensures.next, c.loop-place.invariant.number);
-      on = one_answered c.args.features scripts _ _ c.loop-place.invariant.changes images _ c.loop-place.session c.answer.new.session c.loop-place.self _ _ _ c.as_slice.result.now _
-          c.in_ok-put_line.ensures c.as_slice.ensures.value (c.in_ok-answer.ensures.on c.args.features _)
-          (lines_left c.args.features scripts can_change images_first c.args.session.now c.args.self.now (generated_lines c.args.features)) c.loop-place.invariant.on;
+      on = one_answered c.args.features scripts _ _ c.loop-place.invariant.changes images c.loop-place.session c.loop-place.self _ _ c.as_slice.result.now _
+          c.in_ok-put_line.ensures c.as_slice.ensures.value _ _ _
+          (lines_left c.args.features scripts can_change images_first c.args.session.now c.args.self.now (generated_lines c.args.features))
+          _ c.answer.new.session _ (c.in_ok-answer.ensures.on c.args.features _) c.loop-place.invariant.on;
     }
 
-pub returns : goal.returns
-returns g c =
+pub returns-clause-on : goal.returns-clause-on
+returns-clause-on g c =
     let images = (goal.HostOp-dyn g c.loop-place.images.now).test c.loop-place.images.now.1 in
     let images_first = (goal.HostOp-dyn g c.args.images.now).test c.args.images.now.1 in
     let can_change = (goal.HostOp-dyn g c.args.images.now).changes c.args.images.now.1 in
     let scripts = (goal.HostOp-dyn g c.args.scripts.now).test c.args.scripts.now.1 in
     let past : length (generated_lines c.args.features) ≤ c.loop-place.place = omega (arith, c.loop-place-test.false, c.line_count_of-place-end.ensures.count) in
     let none : drop c.loop-place.place (generated_lines c.args.features) ≡ [] = drop_all c.loop-place.place (generated_lines c.args.features) past in
-    subst (λ (ls : List (List ℕ)). EndsAs (lines_left c.args.features scripts can_change images_first c.args.session.now c.args.self.now (generated_lines c.args.features))
+    subst (λ (ls : List (List ℕ)). EndsAs c.args.steps.now c.loop-place.steps
+    (lines_left c.args.features scripts can_change images_first c.args.session.now c.args.self.now (generated_lines c.args.features))
     (lines_left c.args.features scripts can_change images c.loop-place.session c.loop-place.self ls))
     none c.loop-place.invariant.on
+
+-- a line does not fit into memory
+pub returns-in_err-put_line-clause-due : goal.returns-in_err-put_line-clause-due
+returns-in_err-put_line-clause-due g c = λ files asked. at_error c.from_residual.result (due_so_far _ _ _ _ files asked c.loop-place.invariant.on)
+
+pub returns-in_err-answer-clause-due : goal.returns-in_err-answer-clause-due
+returns-in_err-answer-clause-due g c =
+    let images = (goal.HostOp-dyn g c.loop-place.images.now).test c.loop-place.images.now.1 in
+    let scripts = (goal.HostOp-dyn g c.args.scripts.now).test c.args.scripts.now.1 in
+    λ files asked. at_error c.from_residual-in_err-answer.result (one_due c.args.features scripts _ _ c.loop-place.invariant.changes images c.loop-place.session c.loop-place.self _ _ c.as_slice.result.now _
+    c.in_ok-put_line.ensures c.as_slice.ensures.value _ _ _ _ files asked (c.in_err-answer.ensures.due c.args.features _ files asked) c.loop-place.invariant.on)

@@ -11,10 +11,10 @@ invariant-loop-place g l =
     let can_change = (goal.HostOp-dyn g l.fn.images.now).changes l.fn.images.now.1 in
     let scripts = (goal.HostOp-dyn g l.scripts.now).test l.scripts.now.1 in
     record {
-      sound : IsSoundSession l.session;
+      sound : IsSoundSession l.session images scripts;
       changes : (goal.HostOp-dyn g l.images.now).changes l.images.now.1 ≡ can_change;
       small : IsSmall l.self;
       number : l.self.number ≡ l.place + 1;
-      on : EndsAs (lines_left l.fn.features scripts can_change images_first l.fn.session l.fn.self (generated_lines l.fn.features))
+      on : EndsAs l.fn.steps l.steps (lines_left l.fn.features scripts can_change images_first l.fn.session l.fn.self (generated_lines l.fn.features))
           (lines_left l.fn.features scripts can_change images l.session l.self (drop l.place (generated_lines l.fn.features)));
     }

@@ -10,7 +10,7 @@ use Rattle.kept_layers.proofs.kept_layers.KeptLayers.list_and_drop.Goals as goal
 
 pub loop-place-init : goal.loop-place-init
 loop-place-init g c =
-    let scene = scene_seen g.V.Evaluator.tests c.args.scene.now in
+    let scene = scene_seen g.V.TextTests.tests c.args.scene.now in
     let style = c.args.style.now in
     record {
       numbered = c.requires.numbered;
@@ -65,7 +65,7 @@ returns-in_err-more-clause-numbered g c =
 
 pub returns-in_err-more-clause-counts : goal.returns-in_err-more-clause-counts
 returns-in_err-more-clause-counts g c =
-    let scene = scene_seen g.V.Evaluator.tests c.args.scene.now in
+    let scene = scene_seen g.V.TextTests.tests c.args.scene.now in
     let style = c.args.style.now in
     let ns = c.args.self.now.numbers.items in
     let i = c.loop-place.invariant in
@@ -106,7 +106,7 @@ returns-in_err-evaluated-clause-numbered g c =
 
 pub returns-in_err-evaluated-clause-counts : goal.returns-in_err-evaluated-clause-counts
 returns-in_err-evaluated-clause-counts g c =
-    let scene = scene_seen g.V.Evaluator.tests c.args.scene.now in
+    let scene = scene_seen g.V.TextTests.tests c.args.scene.now in
     let style = c.args.style.now in
     let ns = c.args.self.now.numbers.items in
     let i = c.loop-place.invariant in
@@ -133,7 +133,7 @@ returns-in_err-evaluated-clause-counts g c =
 
 pub loop-place-preserved : goal.loop-place-preserved
 loop-place-preserved g c =
-    let scene = scene_seen g.V.Evaluator.tests c.args.scene.now in
+    let scene = scene_seen g.V.TextTests.tests c.args.scene.now in
     let ns = c.args.self.now.numbers.items in
     let i = c.loop-place.invariant in
     let k = c.loop-place.place in
@@ -175,7 +175,7 @@ returns-clause-counts g c =
 
 pub returns-clause-text : goal.returns-clause-text
 returns-clause-text g c =
-    let scene = scene_seen g.V.Evaluator.tests c.args.scene.now in
+    let scene = scene_seen g.V.TextTests.tests c.args.scene.now in
     let layers = layers_seen c.args.style.now.style.now in
     let i = c.loop-place.invariant in
     let past : length c.args.self.now.numbers.items ≤ c.loop-place.place =

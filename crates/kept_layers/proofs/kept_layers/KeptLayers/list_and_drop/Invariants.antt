@@ -7,7 +7,7 @@ use Rattle.kept_layers.proofs.kept_layers.KeptLayers.list_and_drop.Given as goal
 
 abbrev pub invariant-loop-place : goal.invariant-loop-place
 invariant-loop-place g l =
-    let scene = scene_seen g.V.Evaluator.tests l.scene in
+    let scene = scene_seen g.V.TextTests.tests l.scene in
     let lines = lines_of scene (tiles_in l.style) in
     let layers = layers_seen l.style.style.now in
     record {

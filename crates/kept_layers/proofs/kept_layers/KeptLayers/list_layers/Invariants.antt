@@ -7,7 +7,7 @@ use Rattle.kept_layers.proofs.kept_layers.KeptLayers.list_layers.Given as goal
 
 abbrev pub invariant-loop-place : goal.invariant-loop-place
 invariant-loop-place g l =
-    let scene = scene_seen g.V.Evaluator.tests l.scene in
+    let scene = scene_seen g.V.TextTests.tests l.scene in
     let ns = l.fn.self.numbers.items in
     let first = kept_seen l.fn.self in
     let lines = lines_of scene (tiles_in l.style) in

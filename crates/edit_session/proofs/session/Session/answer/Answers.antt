@@ -1,0 +1,18 @@
+use Rattle.std.proofs.Common.{◌≡◌, ap, sym, subst}
+use Rattle.std.specs.Prelude.{IfOk}
+use Rattle.edit_script.specs.Edit.{Edit}
+use Rattle.edit_script.specs.View.{command_seen}
+use Rattle.edit_session.specs.Applied.{applied}
+use Rattle.edit_session.specs.View.{reply_seen, session_state, tiles_of}
+use Rattle.edit_session.proofs.session.Session.answer.Goals as goal
+
+pub returns-in-List-clause-answer : goal.returns-in-List-clause-answer
+returns-in-List-clause-answer g c =
+    let images = goal.HostOp-dyn g c.args.images.now in
+    let has_image = images.test c.args.images.now.1 in
+    let scripts = (goal.HostOp-dyn g c.args.scripts.now).test c.args.scripts.now.1 in
+    let can_change = images.changes c.args.images.now.1 in
+    let s = c.args.self.now in
+    subst (λ (e : Edit). IfOk c.answer_list.result (λ answer. (session_state c.answer_list.new.self has_image, reply_seen answer)
+    ≡ applied (tiles_of s) scripts can_change (session_state s has_image) e))
+    (sym (ap command_seen c.in-List.is)) (c.answer_list.ensures.answer can_change)

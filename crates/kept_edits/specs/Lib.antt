@@ -1,4 +1,0 @@
--- To be believed.
-pub mod EditedKept
--- What contracts ask.
-pub mod Following
