@@ -1,4 +1,5 @@
 pub mod MemberLists
 pub mod ReportedAlike
 pub mod SoundParts
+pub mod ChangedDocuments
 pub mod SoundDocuments

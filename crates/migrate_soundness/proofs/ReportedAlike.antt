@@ -2,13 +2,11 @@
 use Rattle.std.proofs.Common.{◌≡◌, ◌∙◌, ℕ, List, [], ◌∷◌, ◌++◌, refl, ap, sym, subst, true, false}
 use Rattle.std.proofs.lemmas.List.{append_assoc, append-nil}
 use Rattle.std.specs.Prelude.{Bool}
-use Rattle.decimal_json.specs.Tree.{Tree, null, Fields, no_fields, field}
+use Rattle.decimal_json.specs.Tree.{null}
 use Rattle.decimal_json.specs.declared.paths.PathPart.{PathPart}
 use Rattle.style_rules.specs.Findings.{reports, reports_or, findings_in, notes_in}
-use Rattle.style_rules.specs.Levels.{fields_reports}
 use Rattle.style_rules.specs.Places.{least_broken, root_mark}
 use Rattle.style_rules.proofs.ReportLaws.{findings_append, notes_append}
-use Rattle.style_migrate.specs.Migrated.{mapped_fields}
 
 -- The types of marks and of what is reported have no names outside of their crate.
 
@@ -70,15 +68,6 @@ both_alike a b c d first second none =
       findings = findings_of_both c d ∙ (λ i. one.findings i ++ two.findings i);
       notes = notes_of_both c d ∙ ((λ i. one.notes i ++ two.notes i) ∙ sym (notes_of_both a b));
     }
-
--- members, each of which is reported alike
-pub fields_alike : (tell later : List ℕ → Tree → ToldList) (change : List ℕ → Tree → Tree)
-    → ((k : List ℕ) (t : Tree) → IsReportedAlike (tell k t) (later k (change k t)))
-    → (fs : Fields) → IsReportedAlike (fields_reports tell fs) (fields_reports later (mapped_fields change fs))
-fields_alike tell later change each no_fields = reports_itself []
-fields_alike tell later change each (field k t fs) =
-    both_alike (tell k t) (fields_reports tell fs) (later k (change k t))
-    (fields_reports later (mapped_fields change fs)) (each k t) (fields_alike tell later change each fs)
 
 -- ---- marks
 

@@ -42,13 +42,13 @@ use Rattle.migrate_laws.proofs.FunctionForms.{IsBareLiteral, IsMigratedForm, fun
 use Rattle.migrate_laws.proofs.StayingValues.{form_by, call_form, bare_form}
 use Rattle.migrate_soundness.proofs.ReportedAlike.{Mark, IsSound, IsMarkedAlike, marked_same, sound_alike}
 
-sound_from : (old new : Mark) → new ≡ old → IsSound old → IsSound new
+pub sound_from : (old new : Mark) → new ≡ old → IsSound old → IsSound new
 sound_from old new same sound = subst IsSound (sym same) sound
 
 -- ---- expressions
 
 -- an expression that reads and is typed
-read_is_sound : (want : Want) (row : Option RowData) (e : Tree) (term : Term) (found : TypedNodes)
+pub read_is_sound : (want : Want) (row : Option RowData) (e : Tree) (term : Term) (found : TypedNodes)
     → reading e ≡ Ok (Some term) → checked term want row ≡ Ok found → IsSound (expression_mark want row e)
 read_is_sound want row e term found read typed =
     sound_from (typed_mark (Ok found)) (expression_mark want row e)
@@ -89,7 +89,7 @@ allowed row f reads =
     }
 
 module _ (row : RowData) where
-  marked_from : (t : Tree) (form : Form) → form_of row t ≡ form → value_mark row t ≡ form_mark form row t
+  pub marked_from : (t : Tree) (form : Form) → form_of row t ≡ form → value_mark row t ≡ form_mark form row t
   marked_from t form is = ap (λ f. form_mark f row t) is
 
   more_than_literals : (t : Tree) (form : Form) → form_of row t ≡ form → form ≢ forms.Literal
@@ -98,7 +98,7 @@ module _ (row : RowData) where
       takes_more (takes_literals_alone row) (is_expression t) (is_function t) (is_token_text row t) form is
       other
 
-  call_is_sound : (e : Tree) (term : Term) (found : TypedNodes) → takes_literals_alone row ≡ false
+  pub call_is_sound : (e : Tree) (term : Term) (found : TypedNodes) → takes_literals_alone row ≡ false
       → is_expression e ≡ true → reading e ≡ Ok (Some term) → checked term row.want (Some row) ≡ Ok found
       → IsSound (value_mark row e)
   call_is_sound e term found more call read typed =
@@ -106,7 +106,7 @@ module _ (row : RowData) where
       (marked_from e forms.Expression (call_form row e more call))
       (read_is_sound row.want (Some row) e term found read typed)
 
-  literal_is_sound : (e : Tree) (given : Data) → literal_of e row ≡ Some given → IsSound (literal_mark row e)
+  pub literal_is_sound : (e : Tree) (given : Data) → literal_of e row ≡ Some given → IsSound (literal_mark row e)
   literal_is_sound e given spelled = λ path. (rw spelled refl, rw spelled refl)
 
   bare_is_sound : (e : Tree) → IsBareLiteral row e → IsSound (value_mark row e)

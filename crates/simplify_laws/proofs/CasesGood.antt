@@ -20,7 +20,7 @@ use Rattle.expr_syntax.specs.declared.parts.Labelled.{Labelled}
 use Rattle.expr_syntax.specs.declared.rows.ElementLayout.TheVariants as layouts
 use Rattle.expr_syntax.specs.declared.rows.ElementPlace.TheVariants.{Part, Argument, Output}
 use Rattle.expr_syntax.specs.declared.rows.Wanted.TheVariants.{Own, OfNode}
-use Rattle.expr_types.specs.Typing.{argument_want}
+use Rattle.expr_types.specs.Typing.{KindScope, argument_want}
 use Rattle.operator_values.specs.Evaluated.{then_value}
 use Rattle.eval_face.specs.Branches.{branch, output_at}
 use Rattle.eval_face.specs.Branches as branches
@@ -31,6 +31,7 @@ use Rattle.style_simplify.specs.Literals.{literal_value}
 use Rattle.style_simplify.specs.ShorterNodes.{and_condition, arguments_in, case_of, case_with, chosen_output, first_turn, open_pairs, shorter_case, shorter_match, some_condition, turn_at}
 use Rattle.style_simplify.specs.SimpleElements.{SimpleElement, node_of, part, tree_in}
 use Rattle.simplify_laws.proofs.Measures.{Weights, measure, measures}
+use Rattle.simplify_laws.proofs.Strays.{case_hides, hidden_calmer, match_hides, zooms}
 use Rattle.simplify_laws.proofs.ParsedTrees.{HereOr, Names, Values}
 use Rattle.simplify_laws.proofs.GoodElements.{AreGood, Good}
 use Rattle.simplify_laws.proofs.JoinsGood.{EachGood, good_change, not_first}
@@ -57,15 +58,15 @@ some_is : (b : Bool) (e made : SimpleElement) → (if b then Some e else None) �
 some_is true e made h = cc
 some_is false e made h = absurd (cc)
 
-module _ (g : Values) (want : Want) (N : Names) (f : Bool) where
+module _ (g : Values) (scope : KindScope) (want : Want) (N : Names) (f : Bool) where
   -- conditions and outputs in turn, and the last output
   abbrev pub CasesGood : List SimpleElement → List Term → Type 0
   CasesGood [] vs = ⊥
   CasesGood (e ∷ es) [] = ⊥
-  CasesGood (e ∷ []) (v ∷ []) = Good g want N f v e
+  CasesGood (e ∷ []) (v ∷ []) = Good g scope want N f v e
   CasesGood (e ∷ []) (v ∷ w ∷ vs) = ⊥
   CasesGood (e ∷ x ∷ es) (v ∷ []) = ⊥
-  CasesGood (e ∷ x ∷ es) (v ∷ w ∷ vs) = Good g wants.Boolean N false v e × Good g want N f w x × CasesGood es vs
+  CasesGood (e ∷ x ∷ es) (v ∷ w ∷ vs) = Good g scope wants.Boolean N false v e × Good g scope want N f w x × CasesGood es vs
 
   cases_odd : (es : List SimpleElement) (vs : List Term) → CasesGood es vs → (length es % 2 ≡ 1) × (length es ≡ length vs)
   cases_odd [] vs h = absurd h
@@ -123,7 +124,7 @@ module _ (g : Values) (want : Want) (N : Names) (f : Bool) where
 
   -- ---- one form and the other
 
-  pub cases_of_good : (m n k : ℕ) (ts : List Tree) (es : List SimpleElement) (vs : List Term) → is_even k ≡ true → k + length vs ≡ m → n ≡ m + 1 → length es % 2 ≡ 1 → AreGood g Case m want layouts.Cases n N f (k + 1) k ts es vs → CasesGood es vs
+  pub cases_of_good : (m n k : ℕ) (ts : List Tree) (es : List SimpleElement) (vs : List Term) → is_even k ≡ true → k + length vs ≡ m → n ≡ m + 1 → length es % 2 ≡ 1 → AreGood g scope Case m want layouts.Cases n N f (k + 1) k ts es vs → CasesGood es vs
   cases_of_good m n k [] [] vs even all more odd h = absurd (omega (arith, odd))
   cases_of_good m n k [] (e ∷ es) vs even all more odd h = absurd h
   cases_of_good m n k (t ∷ ts) [] vs even all more odd h = absurd h
@@ -134,14 +135,14 @@ module _ (g : Values) (want : Want) (N : Names) (f : Bool) where
       let end : k + 1 ≡ m = omega (arith, all) in
       let (u, ys, vs_is, good, rest) = same_type _ _ (last_here m n k end more _ _) h in
       let same : u ≡ v = cc in
-      subst (λ x. Good g want N f x e) same (subst (λ w. Good g w N f u e) (last_want m k end) good)
+      subst (λ x. Good g scope want N f x e) same (subst (λ w. Good g scope w N f u e) (last_want m k end) good)
   cases_of_good m n k (t ∷ ts) (e ∷ x ∷ es) (v ∷ []) even all more odd h =
       let end : k + 1 ≡ m = omega (arith, all) in
       let (u, ys, vs_is, good, rest) = same_type _ _ (last_here m n k end more _ _) h in
       let none : ys ≡ [] = cc in
-      absurd (none_more m n k ts x es even (subst (λ zs. AreGood g Case m want layouts.Cases n N f (k + 1 + 1) (k + 1) ts (x ∷ es) zs) none rest))
+      absurd (none_more m n k ts x es even (subst (λ zs. AreGood g scope Case m want layouts.Cases n N f (k + 1 + 1) (k + 1) ts (x ∷ es) zs) none rest))
     where
-      none_more : (m n k : ℕ) (ts : List Tree) (x : SimpleElement) (es : List SimpleElement) → is_even k ≡ true → AreGood g Case m want layouts.Cases n N f (k + 1 + 1) (k + 1) ts (x ∷ es) [] → ⊥
+      none_more : (m n k : ℕ) (ts : List Tree) (x : SimpleElement) (es : List SimpleElement) → is_even k ≡ true → AreGood g scope Case m want layouts.Cases n N f (k + 1 + 1) (k + 1) ts (x ∷ es) [] → ⊥
       none_more m n k [] x es even h = h
       none_more m n k (t ∷ ts) x es even h =
           let (w, zs, vs_is, good, rest) = same_type _ _ (output_here n k even _ _) h in
@@ -164,18 +165,18 @@ module _ (g : Values) (want : Want) (N : Names) (f : Bool) where
       let whole : p ∷ zs ≡ w ∷ vs = sym ys_is ∙ some in
       let second : p ≡ w = cc in
       let later : zs ≡ vs = cc in (
-        subst (λ x. Good g wants.Boolean N false x e) first (subst (λ w. Good g w N false u e) (condition_want m k even between) good),
-        subst (λ z. Good g want N f z x) second (subst (λ w. Good g w N f p x) (output_want m k even) output),
+        subst (λ x. Good g scope wants.Boolean N false x e) first (subst (λ w. Good g scope w N false u e) (condition_want m k even between) good),
+        subst (λ z. Good g scope want N f z x) second (subst (λ w. Good g scope w N f p x) (output_want m k even) output),
         cases_of_good m n (k + 1 + 1) ts es vs (even_then k even).1 (omega (arith, all)) more (omega (arith, odd))
-            (subst (λ z. AreGood g Case m want layouts.Cases n N f (k + 1 + 1 + 1) (k + 1 + 1) ts es z) later others),
+            (subst (λ z. AreGood g scope Case m want layouts.Cases n N f (k + 1 + 1 + 1) (k + 1 + 1) ts es z) later others),
       )
 
-  pub good_of_cases : (m n k : ℕ) (es : List SimpleElement) (vs : List Term) → is_even k ≡ true → k + length vs ≡ m → n ≡ m + 1 → CasesGood es vs → AreGood g Case m want layouts.Cases n N f (k + 1) k (map tree_in es) es vs
+  pub good_of_cases : (m n k : ℕ) (es : List SimpleElement) (vs : List Term) → is_even k ≡ true → k + length vs ≡ m → n ≡ m + 1 → CasesGood es vs → AreGood g scope Case m want layouts.Cases n N f (k + 1) k (map tree_in es) es vs
   good_of_cases m n k [] vs even all more h = absurd h
   good_of_cases m n k (e ∷ es) [] even all more h = absurd h
   good_of_cases m n k (e ∷ []) (v ∷ []) even all more h =
       let end : k + 1 ≡ m = omega (arith, all) in
-      same_type _ _ (sym (last_here m n k end more _ _)) (v, [], refl, subst (λ w. Good g w N f v e) (sym (last_want m k end)) h, refl)
+      same_type _ _ (sym (last_here m n k end more _ _)) (v, [], refl, subst (λ w. Good g scope w N f v e) (sym (last_want m k end)) h, refl)
   good_of_cases m n k (e ∷ []) (v ∷ w ∷ vs) even all more h = absurd h
   good_of_cases m n k (e ∷ x ∷ es) (v ∷ []) even all more h = absurd h
   good_of_cases m n k (e ∷ x ∷ es) (v ∷ w ∷ vs) even all more h =
@@ -184,12 +185,12 @@ module _ (g : Values) (want : Want) (N : Names) (f : Bool) where
         v,
         w ∷ vs,
         refl,
-        subst (λ u. Good g u N false v e) (sym (condition_want m k even between)) h.0,
+        subst (λ u. Good g scope u N false v e) (sym (condition_want m k even between)) h.0,
         same_type _ _ (sym (output_here n k even _ _)) (
           w,
           vs,
           refl,
-          subst (λ u. Good g u N f w x) (sym (output_want m k even)) h.1,
+          subst (λ u. Good g scope u N f w x) (sym (output_want m k even)) h.1,
           good_of_cases m n (k + 1 + 1) es vs (even_then k even).1 (omega (arith, all)) more h.2,
         ),
       )
@@ -202,7 +203,7 @@ module _ (g : Values) (want : Want) (N : Names) (f : Bool) where
   abbrev OpenCases : List SimpleElement → List Term → Type 0
   OpenCases es vs = (ws : List Term) × CasesGood es ws × ((names : BoundOutcomes) (world : World) → branches.case_of (means (terms_of ws)) want names world ≡ branches.case_of (means (terms_of vs)) want names world) × ((w : Weights) → measures w (terms_of ws) ≤ measures w (terms_of vs))
 
-  condition_is : (c : Bool) (v : Term) (e : SimpleElement) (t : Tree) → e.tree ≡ t → t ≡ boolean c → Good g wants.Boolean N false v e → (names : BoundOutcomes) (world : World) → mean v wants.Boolean names world ≡ Ok (values.boolean c)
+  condition_is : (c : Bool) (v : Term) (e : SimpleElement) (t : Tree) → e.tree ≡ t → t ≡ boolean c → Good g scope wants.Boolean N false v e → (names : BoundOutcomes) (world : World) → mean v wants.Boolean names world ≡ Ok (values.boolean c)
   condition_is c v e t is b good names world =
       let p = literal_parsed g e.tree (values.boolean c) N false good.first good.second good.parsed (ap literal_value (is ∙ b)) in
       sym (good.same names world) ∙ ap (λ x. mean x wants.Boolean names world) p.0
@@ -235,19 +236,22 @@ module _ (g : Values) (want : Want) (N : Names) (f : Bool) where
       by (list ts) is later = kept (list ts) is (λ rest. refl) later
       by (object fs) is later = kept (object fs) is (λ rest. refl) later
 
-  one_case : (e : SimpleElement) (ws : List Term) (vs : List Term) → CasesGood (e ∷ []) ws → ((names : BoundOutcomes) (world : World) → branches.case_of (means (terms_of ws)) want names world ≡ branches.case_of (means (terms_of vs)) want names world) → ((w : Weights) → measures w (terms_of ws) ≤ measures w (terms_of vs)) → Good g want N f (node Case (terms_of vs)) e
+  one_case : (e : SimpleElement) (ws : List Term) (vs : List Term) → CasesGood (e ∷ []) ws → ((names : BoundOutcomes) (world : World) → branches.case_of (means (terms_of ws)) want names world ≡ branches.case_of (means (terms_of vs)) want names world) → ((w : Weights) → measures w (terms_of ws) ≤ measures w (terms_of vs)) → Good g scope want N f (node Case (terms_of vs)) e
   one_case e [] vs h same lighter = absurd h
-  one_case e (v ∷ []) vs h same lighter = good_change g want N f (node Case (terms_of vs)) v e same (λ w. let x = lighter w in omega (arith, x)) h
+  one_case e (v ∷ []) vs h same lighter =
+      let less : (w : Weights) → measure w v ≤ measure w (node Case (terms_of vs)) = λ w. let x = lighter w in omega (arith, x) in
+      good_change g scope want N f (node Case (terms_of vs)) v e same less (hidden_calmer Case (terms_of vs) v case_hides refl (less zooms)) h
   one_case e (w ∷ x ∷ ws) vs h same lighter = absurd h
 
   more_cases : (t : Tree) (head e x : SimpleElement) (es : List SimpleElement) (ws vs : List Term) → head_name (tree t no_trees) ≡ Some (operator_name Case) → head ≡ part t → CasesGood (e ∷ x ∷ es) ws →
       ((names : BoundOutcomes) (world : World) → branches.case_of (means (terms_of ws)) want names world ≡ branches.case_of (means (terms_of vs)) want names world) → ((w : Weights) → measures w (terms_of ws) ≤ measures w (terms_of vs)) →
-      Good g want N f (node Case (terms_of vs)) (node_of Case want false (head ∷ e ∷ x ∷ es))
+      Good g scope want N f (node Case (terms_of vs)) (node_of Case want false (head ∷ e ∷ x ∷ es))
   more_cases t head e x es ws vs named head_is h same lighter =
       let new = e ∷ x ∷ es in
       let (odd, as_many) = cases_odd new ws h in
-      good_change g want N f (node Case (terms_of vs)) (node Case (terms_of ws)) (node_of Case want false (head ∷ new)) same (λ w. let x = lighter w in let same_one = w.steady Case tt (count (terms_of ws)) (count (terms_of vs)) in omega (arith, x, same_one))
-      (node_good g Case tt tt want N f (t ∷ map tree_in new) (head ∷ new) ws false (suc (length new))
+      let less : (w : Weights) → measure w (node Case (terms_of ws)) ≤ measure w (node Case (terms_of vs)) = λ w. let x = lighter w in let same_one = w.steady Case tt (count (terms_of ws)) (count (terms_of vs)) in omega (arith, x, same_one) in
+      good_change g scope want N f (node Case (terms_of vs)) (node Case (terms_of ws)) (node_of Case want false (head ∷ new)) same less (hidden_calmer Case (terms_of vs) (node Case (terms_of ws)) case_hides refl (less zooms))
+      (node_good g Case tt tt scope want N f (t ∷ map tree_in new) (head ∷ new) ws false (suc (length new))
       (record {
         head = ap (λ e. head_name (tree e.tree (trees_of (map tree_in new)))) head_is ∙ named;
         inside = refl;
@@ -259,19 +263,19 @@ module _ (g : Values) (want : Want) (N : Names) (f : Bool) where
       (head_is, good_of_cases (length ws) (suc (length new)) 0 new ws refl (omega arith) (omega (arith, as_many)) h)
       (λ z. absurd (cc)))
 
-  case_is_good : (t : Tree) (head : SimpleElement) (es : List SimpleElement) (vs : List Term) → head_name (tree t no_trees) ≡ Some (operator_name Case) → head ≡ part t → OpenCases es vs → Good g want N f (node Case (terms_of vs)) (case_of want head es)
+  case_is_good : (t : Tree) (head : SimpleElement) (es : List SimpleElement) (vs : List Term) → head_name (tree t no_trees) ≡ Some (operator_name Case) → head ≡ part t → OpenCases es vs → Good g scope want N f (node Case (terms_of vs)) (case_of want head es)
   case_is_good t head [] vs named head_is h = absurd h.1
   case_is_good t head (e ∷ []) vs named head_is h = one_case e h.0 vs h.1 h.2 h.3
   case_is_good t head (e ∷ x ∷ es) vs named head_is h = more_cases t head e x es h.0 vs named head_is h.1 h.2 h.3
 
   pub case_good : (t : Tree) (head : SimpleElement) (es : List SimpleElement) (vs : List Term) → head_name (tree t no_trees) ≡ Some (operator_name Case) → head ≡ part t → CasesGood es vs →
-      (made : SimpleElement) → shorter_case want head es ≡ Some made → Good g want N f (node Case (terms_of vs)) made
+      (made : SimpleElement) → shorter_case want head es ≡ Some made → Good g scope want N f (node Case (terms_of vs)) made
   case_good t head [] vs named head_is h made q = absurd h
   case_good t head (e ∷ es) vs named head_is h made q =
       let (front, end, taken, got, whole) = last_of e es in
       let now : case_with want head front (Some end) ≡ Some made = sym (λ i. case_with want head (taken i) (got i)) ∙ q in
       let is : case_of want head (open_pairs first_turn front end) ≡ made = some_is (some_condition true front) (case_of want head (open_pairs first_turn front end)) made now in
-      subst (Good g want N f (node Case (terms_of vs))) is (case_is_good t head (open_pairs first_turn front end) vs named head_is (open_good front end vs (subst (λ zs. CasesGood zs vs) whole h)))
+      subst (Good g scope want N f (node Case (terms_of vs))) is (case_is_good t head (open_pairs first_turn front end) vs named head_is (open_good front end vs (subst (λ zs. CasesGood zs vs) whole h)))
 
   -- ---- `match`
 
@@ -281,42 +285,42 @@ module _ (g : Values) (want : Want) (N : Names) (f : Bool) where
   output_wants : (ls : List Labelled) (m k : ℕ) → 0 < k → argument_want (Match ls) m k want ≡ want
   output_wants ls m k some = ap (λ b. want_of (if b then Own wants.Any else OfNode) want) (not_first k some)
 
-  pub outputs_good : (ls : List Labelled) (m n i k : ℕ) (ts : List Tree) (es : List SimpleElement) (vs : List Term) → 1 < i → 0 < k → AreGood g (Match ls) m want layouts.Labels n N f i k ts es vs → EachGood g want N f (arguments_in es) vs
-  outputs_good ls m n i k [] [] vs some past h = subst (EachGood g want N f []) (sym h) tt
+  pub outputs_good : (ls : List Labelled) (m n i k : ℕ) (ts : List Tree) (es : List SimpleElement) (vs : List Term) → 1 < i → 0 < k → AreGood g scope (Match ls) m want layouts.Labels n N f i k ts es vs → EachGood g scope want N f (arguments_in es) vs
+  outputs_good ls m n i k [] [] vs some past h = subst (EachGood g scope want N f []) (sym h) tt
   outputs_good ls m n i k [] (e ∷ es) vs some past h = absurd h
   outputs_good ls m n i k (t ∷ ts) [] vs some past h = absurd h
   outputs_good ls m n i k (t ∷ ts) (e ∷ es) vs some past h =
       by (is_label n i) (same_type _ _ (later_place n i some _ _) h) (λ x. outputs_good ls m n (i + 1) k ts es vs (omega arith) past x) (λ ys x. outputs_good ls m n (i + 1) (k + 1) ts es ys (omega arith) (omega arith) x)
     where
-      by : (b : Bool) → HereOr (if b then Part else Output) f ((e ≡ part t) × AreGood g (Match ls) m want layouts.Labels n N f (i + 1) k ts es vs)
-          (λ h. (v : Term) × (ys : List Term) × (vs ≡ v ∷ ys) × Good g (argument_want (Match ls) m k want) N h v e × AreGood g (Match ls) m want layouts.Labels n N f (i + 1) (k + 1) ts es ys) →
-          (AreGood g (Match ls) m want layouts.Labels n N f (i + 1) k ts es vs → EachGood g want N f (arguments_in es) vs) →
-          ((ys : List Term) → AreGood g (Match ls) m want layouts.Labels n N f (i + 1) (k + 1) ts es ys → EachGood g want N f (arguments_in es) ys) → EachGood g want N f (arguments_in (e ∷ es)) vs
-      by true h skip go = subst (λ x. EachGood g want N f (arguments_in (x ∷ es)) vs) (sym h.0) (skip h.1)
+      by : (b : Bool) → HereOr (if b then Part else Output) f ((e ≡ part t) × AreGood g scope (Match ls) m want layouts.Labels n N f (i + 1) k ts es vs)
+          (λ h. (v : Term) × (ys : List Term) × (vs ≡ v ∷ ys) × Good g scope (argument_want (Match ls) m k want) N h v e × AreGood g scope (Match ls) m want layouts.Labels n N f (i + 1) (k + 1) ts es ys) →
+          (AreGood g scope (Match ls) m want layouts.Labels n N f (i + 1) k ts es vs → EachGood g scope want N f (arguments_in es) vs) →
+          ((ys : List Term) → AreGood g scope (Match ls) m want layouts.Labels n N f (i + 1) (k + 1) ts es ys → EachGood g scope want N f (arguments_in es) ys) → EachGood g scope want N f (arguments_in (e ∷ es)) vs
+      by true h skip go = subst (λ x. EachGood g scope want N f (arguments_in (x ∷ es)) vs) (sym h.0) (skip h.1)
       by false h skip go =
           let (v, ys, vs_is, good, rest) = h in
-          subst (λ b. EachGood g want N f (if b then arguments_in es else e ∷ arguments_in es) vs) (sym good.argument)
-          (subst (EachGood g want N f (e ∷ arguments_in es)) (sym vs_is) (subst (λ w. Good g w N f v e) (output_wants ls m k past) good, go ys rest))
+          subst (λ b. EachGood g scope want N f (if b then arguments_in es else e ∷ arguments_in es) vs) (sym good.argument)
+          (subst (EachGood g scope want N f (e ∷ arguments_in es)) (sym vs_is) (subst (λ w. Good g scope w N f v e) (output_wants ls m k past) good, go ys rest))
 
-  each_length : (es : List SimpleElement) (vs : List Term) → EachGood g want N f es vs → length es ≡ length vs
+  each_length : (es : List SimpleElement) (vs : List Term) → EachGood g scope want N f es vs → length es ≡ length vs
   each_length [] [] h = refl
   each_length [] (v ∷ vs) h = absurd h
   each_length (e ∷ es) [] h = absurd h
   each_length (e ∷ es) (v ∷ vs) h = ap suc (each_length es vs h.1)
 
-  output_good : (es : List SimpleElement) (vs : List Term) (k : ℕ) (made : SimpleElement) → EachGood g want N f es vs → slice_get es k ≡ Some made →
-      (v : Term) × Good g want N f v made × ((names : BoundOutcomes) (world : World) → mean v want names world ≡ output_at (means (terms_of vs)) k want names world) × ((w : Weights) → measure w v ≤ measures w (terms_of vs))
+  output_good : (es : List SimpleElement) (vs : List Term) (k : ℕ) (made : SimpleElement) → EachGood g scope want N f es vs → slice_get es k ≡ Some made →
+      (v : Term) × Good g scope want N f v made × ((names : BoundOutcomes) (world : World) → mean v want names world ≡ output_at (means (terms_of vs)) k want names world) × ((w : Weights) → measure w v ≤ measures w (terms_of vs))
   output_good [] vs k made h q = absurd (cc)
   output_good (e ∷ es) [] k made h q = absurd h
-  output_good (e ∷ es) (v ∷ vs) zero made h q = let is : e ≡ made = cc in (v, subst (Good g want N f v) is h.0, (λ names world. refl), (λ w. omega arith))
+  output_good (e ∷ es) (v ∷ vs) zero made h q = let is : e ≡ made = cc in (v, subst (Good g scope want N f v) is h.0, (λ names world. refl), (λ w. omega arith))
   output_good (e ∷ es) (v ∷ vs) (suc k) made h q = let (u, good, same, lighter) = output_good es vs k made h.1 q in (u, good, same, (λ w. let x = lighter w in omega (arith, x)))
 
   -- the input, and the outputs among other elements
-  pub match_good : (ls : List Labelled) (input : SimpleElement) (es : List SimpleElement) (v : Term) (vs : List Term) → Good g wants.Any N false v input → EachGood g want N f (arguments_in es) vs →
-      (made : SimpleElement) → shorter_match ls (input ∷ es) ≡ Some made → Good g want N f (node (Match ls) (terms_of (v ∷ vs))) made
+  pub match_good : (ls : List Labelled) (input : SimpleElement) (es : List SimpleElement) (v : Term) (vs : List Term) → Good g scope wants.Any N false v input → EachGood g scope want N f (arguments_in es) vs →
+      (made : SimpleElement) → shorter_match ls (input ∷ es) ≡ Some made → Good g scope want N f (node (Match ls) (terms_of (v ∷ vs))) made
   match_good ls input es v vs good outputs made q = by (literal_value input.tree) refl (sym (ap (λ b. chosen_output ls (if b then arguments_in es else input ∷ arguments_in es) (literal_value input.tree)) good.argument) ∙ q)
     where
-      by : (o : Option Data) → literal_value input.tree ≡ o → chosen_output ls (input ∷ arguments_in es) o ≡ Some made → Good g want N f (node (Match ls) (terms_of (v ∷ vs))) made
+      by : (o : Option Data) → literal_value input.tree ≡ o → chosen_output ls (input ∷ arguments_in es) o ≡ Some made → Good g scope want N f (node (Match ls) (terms_of (v ∷ vs))) made
       by None is k = absurd (cc)
       by (Some d) is k =
           let outs = arguments_in es in
@@ -327,7 +331,8 @@ module _ (g : Values) (want : Want) (N : Names) (f : Bool) where
           let p = literal_parsed g input.tree d N false good.first good.second good.parsed is in
           let value : (names : BoundOutcomes) (world : World) → mean v wants.Any names world ≡ Ok d = λ names world. sym (good.same names world) ∙ ap (λ x. mean x wants.Any names world) p.0 in
           let counted : length (input ∷ outs) - 2 ≡ length (means (terms_of vs)) - 1 = omega (arith, each_length outs vs outputs, means_count vs) in
-          good_change g want N f (node (Match ls) (terms_of (v ∷ vs))) u made
+          let less : (w : Weights) → measure w u ≤ measure w (node (Match ls) (terms_of (v ∷ vs))) = λ w. let x = lighter w in omega (arith, x) in
+          good_change g scope want N f (node (Match ls) (terms_of (v ∷ vs))) u made
           (λ names world. same names world ∙ (ap (λ n. output_at (means (terms_of vs)) (output_of ls d n) want names world) counted
           ∙ sym (ap (λ r. then_value r (λ x. output_at (means (terms_of vs)) (output_of ls x (length (means (terms_of vs)) - 1)) want names world)) (value names world))))
-          (λ w. let x = lighter w in omega (arith, x)) this
+          less (hidden_calmer (Match ls) (terms_of (v ∷ vs)) u (match_hides ls) refl (less zooms)) this

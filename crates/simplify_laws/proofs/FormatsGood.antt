@@ -32,9 +32,11 @@ use Rattle.style_simplify.specs.Choices.{is_image}
 use Rattle.style_simplify.specs.Simple.{choices, format_of, is_content, listed, piece_at, piece_element, piece_elements, piece_tree, put_in, put_piece, put_pieces, simple_element, simples, tree_of_option}
 use Rattle.style_simplify.specs.SimpleElements.{SimpleElement, all_asks, and_kind, argument_kinds, is_reading, kind_by, some_reads}
 use Rattle.simplify_laws.proofs.ParsedTrees.{Joined, MorePieces, MoreTerms, Names, Values, Parsed, ParsedOptions, ParsedSections, is_image_tree}
-use Rattle.simplify_laws.proofs.Measures.{Weights, measures, same_weight}
+use Rattle.simplify_laws.proofs.TermKinds.{AllHave, AreTyped, HasKind, IsTyped, node_from, node_has}
+use Rattle.simplify_laws.proofs.Measures.{Weights, measure, measures, same_weight}
+use Rattle.simplify_laws.proofs.Strays.{format_hides, hidden_calmer, zooms}
 use Rattle.simplify_laws.proofs.Alike.{AreAlike, node_alike}
-use Rattle.simplify_laws.proofs.GoodElements.{AreAmong, Good, GoodFields, GoodTree, GoodTrees, Known, SameAt, among_both, among_parts, both_kinds, chosen_good, chosen_no_image, same_parts}
+use Rattle.simplify_laws.proofs.GoodElements.{AreAmong, Good, GoodFields, GoodTree, GoodTrees, Kept, Known, SameAt, SameKinds, among_both, among_parts, both_kinds, chosen_good, chosen_kept, chosen_no_image, kinds_apart, kinds_whole, same_parts}
 use Rattle.simplify_laws.proofs.NodeGood.{listed_count}
 
 abbrev Members : Type 0
@@ -182,6 +184,7 @@ module _ (g : Values) where
       pub names : (M : Names) → AreAmong M (all_asks es) → P M firsts seconds
       pub depends : (names names' : BoundOutcomes) (v w : World) → SameAt (all_asks es) names names' → (some_reads es ≡ true → v ≡ w) → (m : ℕ) → AreAlike want names names' v w op m k (means (terms_of seconds)) (means (terms_of seconds))
       pub steady : some_reads es ≡ false → firsts ≡ seconds
+      pub typed : (scope : KindScope) → SameKinds (all_asks es) ks scope → (js : List Kind) → argument_kinds es ≡ Some js → (m : ℕ) → AllHave op m k want scope seconds js
 
     record PiecesGood (k : ℕ) (us vs : List Term) (P : IsParsed) : Type 0 where
       pub firsts : List Term
@@ -192,6 +195,7 @@ module _ (g : Values) where
       pub as_many : length seconds ≡ length vs
       pub known : (js : List Kind) → argument_kinds (made k us) ≡ Some js → KnownPieces k (made k us) P firsts seconds
       pub asked : (js : List Kind) → argument_kinds (made k us) ≡ Some js → AreAmong N (all_asks (made k us))
+      pub kept : (m : ℕ) (js : List Kind) → AreTyped op m k want ks vs js → argument_kinds (made k us) ≡ Some js
 
     pieces_as : (k : ℕ) (us vs : List Term) (P Q : IsParsed) → ((M : Names) (xs ys : List Term) → P M xs ys → Q M xs ys) → PiecesGood k us vs P → PiecesGood k us vs Q
     pieces_as k us vs P Q go r = record {
@@ -201,8 +205,9 @@ module _ (g : Values) where
       alike = r.alike;
       lighter = r.lighter;
       as_many = r.as_many;
-      known = λ js q. let s = r.known js q in record { names = λ M a. go M r.firsts r.seconds (s.names M a); depends = s.depends; steady = s.steady };
+      known = λ js q. let s = r.known js q in record { names = λ M a. go M r.firsts r.seconds (s.names M a); depends = s.depends; steady = s.steady; typed = s.typed };
       asked = r.asked;
+      kept = r.kept;
     }
 
     no_pieces : (k : ℕ) (P : IsParsed) → ((M : Names) → P M [] []) → PiecesGood k [] [] P
@@ -213,16 +218,26 @@ module _ (g : Values) where
       alike = λ names world m. tt;
       lighter = λ w. omega arith;
       as_many = refl;
-      known = λ js q. record { names = λ M a. h M; depends = λ names names' v w a reads m. tt; steady = λ z. refl };
+      known = λ js q. record {
+        names = λ M a. h M;
+        depends = λ names names' v w a reads m. tt;
+        steady = λ z. refl;
+        typed = λ scope a js kinds m. let none : [] ≡ js = cc in subst (AllHave op m k want scope []) none tt;
+      };
       asked = λ js q. tt;
+      kept = λ m js typed. no_kinds m js typed;
     }
+      where
+        no_kinds : (m : ℕ) (js : List Kind) → AreTyped op m k want ks [] js → Some [] ≡ Some js
+        no_kinds m [] typed = refl
+        no_kinds m (j ∷ js) typed = absurd typed
 
     -- a piece more
     piece_more : (k : ℕ) (p : FormatPiece) (u v : Term) (us vs : List Term) (P Q : IsParsed) → slice_get pieces k ≡ Some p →
-        Good g (role_want p.role) N false v (piece_element (slice_get pieces k) (choices u) whole ks) → PiecesGood (k + 1) us vs P →
+        Good g ks (role_want p.role) N false v (piece_element (slice_get pieces k) (choices u) whole ks) → Kept g ks (role_want p.role) v (piece_element (slice_get pieces k) (choices u) whole ks) → PiecesGood (k + 1) us vs P →
         ((M : Names) (x y : Term) (xs ys : List Term) → Parsed g (piece_element (slice_get pieces k) (choices u) whole ks).tree M false x y → P M xs ys → Q M (x ∷ xs) (y ∷ ys)) →
         PiecesGood k (u ∷ us) (v ∷ vs) Q
-    piece_more k p u v us vs P Q here one r put = record {
+    piece_more k p u v us vs P Q here one stays r put = record {
       firsts = one.first ∷ r.firsts;
       seconds = one.second ∷ r.seconds;
       parsed = put N one.first one.second r.firsts r.seconds one.parsed r.parsed;
@@ -233,6 +248,7 @@ module _ (g : Values) where
       asked = λ js q.
           let (own, others, own_is, others_are) = both_kinds e.kind (argument_kinds es) js (kinds_are js q) in
           among_both N e.asks (all_asks es) (one.asked own own_is) (r.asked others others_are);
+      kept = λ m js typed. kept_more m js typed;
     }
       where
         e : SimpleElement
@@ -250,6 +266,12 @@ module _ (g : Values) where
         reading_is : is_reading e ≡ e.reads
         reading_is = ap (λ b. if b then false else e.reads) one.argument
 
+        kept_more : (m : ℕ) (js : List Kind) → AreTyped op m k want ks (v ∷ vs) js → argument_kinds (e ∷ es) ≡ Some js
+        kept_more m [] typed = absurd typed
+        kept_more m (j ∷ js) typed =
+            ap (λ b. if b then argument_kinds es else and_kind e.kind (argument_kinds es)) one.argument
+            ∙ (λ i. and_kind (stays j (subst (λ w. IsTyped v w ks j) want_here typed.0) i) (r.kept m js typed.1 i))
+
         known_more : (js : List Kind) → and_kind e.kind (argument_kinds es) ≡ Some js → KnownPieces k (e ∷ es) Q (one.first ∷ r.firsts) (one.second ∷ r.seconds)
         known_more js q =
             let (own, others, own_is, others_are) = both_kinds e.kind (argument_kinds es) js q in
@@ -263,6 +285,10 @@ module _ (g : Values) where
                     z.depends names names' v w y (λ h. reads (or_right (is_reading e) (some_reads es) h)) m,
                   );
               steady = λ h. let (x, y) = or_parts (is_reading e) (some_reads es) h in (λ i. s.steady (sym reading_is ∙ x) i ∷ z.steady y i);
+              typed = λ scope a js kinds m.
+                  let (x, y) = kinds_apart e.asks (all_asks es) ks scope a in
+                  let (j, is, j_is, is_are, all) = kinds_whole e.kind (argument_kinds es) js (kinds_are js kinds) in
+                  subst (AllHave op m k want scope (one.second ∷ r.seconds)) all (subst (λ c. HasKind one.second c scope j) (sym want_here) (s.typed scope x j j_is), z.typed scope y is is_are m);
             }
 
     -- ---- elements from place i on
@@ -287,7 +313,7 @@ module _ (g : Values) where
     piece_is k p u t here there = ap (λ o. piece_element o (choices u) whole ks) here ∙ ap (λ o. piece_at p (choices u) o ks) there
 
     content_more : (i k : ℕ) (follows : Bool) (t : Tree) (ts before : List Tree) (u v : Term) (qs : List FormatPiece) (us vs : List Term) → whole ≡ before ++ t ∷ ts → length before ≡ i →
-        slice_get pieces k ≡ Some (record { at = i; role = Content }) → is_image_tree t ≡ false → ((w : Want) → (Good g w N false v (simple_element true (choices u) t w ks)) × (is_image (choices u t w ks).node.tree ≡ false)) →
+        slice_get pieces k ≡ Some (record { at = i; role = Content }) → is_image_tree t ≡ false → ((w : Want) → (Good g ks w N false v (simple_element true (choices u) t w ks)) × (is_image (choices u t w ks).node.tree ≡ false) × Kept g ks w v (simple_element true (choices u) t w ks)) →
         SectionsGood (i + 1) (k + 1) true ts qs us vs → SectionsGood i k follows (t ∷ ts) (record { at = i; role = Content } ∷ qs) (u ∷ us) (v ∷ vs)
     content_more i k follows t ts before u v qs us vs whole_is placed here no_image one r = record {
       news = e.tree ∷ r.news;
@@ -296,7 +322,7 @@ module _ (g : Values) where
           ∙ (ap (put_pieces pieces (k + 1) (made (k + 1) us)) (put_there p e.tree t ahead ts at ∙ sym (append_assoc ahead (e.tree ∷ []) ts))
           ∙ (r.put (ahead ++ e.tree ∷ []) (length_end ahead e.tree ∙ ap (λ n. n + 1) at) ∙ append_assoc ahead (e.tree ∷ []) r.news));
       counted = ap suc r.counted;
-      good = piece_more k p u v us vs _ _ here (subst (Good g wants.Shown N false v) (sym e_is) (one wants.Shown).0) r.good
+      good = piece_more k p u v us vs _ _ here (subst (Good g ks wants.Shown N false v) (sym e_is) (one wants.Shown).0) (subst (Kept g ks wants.Shown v) (sym e_is) (one wants.Shown).2) r.good
           (λ M x y xs ys parsed rest. content_section e.tree i follows M x y (trees_of r.news) qs xs ys still parsed rest);
     }
       where
@@ -310,11 +336,11 @@ module _ (g : Values) where
         e_is = piece_is k p u t here (ap (λ z. slice_get z i) whole_is ∙ get_at before i t ts placed)
 
         still : is_image_tree e.tree ≡ false
-        still = sym (image_tests e.tree) ∙ (ap (λ (x : SimpleElement). is_image x.tree) e_is ∙ chosen_no_image g (choices u t wants.Shown ks) (one wants.Shown).1)
+        still = sym (image_tests e.tree) ∙ (ap (λ (x : SimpleElement). is_image x.tree) e_is ∙ chosen_no_image g ks (choices u t wants.Shown ks) (one wants.Shown).1)
 
     option_more : (i k : ℕ) (key : List ℕ) (role : Role) (t : Tree) (ms : Members) (ts before : List Tree) (done : Members) (u v : Term) (qs : List FormatPiece) (us vs : List Term) →
         whole ≡ before ++ object (fields_of (done ++ (key, t) ∷ ms)) ∷ ts → length before ≡ i → option_named key ≡ Some role → slice_get pieces k ≡ Some (record { at = i; role = role }) →
-        LacksKey key done → LacksKey key ms → ((c : Bool) (w : Want) → Good g w N false v (simple_element c (choices u) t w ks)) →
+        LacksKey key done → LacksKey key ms → ((c : Bool) (w : Want) → Good g ks w N false v (simple_element c (choices u) t w ks) × Kept g ks w v (simple_element c (choices u) t w ks)) →
         ObjectGood i (k + 1) ms ts qs us vs → ObjectGood i k ((key, t) ∷ ms) ts (record { at = i; role = role } ∷ qs) (u ∷ us) (v ∷ vs)
     option_more i k key role t ms ts before done u v qs us vs whole_is placed option here apart distinct one r = record {
       mems = (key, e.tree) ∷ r.mems;
@@ -325,7 +351,7 @@ module _ (g : Values) where
           ∙ (r.put ahead (past ++ (key, e.tree) ∷ []) at (apart_push past (key, e.tree) ms lacks.1 distinct)
           ∙ ap (λ ns. ahead ++ object (fields_of ns) ∷ r.news) (append_assoc past ((key, e.tree) ∷ []) r.mems)));
       counted = r.counted;
-      good = piece_more k p u v us vs _ _ here (subst (Good g (role_want role) N false v) (sym e_is) (one (is_content role) (role_want role))) r.good
+      good = piece_more k p u v us vs _ _ here (subst (Good g ks (role_want role) N false v) (sym e_is) (one (is_content role) (role_want role)).0) (subst (Kept g ks (role_want role) v) (sym e_is) (one (is_content role) (role_want role)).1) r.good
           (λ M x y xs ys parsed rest.
           let (p1, p2, us1, us2, vs1, vs2, ps_is, us_is, vs_is, options, sections) = rest in (
             p ∷ p1,
@@ -402,7 +428,7 @@ module _ (g : Values) where
         (subst (λ zs. ObjectGood i k ((key, t) ∷ members_of fs) ts (piece ∷ (p1 ++ q)) (zs ++ x) (v ++ y)) (sym u_is)
         (subst (λ zs. ObjectGood i k ((key, t) ∷ members_of fs) ts (piece ∷ (p1 ++ q)) (u0 ∷ (us ++ x)) (zs ++ y)) (sym v_is)
         (option_more i k key role t (members_of fs) ts before done u0 v0 (p1 ++ q) (us ++ x) (vs ++ y) whole_is placed option (from_here pieces k piece (p1 ++ q) from_p) apart.0 distinct.0
-        (λ c w. chosen_good g w N false v0 c (choices u0 t w ks) (good.0 N false u0 v0 here w ks).0) others)))
+        (λ c w. let made = (good.0 N false u0 v0 here w ks).0 in (chosen_good g ks w N false v0 c (choices u0 t w ks) made, chosen_kept g ks w N false v0 c (choices u0 t w ks) made)) others)))
 
     content_good : (t : Tree) (ts : Trees) → GoodTree g t → GoodSections ts → (i k : ℕ) (follows : Bool) (before : List Tree) (ps : List FormatPiece) (us vs : List Term) → whole ≡ before ++ t ∷ listed ts → length before ≡ i → AreFrom pieces k ps →
         is_image_tree t ≡ false → MorePieces ps (record { at = i; role = Content }) (λ qs. MoreTerms us vs (λ u v xs ys. Parsed g t N false u v × ParsedSections g false (i + 1) true ts N qs xs ys)) → SectionsGood i k follows (t ∷ listed ts) ps us vs
@@ -416,7 +442,7 @@ module _ (g : Values) where
         (subst (λ zs. SectionsGood i k follows (t ∷ listed ts) (piece ∷ qs) zs vs) (sym us_is)
         (subst (λ zs. SectionsGood i k follows (t ∷ listed ts) (piece ∷ qs) (u ∷ xs) zs) (sym vs_is)
         (content_more i k follows t (listed ts) before u v qs xs ys whole_is placed (from_here pieces k piece qs from_p) no_image
-        (λ w. let c = one N false u v here w ks in (chosen_good g w N false v true (choices u t w ks) c.0, c.1 refl (image_tests t ∙ no_image))) rest)))
+        (λ w. let c = one N false u v here w ks in (chosen_good g ks w N false v true (choices u t w ks) c.0, c.1 refl (image_tests t ∙ no_image), chosen_kept g ks w N false v true (choices u t w ks) c.0)) rest)))
 
     sections_good : (ts : Trees) → GoodTrees g ts → GoodSections ts
     sections_good no_trees good i k follows before ps us vs whole_is placed from h =
@@ -452,24 +478,35 @@ module _ (g : Values) where
 
   module _ (ps : List FormatPiece) (want : Want) (N : Names) (f : Bool) (ks : KindScope) (us vs : List Term) where
     abbrev whole_good : Trees → Type 0
-    whole_good ts = Good g want N f (node (operators.Format ps) (terms_of vs)) (format_of (operators.Format ps) ps want (listed ts) (piece_elements ps 0 (simples (terms_of us)) (listed ts) ks))
+    whole_good ts =
+        let e : SimpleElement = format_of (operators.Format ps) ps want (listed ts) (piece_elements ps 0 (simples (terms_of us)) (listed ts) ks) in
+        Good g ks want N f (node (operators.Format ps) (terms_of vs)) e × Kept g ks want (node (operators.Format ps) (terms_of vs)) e
 
     format_of_good : (t : Tree) (ts : Trees) → head_name (tree t no_trees) ≡ Some named.Format → allows (row named.Format).arity (count_trees (tree t ts) - 1) ≡ true → f ≡ true →
         SectionsGood ps (t ∷ listed ts) want N ks 1 0 false (listed ts) ps us vs → whole_good (tree t ts)
-    format_of_good t ts head fits is r = record {
-      first = node (operators.Format ps) (terms_of r.good.firsts);
-      second = node (operators.Format ps) (terms_of r.good.seconds);
-      parsed = parsed_in N r.good.parsed;
-      same = λ names world.
-          node_alike want names names world world (operators.Format ps) (means (terms_of r.good.seconds)) (means (terms_of vs)) tt (λ z. refl) (λ z. refl) (r.good.alike names world (length (means (terms_of r.good.seconds))));
-      lighter = λ w. let x = r.good.lighter w in let same = same_weight w (operators.Format ps) r.good.seconds vs r.good.as_many in omega (arith, x, same);
-      known = λ k q. known_by (argument_kinds es) refl k q;
-      asked = λ k q. asked_by (argument_kinds es) refl k q;
-      argument = refl;
-    }
+    format_of_good t ts head fits is r = (
+      record {
+        first = node (operators.Format ps) (terms_of r.good.firsts);
+        second = node (operators.Format ps) (terms_of r.good.seconds);
+        parsed = parsed_in N r.good.parsed;
+        same = λ names world.
+            node_alike want names names world world (operators.Format ps) (means (terms_of r.good.seconds)) (means (terms_of vs)) tt (λ z. refl) (λ z. refl) (r.good.alike names world (length (means (terms_of r.good.seconds))));
+        lighter = less;
+        calmer = hidden_calmer (operators.Format ps) (terms_of vs) (node (operators.Format ps) (terms_of r.good.seconds)) (format_hides ps) refl (less zooms);
+        known = λ k q. known_by (argument_kinds es) refl k q;
+        asked = λ k q. asked_by (argument_kinds es) refl k q;
+        argument = refl;
+      },
+      λ k typed.
+          let (js, are, kind) = node_from (operators.Format ps) tt want ks vs k typed in
+          ap (kind_by (operators.Format ps) want) (r.good.kept (length vs) js are) ∙ kind,
+    )
       where
         es : List SimpleElement
         es = piece_elements ps 0 (simples (terms_of us)) (t ∷ listed ts) ks
+
+        less : (w : Weights) → measure w (node (operators.Format ps) (terms_of r.good.seconds)) ≤ measure w (node (operators.Format ps) (terms_of vs))
+        less w = let x = r.good.lighter w in let same = same_weight w (operators.Format ps) r.good.seconds vs r.good.as_many in omega (arith, x, same)
 
         new_is : tree t (trees_of r.news) ≡ trees_of (put_pieces ps 0 es (t ∷ listed ts))
         new_is = ap trees_of (sym (r.put (t ∷ []) refl))
@@ -488,7 +525,7 @@ module _ (g : Values) where
         asked_by (Some js) e k q = r.good.asked js e
 
         known_by : (o : Option (List Kind)) → argument_kinds es ≡ o → (k : Kind) → kind_by (operators.Format ps) want o ≡ Some k →
-            Known g want f (format_of (operators.Format ps) ps want (t ∷ listed ts) es) (node (operators.Format ps) (terms_of r.good.firsts)) (node (operators.Format ps) (terms_of r.good.seconds))
+            Known g ks want f (format_of (operators.Format ps) ps want (t ∷ listed ts) es) (node (operators.Format ps) (terms_of r.good.firsts)) (node (operators.Format ps) (terms_of r.good.seconds))
         known_by None e k q = absurd (cc)
         known_by (Some js) e k q =
             let s = r.good.known js e in
@@ -498,6 +535,8 @@ module _ (g : Values) where
                   node_alike want names names' v w (operators.Format ps) (means (terms_of r.good.seconds)) (means (terms_of r.good.seconds)) tt (λ z. absurd (cc)) (λ z. absurd (no_script ps z))
                   (s.depends names names' v w a given (length (means (terms_of r.good.seconds))));
               steady = λ z. ap (λ xs. node (operators.Format ps) (terms_of xs)) (s.steady z);
+              typed = λ scope a j kind.
+                  node_has (operators.Format ps) tt want scope r.good.seconds j js (s.typed scope a js e (length r.good.seconds)) (sym (ap (kind_by (operators.Format ps) want) e) ∙ kind);
             }
 
     pub format_good : (ts : Trees) → GoodTrees g ts → head_name ts ≡ Some named.Format → allows (row named.Format).arity (count_trees ts - 1) ≡ true → f ≡ true → ParsedSections g true 0 false ts N ps us vs → whole_good ts

@@ -6,6 +6,7 @@ use Rattle.std.specs.Prelude.{not, ◌/◌, ◌%◌, ◌&&◌, ◌||◌, is_some
 use Rattle.std.specs.Str.{bytes_eq}
 use Rattle.decimal_json.specs.Tree.{Tree, null, boolean, number, text, list, object, Trees, no_trees, tree, trees_of}
 use Rattle.prop_values.specs.declared.kinds.Kind.{Kind}
+use Rattle.prop_values.specs.declared.kinds.Kind.TheVariants as known_kinds
 use Rattle.prop_values.specs.declared.kinds.Want.{Want}
 use Rattle.prop_values.specs.declared.kinds.Want.TheVariants as wants
 use Rattle.expr_syntax.specs.BoundNames.{is_among}
@@ -26,7 +27,10 @@ use Rattle.expr_syntax.specs.declared.rows.ElementPlace.TheVariants.{Part, Argum
 use Rattle.expr_syntax.specs.declared.rows.Wanted.TheVariants.{Own, OfNode}
 use Rattle.expr_syntax.proofs.CountLaws.{count_trees}
 use Rattle.expr_syntax.proofs.NameIndexLaws.{last_within, place_of_known}
-use Rattle.expr_types.specs.Typing.{KindScope, frame as kind_frame}
+use Rattle.expr_types.specs.Fits.{branch_kind}
+use Rattle.expr_types.specs.Typing.{KindScope, frame as kind_frame, last_kind, own_named, or_own as kind_or_own, or_outer as kind_or_outer}
+use Rattle.expr_types.specs.declared.own.Own.{Own as KindOwn}
+use Rattle.expr_types.specs.declared.standing.Standing.{Standing}
 use Rattle.operator_values.specs.Evaluated.{Evaluated}
 use Rattle.eval_face.specs.Bindings.{body_of, outcomes_of}
 use Rattle.eval_face.specs.Meaning.{mean, means}
@@ -37,9 +41,11 @@ use Rattle.style_simplify.specs.Choices.{NodeChoices}
 use Rattle.style_simplify.specs.Simple.{Simple, as_it_is, choices, elements, let_body, let_choices, let_simple, let_with, listed, simple_element, simples, unread}
 use Rattle.style_simplify.specs.SimpleElements.{SimpleElement, all_asks, and_kind, argument_kinds, body_kind, is_reading, let_of, part, some_reads, tree_in, without}
 use Rattle.simplify_laws.proofs.ParsedTrees.{HereOr, Names, Values, Parsed, ParsedArguments}
+use Rattle.simplify_laws.proofs.TermKinds.{EachHas, EachTyped, HasKind, IsTyped, drop_front, each_count, let_from, let_has, take_front}
 use Rattle.simplify_laws.proofs.Measures.{Weights, measure, measures}
+use Rattle.simplify_laws.proofs.Strays.{binding_zooms, body_calmer, body_standing, let_strays, strays, zooms}
 use Rattle.simplify_laws.proofs.ReadBack.{among_append}
-use Rattle.simplify_laws.proofs.GoodElements.{AreAmong, Good, GoodChoices, GoodNode, GoodTree, GoodTrees, Known, SameAt, among_both, among_parts, both_kinds, chosen_good, same_parts}
+use Rattle.simplify_laws.proofs.GoodElements.{AreAmong, Good, GoodChoices, GoodNode, GoodTree, GoodTrees, Kept, Known, SameAt, SameKinds, among_both, among_parts, both_kinds, chosen_good, chosen_kept, kinds_apart, kinds_whole, same_kinds, same_parts}
 use Rattle.simplify_laws.proofs.FormatsGood.{get_at, length_end}
 use Rattle.simplify_laws.proofs.JoinsGood.{good_change}
 use Rattle.simplify_laws.proofs.LiteralsGood.{choices_good}
@@ -88,14 +94,6 @@ not_last : (n i : ℕ) → (i + 1 ≡ n → ⊥) → is_last n i ≡ false
 not_last n i e = ne_eqb (i + 1) n e
 
 -- ---- lists that end with one more
-
-take_front : {A : Type 0} (xs : List A) (y : A) → take (length xs) (xs ++ y ∷ []) ≡ xs
-take_front [] y = refl
-take_front (x ∷ xs) y = ap (λ zs. x ∷ zs) (take_front xs y)
-
-drop_front : {A : Type 0} (xs : List A) (y : A) → drop (length xs) (xs ++ y ∷ []) ≡ y ∷ []
-drop_front [] y = refl
-drop_front (x ∷ xs) y = drop_front xs y
 
 simples_end : (us : List Term) (u : Term) → simples (terms_of (us ++ u ∷ [])) ≡ simples (terms_of us) ++ choices u ∷ []
 simples_end [] u = refl
@@ -245,20 +243,28 @@ name_ok (text s) ts bs h = by (is_binding_name s) refl h
     by true q k = rest (binding_names ts) refl q k
     by false q k = absurd (cc)
 
-module _ (g : Values) where
+-- names that have the same kinds as others have those of a third
+kinds_then : (asks : Names) (a b c : KindScope) → SameKinds asks a b → SameKinds asks b c → SameKinds asks a c
+kinds_then [] a b c h k = tt
+kinds_then (s ∷ ss) a b c h k = (h.0 ∙ k.0, kinds_then ss a b c h.1 k.1)
+
+module _ (g : Values) (scope : KindScope) where
   -- in other names that it asks for
-  rescoped : (want : Want) (N M : Names) (f : Bool) (t : Term) (e : SimpleElement) (k : Kind) → e.kind ≡ Some k → AreAmong M e.asks → Good g want N f t e → Good g want M f t e
+  rescoped : (want : Want) (N M : Names) (f : Bool) (t : Term) (e : SimpleElement) (k : Kind) → e.kind ≡ Some k → AreAmong M e.asks → Good g scope want N f t e → Good g scope want M f t e
   rescoped want N M f t e k is among good = record {
     first = good.first;
     second = good.second;
     parsed = (good.known k is).names M among;
     same = good.same;
     lighter = good.lighter;
+    calmer = good.calmer;
     known = good.known;
     asked = λ j q. among;
     argument = good.argument;
   }
 
+-- in names of these kinds
+module _ (g : Values) (scope : KindScope) where
   module _ (N : Names) where
     -- a binding whose expression is simplified
     record Binding : Type 0 where
@@ -266,7 +272,8 @@ module _ (g : Values) where
       pub is_name : is_binding_name name ≡ true
       pub element : SimpleElement
       pub term : Term
-      pub good : Good g wants.Any N false term element
+      pub good : Good g scope wants.Any N false term element
+      pub kept : Kept g scope wants.Any term element
 
     abbrev names_of : List Binding → Names
     names_of [] = []
@@ -280,6 +287,18 @@ module _ (g : Values) where
     abbrev terms_with : (Binding → Term) → List Binding → Term → List Term
     terms_with pick [] b = b ∷ []
     terms_with pick (q ∷ qs) b = pick q ∷ terms_with pick qs b
+
+    abbrev picks : (Binding → Term) → List Binding → List Term
+    picks pick [] = []
+    picks pick (q ∷ qs) = pick q ∷ picks pick qs
+
+    with_end : (pick : Binding → Term) (qs : List Binding) (b : Term) → terms_with pick qs b ≡ picks pick qs ++ b ∷ []
+    with_end pick [] b = refl
+    with_end pick (q ∷ qs) b = ap (λ ts. pick q ∷ ts) (with_end pick qs b)
+
+    picks_count : (pick : Binding → Term) (qs : List Binding) → length (picks pick qs) ≡ length (names_of qs)
+    picks_count pick [] = refl
+    picks_count pick (q ∷ qs) = ap suc (picks_count pick qs)
 
     abbrev old_term : Binding → Term
     old_term q = q.term
@@ -377,6 +396,66 @@ module _ (g : Values) where
         )
         by false q k later = ((λ i. or_outer (last_named (F i) s) (k.0 i)), later k.1)
 
+    -- ---- the kinds of its names
+
+    abbrev kind_in : Option Kind → Kind
+    kind_in (Some k) = k
+    kind_in None = known_kinds.Any
+
+    abbrev bound_kinds : List Binding → List (List ℕ × Kind)
+    bound_kinds [] = []
+    bound_kinds (q ∷ qs) = (q.name, kind_in q.element.kind) ∷ bound_kinds qs
+
+    kinds_of_all : (q : Binding) (qs : List Binding) (js : List Kind) → argument_kinds (spread (q ∷ qs)) ≡ Some js → and_kind q.element.kind (argument_kinds (spread qs)) ≡ Some js
+    kinds_of_all q qs js h = sym (ap (λ b. if b then argument_kinds (spread qs) else and_kind q.element.kind (argument_kinds (spread qs))) q.good.argument) ∙ h
+
+    frame_is : (qs : List Binding) (js : List Kind) → argument_kinds (spread qs) ≡ Some js → kind_frame (names_of qs) js ≡ bound_kinds qs
+    frame_is [] js h = refl
+    frame_is (q ∷ qs) js h =
+        let (j, is, j_is, is_are, all) = kinds_whole q.element.kind (argument_kinds (spread qs)) js (kinds_of_all q qs js h) in
+        ap (kind_frame (q.name ∷ names_of qs)) (sym all) ∙ (λ i. (q.name, kind_in (sym j_is i)) ∷ frame_is qs is is_are i)
+
+    abbrev HasOwn : Option Kind → Type 0
+    HasOwn o = (x : Kind) × (o ≡ Some x)
+
+    own_kept : (o : Option Kind) (name : List ℕ) (own : Kind) (s : List ℕ) → HasOwn o → kind_or_own o name own s ≡ o
+    own_kept (Some x) name own s h = refl
+    own_kept None name own s h = absurd (let q : None ≡ Some h.0 = h.1 in cc)
+
+    no_kind : (qs : List Binding) (s : List ℕ) → is_among (names_of qs) s ≡ false → last_kind (bound_kinds qs) s ≡ None
+    no_kind [] s h = refl
+    no_kind (q ∷ qs) s h =
+        let (here, later) = or_parts (bytes_eq q.name s) (is_among (names_of qs) s) h in
+        ap (λ o. kind_or_own o q.name (kind_in q.element.kind) s) (no_kind qs s later) ∙ ap (λ b. if b then Some (kind_in q.element.kind) else None) here
+
+    some_kind : (qs : List Binding) (s : List ℕ) → is_among (names_of qs) s ≡ true → HasOwn (last_kind (bound_kinds qs) s)
+    some_kind [] s h = absurd (cc)
+    some_kind (q ∷ qs) s h = by (is_among (names_of qs) s) refl (bytes_eq q.name s) refl (λ k. some_kind qs s k)
+      where
+        by : (b : Bool) → is_among (names_of qs) s ≡ b → (c : Bool) → bytes_eq q.name s ≡ c → (is_among (names_of qs) s ≡ true → HasOwn (last_kind (bound_kinds qs) s)) → HasOwn (last_kind (bound_kinds (q ∷ qs)) s)
+        by true k c r later =
+            let there = later k in
+            (there.0, own_kept (last_kind (bound_kinds qs) s) q.name (kind_in q.element.kind) s there ∙ there.1)
+        by false k true r later = (
+          kind_in q.element.kind,
+          ap (λ o. kind_or_own o q.name (kind_in q.element.kind) s) (no_kind qs s k) ∙ ap (λ b. if b then Some (kind_in q.element.kind) else None) r,
+        )
+        by false k false r later = absurd (let bad : false ≡ true = sym (λ i. r i || k i) ∙ h in cc)
+
+    -- the kinds of its names, and outside of them of those that are asked for there
+    kinds_inside : (qs : List Binding) (W asks : Names) (ks js : KindScope) → BindSame W (names_of qs) asks → SameKinds (without W asks) ks js → SameKinds asks (bound_kinds qs ∷ ks) (bound_kinds qs ∷ js)
+    kinds_inside qs W [] ks js same h = tt
+    kinds_inside qs W (s ∷ ss) ks js same h = by (is_some (last_place 0 W s)) refl h (λ k. kinds_inside qs W ss ks js same.1 k)
+      where
+        or_there : (o : Option Kind) (x y : KindOwn) → HasOwn o → kind_or_outer o x ≡ kind_or_outer o y
+        or_there (Some z) x y h = refl
+        or_there None x y h = absurd (let q : None ≡ Some h.0 = h.1 in cc)
+
+        by : (b : Bool) → is_some (last_place 0 W s) ≡ b → SameKinds (if b then without W ss else s ∷ without W ss) ks js → (SameKinds (without W ss) ks js → SameKinds ss (bound_kinds qs ∷ ks) (bound_kinds qs ∷ js)) →
+            SameKinds (s ∷ ss) (bound_kinds qs ∷ ks) (bound_kinds qs ∷ js)
+        by true q k later = (or_there (last_kind (bound_kinds qs) s) (own_named ks s) (own_named js s) (some_kind qs s (sym same.0 ∙ q)), later k)
+        by false q k later = (ap (kind_or_outer (last_kind (bound_kinds qs) s)) k.0, later k.1)
+
     -- ---- how it reads
 
     as_output : (n i : ℕ) → element_place layouts.Bindings n i ≡ Output → (f : Bool) (S : Type 0) (T : Bool → Type 0) → T f → HereOr (element_place layouts.Bindings n i) f S T
@@ -427,9 +506,16 @@ module _ (g : Values) where
       pub depends : (names names' : BoundOutcomes) (v w : World) → SameAt (all_asks (spread qs)) names names' → (some_reads (spread qs) ≡ true → v ≡ w) → outcomes second_term qs names v ≡ outcomes second_term qs names' w
       pub steady : some_reads (spread qs) ≡ false → (x y : Term) → x ≡ y → terms_with first_term qs x ≡ terms_with second_term qs y
       pub asked : AreAmong N (all_asks (spread qs))
+      pub typed : (ks : KindScope) → SameKinds (all_asks (spread qs)) scope ks → (js : List Kind) → argument_kinds (spread qs) ≡ Some js → EachHas ks (picks second_term qs) js
 
     known_bindings : (qs : List Binding) (js : List Kind) → argument_kinds (spread qs) ≡ Some js → KnownBindings qs
-    known_bindings [] js h = record { names = λ M a. tt; depends = λ names names' v w a reads. refl; steady = λ z x y e. ap (λ t. t ∷ []) e; asked = tt }
+    known_bindings [] js h = record {
+      names = λ M a. tt;
+      depends = λ names names' v w a reads. refl;
+      steady = λ z x y e. ap (λ t. t ∷ []) e;
+      asked = tt;
+      typed = λ ks a is kinds. let none : [] ≡ is = cc in subst (EachHas ks []) none tt;
+    }
     known_bindings (q ∷ qs) js h =
         let e = q.element in
         let reading_is : is_reading e ≡ e.reads = ap (λ b. if b then false else e.reads) q.good.argument in
@@ -445,7 +531,28 @@ module _ (g : Values) where
               ∷ r.depends names names' v w y (λ z. reads (or_right (is_reading e) (some_reads (spread qs)) z)) i);
           steady = λ z x y same. let (u, v) = or_parts (is_reading e) (some_reads (spread qs)) z in (λ i. s.steady (sym reading_is ∙ u) i ∷ r.steady v x y same i);
           asked = among_both N e.asks (all_asks (spread qs)) (q.good.asked own own_is) r.asked;
+          typed = λ ks a is kinds.
+              let (x, y) = kinds_apart e.asks (all_asks (spread qs)) scope ks a in
+              let (k, ls, k_is, ls_are, all) = kinds_whole e.kind (argument_kinds (spread qs)) is (kinds_of_all q qs is kinds) in
+              subst (EachHas ks (picks second_term (q ∷ qs))) all (s.typed ks x k k_is, r.typed ks y ls ls_are);
         }
+
+    bindings_kept : (qs : List Binding) (js : List Kind) → EachTyped scope (picks old_term qs) js → argument_kinds (spread qs) ≡ Some js
+    bindings_kept [] [] h = refl
+    bindings_kept [] (j ∷ js) h = absurd h
+    bindings_kept (q ∷ qs) [] h = absurd h
+    bindings_kept (q ∷ qs) (j ∷ js) h =
+        ap (λ b. if b then argument_kinds (spread qs) else and_kind q.element.kind (argument_kinds (spread qs))) q.good.argument
+        ∙ (λ i. and_kind (q.kept j h.0 i) (bindings_kept qs js h.1 i))
+
+    -- ---- where `zoom` is in it
+
+    terms_strays : (pick : Binding → Term) (bs : Names) (qs : List Binding) (b : Term) (s : Standing) → strays (node (operators.Let bs) (terms_of (terms_with pick qs b))) s ≡ binding_zooms (picks pick qs) + strays b (body_standing s)
+    terms_strays pick bs qs b s = ap (λ ts. strays (node (operators.Let bs) (terms_of ts)) s) (with_end pick qs b) ∙ let_strays bs (picks pick qs) b s
+
+    fewer_zooms : (qs : List Binding) → binding_zooms (picks second_term qs) ≤ binding_zooms (picks old_term qs)
+    fewer_zooms [] = omega arith
+    fewer_zooms (q ∷ qs) = let x = q.good.lighter zooms in let y = fewer_zooms qs in omega (arith, x, y)
 
     -- ---- a `let` of these bindings
 
@@ -479,9 +586,11 @@ module _ (g : Values) where
             ),
           )
 
-      let_good : (qs : List Binding) (body : SimpleElement) (v : Term) → 0 < length qs → Good g want (names_of qs ++ N) f v body → ((k : Kind) → body.kind ≡ Some k → BindSame W (names_of qs) body.asks) →
-          Good g want N f (node (operators.Let (names_of qs)) (terms_of (terms_with old_term qs v))) (new_let qs body)
-      let_good qs body v some good same = record {
+      -- its body in names of other kinds, which are the same where it asks for them
+      let_good : (around : KindScope) (qs : List Binding) (body : SimpleElement) (v : Term) → 0 < length qs → Good g around want (names_of qs ++ N) f v body → ((k : Kind) → body.kind ≡ Some k → BindSame W (names_of qs) body.asks) →
+          SameKinds body.asks around (bound_kinds qs ∷ scope) →
+          Good g scope want N f (node (operators.Let (names_of qs)) (terms_of (terms_with old_term qs v))) (new_let qs body)
+      let_good around qs body v some good same inside = record {
         first = node (operators.Let (names_of qs)) (terms_of (terms_with first_term qs good.first));
         second = node (operators.Let (names_of qs)) (terms_of (terms_with second_term qs good.second));
         parsed = let_parsed qs body good.first good.second some N (all_parsed qs) good.parsed;
@@ -494,6 +603,12 @@ module _ (g : Values) where
             let h = lighter_terms w qs good.second v (good.lighter w) in
             let same_one = w.lets (names_of qs) (names_of qs) (count (terms_of (terms_with second_term qs good.second))) (count (terms_of (terms_with old_term qs v))) in
             omega (arith, h, same_one);
+        calmer = λ s.
+            let new = terms_strays second_term (names_of qs) qs good.second s in
+            let old = terms_strays old_term (names_of qs) qs v s in
+            let x = fewer_zooms qs in
+            let y = good.calmer (body_standing s) in
+            omega (arith, new, old, x, y);
         known = λ k q.
             let (js, j, kinds, own) = let_kinds want (argument_kinds (spread qs)) body.kind k q in
             known_let js j kinds own;
@@ -504,7 +619,7 @@ module _ (g : Values) where
       }
         where
           known_let : (js : List Kind) (j : Kind) → argument_kinds (spread qs) ≡ Some js → body.kind ≡ Some j →
-              Known g want f (new_let qs body) (node (operators.Let (names_of qs)) (terms_of (terms_with first_term qs good.first))) (node (operators.Let (names_of qs)) (terms_of (terms_with second_term qs good.second)))
+              Known g scope want f (new_let qs body) (node (operators.Let (names_of qs)) (terms_of (terms_with first_term qs good.first))) (node (operators.Let (names_of qs)) (terms_of (terms_with second_term qs good.second)))
           known_let js j kinds own =
               let r = known_bindings qs js kinds in
               let s = good.known j own in
@@ -521,6 +636,16 @@ module _ (g : Values) where
                 steady = λ z.
                     let (x, y) = or_parts (some_reads (spread qs)) body.reads z in
                     ap (λ us. node (operators.Let (names_of qs)) (terms_of us)) (r.steady x good.first good.second (s.steady y));
+                typed = λ ks a k kind.
+                    let (x, y) = kinds_apart (all_asks (spread qs)) (without W body.asks) scope ks a in
+                    let named : bound_kinds qs ∷ ks ≡ kind_frame (names_of qs) js ∷ ks = ap (λ F. F ∷ ks) (sym (frame_is qs js kinds)) in
+                    let there : SameKinds body.asks around (kind_frame (names_of qs) js ∷ ks) =
+                    subst (SameKinds body.asks around) named (kinds_then body.asks around (bound_kinds qs ∷ scope) (bound_kinds qs ∷ ks) inside (kinds_inside qs W body.asks scope ks (same j own) y)) in
+                    let own_is : Some (branch_kind want j) ≡ Some k = sym (λ i. body_kind want (kinds i) (own i)) ∙ kind in
+                    let is : branch_kind want j ≡ k = cc in
+                    subst (λ ts. HasKind (node (operators.Let (names_of qs)) (terms_of ts)) want ks k) (sym (with_end second_term qs good.second))
+                    (subst (HasKind (node (operators.Let (names_of qs)) (terms_of (picks second_term qs ++ good.second ∷ []))) want ks) is
+                    (let_has (names_of qs) (picks second_term qs) good.second (picks_count second_term qs) want ks js j (r.typed ks x js kinds) (s.typed (kind_frame (names_of qs) js ∷ ks) there j own)));
               }
 
     -- ---- without the bindings that are not asked for
@@ -558,6 +683,30 @@ module _ (g : Values) where
             none_named pick qs names w s k
             ∙ sym (ap (λ o. or_own o q.name (mean (pick q) wants.Any names w) s) (none_named pick qs names w s k)
             ∙ ap (λ b. if b then Some (mean (pick q) wants.Any names w) else None) r)
+
+    kinds_kept_last : (ms : List Bool) (qs : List Binding) (s : List ℕ) → IsMarkedIn ms (names_of qs) s → last_kind (bound_kinds (kept ms qs)) s ≡ last_kind (bound_kinds qs) s
+    kinds_kept_last [] [] s h = refl
+    kinds_kept_last [] (q ∷ qs) s h = absurd h
+    kinds_kept_last (m ∷ ms) [] s h = absurd h
+    kinds_kept_last (true ∷ ms) (q ∷ qs) s h = ap (λ o. kind_or_own o q.name (kind_in q.element.kind) s) (kinds_kept_last ms qs s h.1)
+    kinds_kept_last (false ∷ ms) (q ∷ qs) s h = kinds_kept_last ms qs s h.1 ∙ by (is_among (names_of qs) s) refl (bytes_eq q.name s) refl
+      where
+        by : (b : Bool) → is_among (names_of qs) s ≡ b → (c : Bool) → bytes_eq q.name s ≡ c → last_kind (bound_kinds qs) s ≡ last_kind (bound_kinds (q ∷ qs)) s
+        by true k c r = sym (own_kept (last_kind (bound_kinds qs) s) q.name (kind_in q.element.kind) s (some_kind qs s k))
+        by false k true r = absurd (let bad : false ≡ true = h.0 k r in cc)
+        by false k false r =
+            no_kind qs s k
+            ∙ sym (ap (λ o. kind_or_own o q.name (kind_in q.element.kind) s) (no_kind qs s k) ∙ ap (λ b. if b then Some (kind_in q.element.kind) else None) r)
+
+    kinds_kept_inside : (ms : List Bool) (qs : List Binding) (asks : Names) (ks : KindScope) → AreMarkedIn ms (names_of qs) asks → SameKinds asks (bound_kinds qs ∷ ks) (bound_kinds (kept ms qs) ∷ ks)
+    kinds_kept_inside ms qs [] ks h = tt
+    kinds_kept_inside ms qs (s ∷ ss) ks h = (ap (λ o. kind_or_outer o (own_named ks s)) (sym (kinds_kept_last ms qs s h.0)), kinds_kept_inside ms qs ss ks h.1)
+
+    kept_zooms : (ms : List Bool) (qs : List Binding) → binding_zooms (picks old_term (kept ms qs)) ≤ binding_zooms (picks old_term qs)
+    kept_zooms [] qs = omega arith
+    kept_zooms (m ∷ ms) [] = omega arith
+    kept_zooms (true ∷ ms) (q ∷ qs) = let h = kept_zooms ms qs in omega (arith, h)
+    kept_zooms (false ∷ ms) (q ∷ qs) = let h = kept_zooms ms qs in omega (arith, h)
 
     kept_inside : (pick : Binding → Term) (ms : List Bool) (qs : List Binding) (asks : Names) (names : BoundOutcomes) (w : World) → AreMarkedIn ms (names_of qs) asks →
         SameAt asks (outcomes pick (kept ms qs) names w ∷ names) (outcomes pick qs names w ∷ names)
@@ -623,13 +772,19 @@ module _ (g : Values) where
         by true = refl
         by false = refl
 
-    module _ (want : Want) (f : Bool) (t : Tree) (head : head_name (tree t no_trees) ≡ Some named.Let) (qs : List Binding) (body : SimpleElement) (v : Term) (good : Good g want (names_of qs ++ N) f v body) where
+    module _ (want : Want) (f : Bool) (t : Tree) (head : head_name (tree t no_trees) ≡ Some named.Let) (qs : List Binding) (js0 : List Kind) (bound0 : argument_kinds (spread qs) ≡ Some js0) (body : SimpleElement) (v : Term) (good : Good g (kind_frame (names_of qs) js0 ∷ scope) want (names_of qs ++ N) f v body) where
+      abbrev around : KindScope
+      around = kind_frame (names_of qs) js0 ∷ scope
+
+      around_is : around ≡ bound_kinds qs ∷ scope
+      around_is = ap (λ F. F ∷ scope) (frame_is qs js0 bound0)
+
       abbrev old_let : Term
       old_let = node (operators.Let (names_of qs)) (terms_of (terms_with old_term qs v))
 
       module _ (j : Kind) (own : body.kind ≡ Some j) (ms : List Bool) (counted : length ms ≡ length qs) (are : AreMarkedIn ms (names_of qs) body.asks) where
         -- the body alone
-        body_good : some_marked ms ≡ false → Good g want N f old_let body
+        body_good : some_marked ms ≡ false → Good g scope want N f old_let body
         body_good none = record {
           first = good.first;
           second = good.second;
@@ -638,13 +793,35 @@ module _ (g : Values) where
               (good.known j own).depends names (outcomes old_term qs names w ∷ names) w w (alone names w body.asks are) (λ z. refl)
               ∙ (good.same (outcomes old_term qs names w ∷ names) w ∙ sym (let_mean old_term qs v want names w));
           lighter = λ w. let h = body_lighter w qs in let l = good.lighter w in omega (arith, h, l);
-          known = good.known;
+          calmer = λ s.
+              let old = terms_strays old_term (names_of qs) qs v s in
+              let own = good.calmer s in
+              let less = body_calmer v s in
+              omega (arith, old, own, less);
+          known = λ k q.
+              let known = good.known k q in
+              record {
+                names = known.names;
+                depends = known.depends;
+                steady = known.steady;
+                typed = λ ks a i kind. known.typed ks (kinds_then body.asks around scope ks kinds_outside a) i kind;
+              };
           asked = λ k q. outside;
           argument = good.argument;
         }
           where
             nothing : kept ms qs ≡ []
             nothing = kept_none ms qs none
+
+            kinds_alone : (asks : Names) → AreMarkedIn ms (names_of qs) asks → SameKinds asks (bound_kinds qs ∷ scope) scope
+            kinds_alone [] h = tt
+            kinds_alone (s ∷ ss) h = (
+              ap (λ o. kind_or_outer o (own_named scope s)) (sym (kinds_kept_last ms qs s h.0) ∙ ap (λ xs. last_kind (bound_kinds xs) s) nothing),
+              kinds_alone ss h.1,
+            )
+
+            kinds_outside : SameKinds body.asks around scope
+            kinds_outside = subst (λ B. SameKinds body.asks B scope) (sym around_is) (kinds_alone body.asks are)
 
             outside : AreAmong N body.asks
             outside = subst (λ xs. AreAmong (names_of xs ++ N) body.asks) nothing (kept_scope ms qs body.asks N are (good.asked j own))
@@ -661,11 +838,11 @@ module _ (g : Values) where
             body_lighter w (x ∷ xs) = let h = body_lighter w xs in omega (arith, h)
 
         -- the bindings that are asked for
-        kept_good : some_marked ms ≡ true → Good g want N f old_let (let_of (names_of qs) want (part t ∷ spread (kept ms qs)) body)
+        kept_good : some_marked ms ≡ true → Good g scope want N f old_let (let_of (names_of qs) want (part t ∷ spread (kept ms qs)) body)
         kept_good some =
-            let inner : Good g want (names_of (kept ms qs) ++ N) f v body =
-            rescoped want (names_of qs ++ N) (names_of (kept ms qs) ++ N) f v body j own (kept_scope ms qs body.asks N are (good.asked j own)) good in
-            good_change g want N f old_let (node (operators.Let (names_of (kept ms qs))) (terms_of (terms_with old_term (kept ms qs) v))) (let_of (names_of qs) want (part t ∷ spread (kept ms qs)) body)
+            let inner : Good g around want (names_of (kept ms qs) ++ N) f v body =
+            rescoped g around want (names_of qs ++ N) (names_of (kept ms qs) ++ N) f v body j own (kept_scope ms qs body.asks N are (good.asked j own)) good in
+            good_change g scope want N f old_let (node (operators.Let (names_of (kept ms qs))) (terms_of (terms_with old_term (kept ms qs) v))) (let_of (names_of qs) want (part t ∷ spread (kept ms qs)) body)
             (λ names w.
             let_mean old_term (kept ms qs) v want names w
             ∙ (sym (good.same (outcomes old_term (kept ms qs) names w ∷ names) w)
@@ -676,21 +853,38 @@ module _ (g : Values) where
             let h = kept_lighter w ms qs v in
             let same_one = w.lets (names_of (kept ms qs)) (names_of qs) (count (terms_of (terms_with old_term (kept ms qs) v))) (count (terms_of (terms_with old_term qs v))) in
             omega (arith, h, same_one))
-            (let_good want f t head (names_of qs) (kept ms qs) body v (kept_some ms qs counted some) inner (λ k q. kept_binds ms qs body.asks are))
+            (λ s.
+            let new = terms_strays old_term (names_of (kept ms qs)) (kept ms qs) v s in
+            let old = terms_strays old_term (names_of qs) qs v s in
+            let x = kept_zooms ms qs in
+            omega (arith, new, old, x))
+            (let_good want f t head (names_of qs) around (kept ms qs) body v (kept_some ms qs counted some) inner (λ k q. kept_binds ms qs body.asks are)
+            (subst (λ B. SameKinds body.asks B (bound_kinds (kept ms qs) ∷ scope)) (sym around_is) (kinds_kept_inside ms qs body.asks scope are)))
 
-        shorter_by : (a b : Bool) → some_marked ms ≡ b → (made : SimpleElement) → (if a then None else if b then Some (let_of (names_of qs) want (part t ∷ spread (kept ms qs)) body) else Some body) ≡ Some made → Good g want N f old_let made
+        shorter_by : (a b : Bool) → some_marked ms ≡ b → (made : SimpleElement) → (if a then None else if b then Some (let_of (names_of qs) want (part t ∷ spread (kept ms qs)) body) else Some body) ≡ Some made → Good g scope want N f old_let made
         shorter_by true b q made h = absurd (cc)
-        shorter_by false true q made h = let e : let_of (names_of qs) want (part t ∷ spread (kept ms qs)) body ≡ made = cc in subst (Good g want N f old_let) e (kept_good q)
-        shorter_by false false q made h = let e : body ≡ made = cc in subst (Good g want N f old_let) e (body_good q)
+        shorter_by false true q made h = let e : let_of (names_of qs) want (part t ∷ spread (kept ms qs)) body ≡ made = cc in subst (Good g scope want N f old_let) e (kept_good q)
+        shorter_by false false q made h = let e : body ≡ made = cc in subst (Good g scope want N f old_let) e (body_good q)
 
       names_length : (xs : List Binding) → length (names_of xs) ≡ length xs
       names_length [] = refl
       names_length (x ∷ xs) = ap suc (names_length xs)
 
-      let_choices_good : 0 < length qs → (u : Tree) → GoodChoices g want N f old_let (let_choices (names_of qs) want (part t ∷ spread qs) (Some body) u)
-      let_choices_good some u =
-          choices_good g want N f old_let (let_of (names_of qs) want (part t ∷ spread qs) body) (shorter_let (names_of qs) want (part t ∷ spread qs) body)
-          (let_good want f t head (names_of qs) qs body v some good (λ k q. bind_same (names_of qs) body.asks))
+      let_kept : Kept g around want v body → Kept g scope want old_let (let_of (names_of qs) want (part t ∷ spread qs) body)
+      let_kept stays k typed =
+          let (js, j, each, own, k_is) =
+          let_from (names_of qs) (picks old_term qs) v (picks_count old_term qs) want scope k (subst (λ ts. IsTyped (node (operators.Let (names_of qs)) (terms_of ts)) want scope k) (with_end old_term qs v) typed) in
+          let bound : argument_kinds (spread qs) ≡ Some js = bindings_kept qs js each in
+          let both : Some js ≡ Some js0 = sym bound ∙ bound0 in
+          let same : js ≡ js0 = cc in
+          let body_is : body.kind ≡ Some j = stays j (subst (λ is. IsTyped v want (kind_frame (names_of qs) is ∷ scope) j) same own) in
+          (λ i. body_kind want (bound i) (body_is i)) ∙ ap Some (sym k_is)
+
+      let_choices_good : 0 < length qs → Kept g around want v body → (u : Tree) → GoodChoices g scope want N f old_let (let_choices (names_of qs) want (part t ∷ spread qs) (Some body) u)
+      let_choices_good some stays u =
+          choices_good g scope want N f old_let (let_of (names_of qs) want (part t ∷ spread qs) body) (shorter_let (names_of qs) want (part t ∷ spread qs) body)
+          (let_good want f t head (names_of qs) around qs body v some good (λ k q. bind_same (names_of qs) body.asks) (subst (SameKinds body.asks around) around_is (same_kinds body.asks around)))
+          (let_kept stays)
           (λ made h k kind.
           let (js, j, kinds, own) = let_kinds want (argument_kinds (spread qs)) body.kind k kind in
           let ms = asked_marks (names_of qs) body.asks in
@@ -701,7 +895,7 @@ module _ (g : Values) where
 
     -- ---- bindings and body among the elements that were parsed
 
-    module _ (ks : KindScope) (I : Names) (f : Bool) (n : ℕ) where
+    module _ (I : Names) (f : Bool) (n : ℕ) where
       record LetParts (i : ℕ) (ts : Trees) (us vs : List Term) (bs : Names) : Type 0 where
         pub bindings : List Binding
         pub body : Tree
@@ -717,7 +911,7 @@ module _ (g : Values) where
         pub front : List Tree
         pub twice : length front ≡ length bindings + length bindings
         pub listed_is : listed ts ≡ front ++ body ∷ []
-        pub elements_are : (xs : Names) (m k : ℕ) (want : Want) → k + length bindings + 1 ≡ m → elements (operators.Let xs) n m want ks i k (simples (terms_of before)) front ≡ spread bindings
+        pub elements_are : (xs : Names) (m k : ℕ) (want : Want) → k + length bindings + 1 ≡ m → elements (operators.Let xs) n m want scope i k (simples (terms_of before)) front ≡ spread bindings
 
       from_output : (i : ℕ) → element_place layouts.Bindings n i ≡ Output → (S : Type 0) (T : Bool → Type 0) → HereOr (element_place layouts.Bindings n i) f S T → T f
       from_output i is S T h = subst (λ p. HereOr p f S T) is h
@@ -768,12 +962,14 @@ module _ (g : Values) where
           let here : GoodTrees g (tree x rest) = later_good own (tree x rest) good in
           let one : GoodTree g x = here.0 in
           let r = let_parts (i + 1 + 1) rest xs ys cs (later_good x rest here) (omega (arith, odd)) (omega (arith, all)) after others_named others in
+          let made : GoodChoices g scope wants.Any N false v (choices u x wants.Any scope) = (one N false u v (subst (λ b. Parsed g x (if b then I else N) false u v) still parsed) wants.Any scope).0 in
           let q : Binding = record {
             name = s;
             is_name = is_name;
-            element = simple_element false (choices u) x wants.Any ks;
+            element = simple_element false (choices u) x wants.Any scope;
             term = v;
-            good = chosen_good g wants.Any N false v false (choices u x wants.Any ks) (one N false u v (subst (λ b. Parsed g x (if b then I else N) false u v) still parsed) wants.Any ks).0;
+            good = chosen_good g scope wants.Any N false v false (choices u x wants.Any scope) made;
+            kept = chosen_kept g scope wants.Any N false v false (choices u x wants.Any scope) made;
           } in
           record {
             bindings = q ∷ r.bindings;
@@ -791,9 +987,9 @@ module _ (g : Values) where
             twice = omega (arith, r.twice);
             listed_is = ap (λ zs. own ∷ x ∷ zs) r.listed_is;
             elements_are = λ xs m k want e.
-                part_made (operators.Let xs) n m want ks i k (u ∷ r.before) own (x ∷ r.front) (ap is_part (name_place n i odd more))
-                ∙ (ap (λ es. part own ∷ es) (argument_made (operators.Let xs) n m want ks (i + 1) k u r.before x r.front (ap is_part (binding_place n i odd still)))
-                ∙ (λ j. part (own_is j) ∷ simple_element false (choices u) x (any_want m k want (not_last m k (λ z. omega (arith, z, e))) j) ks ∷ r.elements_are xs m (k + 1) want (omega (arith, e)) j));
+                part_made (operators.Let xs) n m want scope i k (u ∷ r.before) own (x ∷ r.front) (ap is_part (name_place n i odd more))
+                ∙ (ap (λ es. part own ∷ es) (argument_made (operators.Let xs) n m want scope (i + 1) k u r.before x r.front (ap is_part (binding_place n i odd still)))
+                ∙ (λ j. part (own_is j) ∷ simple_element false (choices u) x (any_want m k want (not_last m k (λ z. omega (arith, z, e))) j) scope ∷ r.elements_are xs m (k + 1) want (omega (arith, e)) j));
           }
         where
           any_want : (m k : ℕ) (want : Want) → is_last m k ≡ false → want_of (if is_last m k then OfNode else Own wants.Any) want ≡ wants.Any
@@ -801,7 +997,7 @@ module _ (g : Values) where
 
   -- ---- the node
 
-  module _ (t : Tree) (rest : Trees) (N : Names) (f : Bool) (us vs : List Term) (bs : Names) (want : Want) (ks : KindScope) where
+  module _ (t : Tree) (rest : Trees) (N : Names) (f : Bool) (us vs : List Term) (bs : Names) (want : Want) where
     abbrev ss : List Simple
     ss = simples (terms_of us)
 
@@ -809,51 +1005,66 @@ module _ (g : Values) where
     all = t ∷ listed rest
 
     abbrev LetIsGood : NodeChoices → Type 0
-    LetIsGood c = GoodNode g want N f (list (tree t rest)) (node (operators.Let bs) (terms_of vs)) c
+    LetIsGood c = GoodNode g scope want N f (list (tree t rest)) (node (operators.Let bs) (terms_of vs)) c
 
-    unread_good : Parsed g (list (tree t rest)) N f (node (operators.Let bs) (terms_of us)) (node (operators.Let bs) (terms_of vs)) → LetIsGood (as_it_is want (unread (list (tree t rest))))
-    unread_good parsed = (
-      choices_good g want N f (node (operators.Let bs) (terms_of vs)) (unread (list (tree t rest))) None
+    -- it has a type fault
+    unread_good : Parsed g (list (tree t rest)) N f (node (operators.Let bs) (terms_of us)) (node (operators.Let bs) (terms_of vs)) → ((k : Kind) → IsTyped (node (operators.Let bs) (terms_of vs)) want scope k → ⊥) →
+        LetIsGood (as_it_is want (unread (list (tree t rest))))
+    unread_good parsed never = (
+      choices_good g scope want N f (node (operators.Let bs) (terms_of vs)) (unread (list (tree t rest))) None
           (record {
             first = node (operators.Let bs) (terms_of us);
             second = node (operators.Let bs) (terms_of vs);
             parsed = parsed;
             same = λ names w. refl;
             lighter = λ w. omega arith;
+            calmer = λ s. omega arith;
             known = λ k q. absurd (cc);
             asked = λ k q. absurd (cc);
             argument = refl;
           })
+          (λ k typed. absurd (never k typed))
           (λ made q k kind. absurd (cc)),
       λ apart h. h,
     )
 
-    bound_good : (qs : List (Binding N)) (new : Term) (body : SimpleElement) → head_name (tree t no_trees) ≡ Some named.Let → bs ≡ names_of N qs → vs ≡ terms_with N (old_term N) qs new → 0 < length qs → Good g want (bs ++ N) f new body →
-        LetIsGood (let_choices bs want (part t ∷ spread N qs) (Some body) (list (tree t rest)))
-    bound_good qs new body head names_are terms_are some good =
-        let inner : Good g want (names_of N qs ++ N) f new body = subst (λ zs. Good g want (zs ++ N) f new body) names_are good in (
-          subst (λ zs. GoodChoices g want N f (node (operators.Let zs) (terms_of vs)) (let_choices zs want (part t ∷ spread N qs) (Some body) (list (tree t rest)))) (sym names_are)
-              (subst (λ zs. GoodChoices g want N f (node (operators.Let (names_of N qs)) (terms_of zs)) (let_choices (names_of N qs) want (part t ∷ spread N qs) (Some body) (list (tree t rest)))) (sym terms_are)
-              (let_choices_good N want f t head qs body new inner some (list (tree t rest)))),
+    bound_good : (qs : List (Binding N)) (js : List Kind) → argument_kinds (spread N qs) ≡ Some js → (new : Term) (body : SimpleElement) → head_name (tree t no_trees) ≡ Some named.Let → bs ≡ names_of N qs → vs ≡ terms_with N (old_term N) qs new → 0 < length qs →
+        Good g (kind_frame bs js ∷ scope) want (bs ++ N) f new body → Kept g (kind_frame bs js ∷ scope) want new body → LetIsGood (let_choices bs want (part t ∷ spread N qs) (Some body) (list (tree t rest)))
+    bound_good qs js bound new body head names_are terms_are some good kept =
+        let inner : Good g (kind_frame (names_of N qs) js ∷ scope) want (names_of N qs ++ N) f new body = subst (λ zs. Good g (kind_frame zs js ∷ scope) want (zs ++ N) f new body) names_are good in
+        let stays : Kept g (kind_frame (names_of N qs) js ∷ scope) want new body = subst (λ zs. Kept g (kind_frame zs js ∷ scope) want new body) names_are kept in (
+          subst (λ zs. GoodChoices g scope want N f (node (operators.Let zs) (terms_of vs)) (let_choices zs want (part t ∷ spread N qs) (Some body) (list (tree t rest)))) (sym names_are)
+              (subst (λ zs. GoodChoices g scope want N f (node (operators.Let (names_of N qs)) (terms_of zs)) (let_choices (names_of N qs) want (part t ∷ spread N qs) (Some body) (list (tree t rest)))) (sym terms_are)
+              (let_choices_good N want f t head qs js bound body new inner some stays (list (tree t rest)))),
           λ apart h. same_image t (trees_of (map tree_in (spread N qs ++ body ∷ []))) rest ∙ h,
         )
+
+    -- the kinds of the bindings of one that is typed
+    typed_bindings : (qs : List (Binding N)) (new : Term) → bs ≡ names_of N qs → vs ≡ terms_with N (old_term N) qs new → (k : Kind) → IsTyped (node (operators.Let bs) (terms_of vs)) want scope k →
+        (js : List Kind) × (argument_kinds (spread N qs) ≡ Some js) × (length (names_of N qs) ≡ length js)
+    typed_bindings qs new names_are terms_are k typed =
+        let whole : vs ≡ picks N (old_term N) qs ++ new ∷ [] = terms_are ∙ with_end N (old_term N) qs new in
+        let here : IsTyped (node (operators.Let (names_of N qs)) (terms_of (picks N (old_term N) qs ++ new ∷ []))) want scope k =
+        subst (λ ts. IsTyped (node (operators.Let (names_of N qs)) (terms_of ts)) want scope k) whole (subst (λ zs. IsTyped (node (operators.Let zs) (terms_of vs)) want scope k) names_are typed) in
+        let (js, j, each, own, k_is) = let_from (names_of N qs) (picks N (old_term N) qs) new (picks_count N (old_term N) qs) want scope k here in
+        (js, bindings_kept N qs js each, sym (picks_count N (old_term N) qs) ∙ each_count scope (picks N (old_term N) qs) js each)
 
     pub let_node : head_name (tree t no_trees) ≡ Some named.Let → allows (row named.Let).arity (count_trees (tree t rest) - 1) ≡ true → binding_names (taken is_binder (count_trees (tree t rest)) 1 rest) ≡ Some bs → GoodTrees g rest →
         ParsedArguments g layouts.Bindings (count_trees (tree t rest)) 1 rest N (bs ++ N) f us vs →
         Parsed g (list (tree t rest)) N f (node (operators.Let bs) (terms_of us)) (node (operators.Let bs) (terms_of vs)) →
-        LetIsGood (let_simple (operators.Let bs) bs (simples (terms_of us)) (t ∷ listed rest) want ks)
+        LetIsGood (let_simple (operators.Let bs) bs (simples (terms_of us)) (t ∷ listed rest) want scope)
     let_node head fits names good parsed whole_parsed =
         let n = count_trees (tree t rest) in
         let (least, odd) = and_parts (nat_le 3 (n - 1)) (nat_eq ((n - 1) % 2) 1) fits in
         let enough : 3 ≤ n - 1 = leb-true 3 (n - 1) least in
         let odd_count : (n - 1) % 2 ≡ 1 = eqb-true ((n - 1) % 2) 1 odd in
-        by_parts (let_parts N ks (bs ++ N) f n 1 rest us vs bs good refl (omega arith) (omega (arith, odd_count)) names parsed) (omega (arith, enough))
+        by_parts (let_parts N (bs ++ N) f n 1 rest us vs bs good refl (omega arith) (omega (arith, odd_count)) names parsed) (omega (arith, enough))
       where
         names_count : (qs : List (Binding N)) → length (names_of N qs) ≡ length qs
         names_count [] = refl
         names_count (q ∷ qs) = ap suc (names_count qs)
 
-        by_parts : LetParts N ks (bs ++ N) f (count_trees (tree t rest)) 1 rest us vs bs → 3 ≤ count_trees rest → LetIsGood (let_simple (operators.Let bs) bs ss all want ks)
+        by_parts : LetParts N (bs ++ N) f (count_trees (tree t rest)) 1 rest us vs bs → 3 ≤ count_trees rest → LetIsGood (let_simple (operators.Let bs) bs ss all want scope)
         by_parts r enough =
             let n = count_trees (tree t rest) in
             let counted = listed_count rest in
@@ -872,23 +1083,33 @@ module _ (g : Values) where
             let front_is : take (length all - 1) all ≡ t ∷ r.front = (λ i. take (end_is i) (all_is i)) ∙ take_front (t ∷ r.front) r.body in
             let last_is : slice_get all (length all - 1) ≡ Some r.body = (λ i. slice_get (all_is i) (end_is i)) ∙ get_at (t ∷ r.front) (length (t ∷ r.front)) r.body [] refl in
             let ss_count : length ss ≡ length r.bindings + 1 = ap length ss_is ∙ (length_end (simples (terms_of r.before)) (choices r.old) ∙ ap (λ k. k + 1) olds_count) in
-            let elements_is : elements (operators.Let bs) (length all) (length ss) want ks 0 0 (take (length bs) ss) (take (length all - 1) all) ≡ part t ∷ spread N r.bindings =
-            (λ i. elements (operators.Let bs) (n_is i) (length ss) want ks 0 0 (take_is i) (front_is i))
-            ∙ (part_made (operators.Let bs) n (length ss) want ks 0 0 r.before t r.front refl
+            let elements_is : elements (operators.Let bs) (length all) (length ss) want scope 0 0 (take (length bs) ss) (take (length all - 1) all) ≡ part t ∷ spread N r.bindings =
+            (λ i. elements (operators.Let bs) (n_is i) (length ss) want scope 0 0 (take_is i) (front_is i))
+            ∙ (part_made (operators.Let bs) n (length ss) want scope 0 0 r.before t r.front refl
             ∙ ap (λ es. part t ∷ es) (r.elements_are bs (length ss) 0 want (omega (arith, ss_count)))) in
             let back : list (trees_of all) ≡ list (tree t rest) = ap (λ zs. list (tree t zs)) (listed_back rest) in
-            subst LetIsGood (sym (λ i. let_with bs want ks (elements_is i) (drop_is i) (last_is i) (back i)))
-            (by_kinds r some (argument_kinds (spread N r.bindings)))
+            subst LetIsGood (sym (λ i. let_with bs want scope (elements_is i) (drop_is i) (last_is i) (back i)))
+            (by_kinds r some (argument_kinds (spread N r.bindings)) refl)
           where
-            by_count : (r : LetParts N ks (bs ++ N) f (count_trees (tree t rest)) 1 rest us vs bs) → 0 < length r.bindings → (js : List Kind) (b : Bool) →
-                LetIsGood (let_choices bs want (part t ∷ spread N r.bindings) (if b then Some (simple_element false (choices r.old) r.body want (kind_frame bs js ∷ ks)) else None) (list (tree t rest)))
-            by_count r some js true =
-                let c = choices r.old r.body want (kind_frame bs js ∷ ks) in
-                bound_good r.bindings r.new (simple_element false (choices r.old) r.body want (kind_frame bs js ∷ ks)) head r.names_are r.terms_are some
-                (chosen_good g want (bs ++ N) f r.new false c (r.good (bs ++ N) f r.old r.new r.parsed want (kind_frame bs js ∷ ks)).0)
-            by_count r some js false = unread_good whole_parsed
+            by_count : (r : LetParts N (bs ++ N) f (count_trees (tree t rest)) 1 rest us vs bs) → 0 < length r.bindings → (js : List Kind) → argument_kinds (spread N r.bindings) ≡ Some js → (b : Bool) → nat_eq (length bs) (length js) ≡ b →
+                LetIsGood (let_choices bs want (part t ∷ spread N r.bindings) (if b then Some (simple_element false (choices r.old) r.body want (kind_frame bs js ∷ scope)) else None) (list (tree t rest)))
+            by_count r some js bound true same =
+                let c = choices r.old r.body want (kind_frame bs js ∷ scope) in
+                let good = (r.good (bs ++ N) f r.old r.new r.parsed want (kind_frame bs js ∷ scope)).0 in
+                bound_good r.bindings js bound r.new (simple_element false (choices r.old) r.body want (kind_frame bs js ∷ scope)) head r.names_are r.terms_are some
+                (chosen_good g (kind_frame bs js ∷ scope) want (bs ++ N) f r.new false c good) (chosen_kept g (kind_frame bs js ∷ scope) want (bs ++ N) f r.new false c good)
+            by_count r some js bound false apart = unread_good whole_parsed (never (typed_bindings r.bindings r.new r.names_are r.terms_are))
+              where
+                never : ((k : Kind) → IsTyped (node (operators.Let bs) (terms_of vs)) want scope k → (is : List Kind) × (argument_kinds (spread N r.bindings) ≡ Some is) × (length (names_of N r.bindings) ≡ length is)) → (k : Kind) → IsTyped (node (operators.Let bs) (terms_of vs)) want scope k → ⊥
+                never bindings k typed =
+                    let (is, are, many) = bindings k typed in
+                    let both : Some is ≡ Some js = sym are ∙ bound in
+                    let same : is ≡ js = cc in
+                    let counted : nat_eq (length bs) (length js) ≡ true = eq-eqb (length bs) (length js) (ap length r.names_are ∙ (many ∙ ap length same)) in
+                    let bad : true ≡ false = sym counted ∙ apart in
+                    absurd (cc)
 
-            by_kinds : (r : LetParts N ks (bs ++ N) f (count_trees (tree t rest)) 1 rest us vs bs) → 0 < length r.bindings → (o : Option (List Kind)) →
-                LetIsGood (let_choices bs want (part t ∷ spread N r.bindings) (let_body bs want ks o (choices r.old ∷ []) (Some r.body)) (list (tree t rest)))
-            by_kinds r some None = unread_good whole_parsed
-            by_kinds r some (Some js) = by_count r some js (nat_eq (length bs) (length js))
+            by_kinds : (r : LetParts N (bs ++ N) f (count_trees (tree t rest)) 1 rest us vs bs) → 0 < length r.bindings → (o : Option (List Kind)) → argument_kinds (spread N r.bindings) ≡ o →
+                LetIsGood (let_choices bs want (part t ∷ spread N r.bindings) (let_body bs want scope o (choices r.old ∷ []) (Some r.body)) (list (tree t rest)))
+            by_kinds r some None none = unread_good whole_parsed (λ k typed. let (is, are, many) = typed_bindings r.bindings r.new r.names_are r.terms_are k typed in let bad : Some is ≡ None = sym are ∙ none in absurd (cc))
+            by_kinds r some (Some js) bound = by_count r some js bound (nat_eq (length bs) (length js)) refl

@@ -4,6 +4,8 @@ pub mod Inside
 pub mod Parsing
 pub mod Alike
 pub mod Measures
+pub mod Strays
+pub mod TermKinds
 pub mod GoodElements
 pub mod NodeGood
 pub mod FormatsGood

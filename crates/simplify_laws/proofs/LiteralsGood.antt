@@ -1,5 +1,5 @@
 -- What becomes a literal means what it meant.
-use Rattle.std.proofs.Common.{◌≡◌, ◌∙◌, ℕ, ◌-◌, ℤ, List, [], ◌∷◌, Bool, true, false, Option, Some, None, Result, Ok, Err, refl, ap, sym, subst}
+use Rattle.std.proofs.Common.{◌≡◌, ◌∙◌, ℕ, ◌-◌, ℤ, List, [], ◌∷◌, Bool, true, false, Option, Some, None, Result, Ok, Err, refl, ap, sym, subst, arith}
 use Rattle.std.proofs.lemmas.Bool.{and_parts, leb-true, not-true}
 use Rattle.std.proofs.lemmas.Slice.Eq.{bytes_eq-Decides}
 use Rattle.std.specs.Prelude.{codes, not, nat_le, unsigned_abs, if◌then◌else◌}
@@ -26,6 +26,8 @@ use Rattle.expr_syntax.specs.Term.{Term, literal}
 use Rattle.expr_syntax.specs.declared.names.Name.{Name}
 use Rattle.expr_syntax.specs.declared.names.Name.TheVariants.{Literal}
 use Rattle.expr_syntax.proofs.CountLaws.{count_trees}
+use Rattle.expr_types.specs.NodeKinds.{literal_kind_under}
+use Rattle.expr_types.specs.Typing.{KindScope}
 use Rattle.operator_values.specs.Evaluated.{Evaluated, then_value}
 use Rattle.eval_face.specs.Meaning.{mean}
 use Rattle.eval_face.specs.Names.{BoundOutcomes}
@@ -34,13 +36,14 @@ use Rattle.eval_face.proofs.FittedLaws.{each_value_is_fitted}
 use Rattle.eval_face.proofs.ShownLaws.{mean_shown}
 use Rattle.style_simplify.specs.Choices.{choices_of}
 use Rattle.style_simplify.specs.Folding.{as_literal, bare_or_none, folded, folding_want, is_closed, is_empty, literal_of, literal_of_reading, unread_world}
-use Rattle.style_simplify.specs.Literals.{bare_literal, is_literal_node, literal_element, literal_value, value_at, value_in}
+use Rattle.style_simplify.specs.Literals.{bare_literal, is_literal_node, kind_of_value, literal_element, literal_value, value_at, value_in}
 use Rattle.style_simplify.specs.SimpleElements.{SimpleElement}
 use Rattle.expr_syntax.specs.ReadTerms.{names_within}
 use Rattle.simplify_laws.proofs.ParsedTrees.{HasArguments, HasGlobal, HasSections, HasValue, HasVariable, LaidBy, Names, Parsed, ParsedArguments, ParsedSections, Values}
+use Rattle.simplify_laws.proofs.TermKinds.{literal_has}
 use Rattle.simplify_laws.proofs.Measures.{not_below_bare}
 use Rattle.simplify_laws.proofs.ReadBack.{in_globals, parsed_reads}
-use Rattle.simplify_laws.proofs.GoodElements.{AreAmong, Good, GoodChoices, Known, SameAt}
+use Rattle.simplify_laws.proofs.GoodElements.{AreAmong, Good, GoodChoices, Kept, Known, SameAt}
 
 text_is : (s u : List ℕ) → bytes_eq s u ≡ true → s ≡ u
 text_is s u h = (bytes_eq-Decides s u).0 h
@@ -71,14 +74,21 @@ module _ (g : Values) where
   none_asked_of N [] h = tt
   none_asked_of N (s ∷ ss) h = absurd (cc)
 
-  pub literal_good : (want : Want) (N : Names) (f : Bool) (t : Term) (e : SimpleElement) (d : Data) → IsLiteral e.tree d → ((names : BoundOutcomes) (world : World) → fit want d ≡ mean t want names world) → e.is_part ≡ false → is_empty e.asks ≡ true → Good g want N f t e
-  literal_good want N f t e d parsed same argument none = record {
+  pub literal_good : (scope : KindScope) (want : Want) (N : Names) (f : Bool) (t : Term) (e : SimpleElement) (d : Data) → IsLiteral e.tree d → ((names : BoundOutcomes) (world : World) → fit want d ≡ mean t want names world) →
+      ((k : Kind) → e.kind ≡ Some k → literal_kind_under d want ≡ Some k) → e.is_part ≡ false → is_empty e.asks ≡ true → Good g scope want N f t e
+  literal_good scope want N f t e d parsed same kinds argument none = record {
     first = literal d;
     second = literal d;
     parsed = parsed N f;
     same = same;
     lighter = λ w. not_below_bare w t;
-    known = λ k q. record { names = λ M a. parsed M f; depends = λ names names' v w a reads. refl; steady = λ z. refl };
+    calmer = λ s. omega arith;
+    known = λ k q. record {
+      names = λ M a. parsed M f;
+      depends = λ names names' v w a reads. refl;
+      steady = λ z. refl;
+      typed = λ ks a j kind. literal_has d want ks j (kinds j kind);
+    };
     asked = λ k q. none_asked_of N e.asks none;
     argument = argument;
   }
@@ -123,6 +133,10 @@ module _ (g : Values) where
           let same_data : e ≡ d = cc in
           (b_is ∙ ap literal same_data, λ N f. (Literal, head_is, refl, subst (λ m. allows (row m).arity (count_trees ts - 1) ≡ true) name_is fits, (u, d, there, is, refl, refl)))
 
+  -- what is written as a literal, by its value
+  pub element_kinds : (want : Want) (u : Tree) (d : Data) → literal_value u ≡ Some d → (k : Kind) → (literal_element want u).kind ≡ Some k → literal_kind_under d want ≡ Some k
+  element_kinds want u d is k h = sym (ap (kind_of_value want) is) ∙ h
+
   -- ---- a node that becomes the literal that it means
 
   number_is_literal : (z : ℤ) (b : Bool) → nat_le (unsigned_abs z) bound ≡ b → (u : Tree) → (if b then Some (number (number_text z)) else None) ≡ Some u → IsLiteral u (values.number z)
@@ -139,6 +153,21 @@ module _ (g : Values) where
   bare_is_literal (values.color c) u h = absurd (cc)
   bare_is_literal (values.list ds) u h = absurd (cc)
   bare_is_literal (values.map ps) u h = absurd (cc)
+
+  number_value : (z : ℤ) (b : Bool) → nat_le (unsigned_abs z) bound ≡ b → (u : Tree) → (if b then Some (number (number_text z)) else None) ≡ Some u → literal_value u ≡ Some (values.number z)
+  number_value z false q u h = absurd (cc)
+  number_value z true q u h =
+      let e : number (number_text z) ≡ u = cc in
+      subst (λ x. literal_value x ≡ Some (values.number z)) e (ap (λ r. value_in (then_data r (λ z. Ok (values.number z)))) (number_text_is_read z (leb-true (unsigned_abs z) bound q)))
+
+  bare_value : (d : Data) (u : Tree) → bare_literal d ≡ Some u → literal_value u ≡ Some d
+  bare_value values.null u h = let e : null ≡ u = cc in subst (λ x. literal_value x ≡ Some values.null) e refl
+  bare_value (values.boolean b) u h = let e : boolean b ≡ u = cc in subst (λ x. literal_value x ≡ Some (values.boolean b)) e refl
+  bare_value (values.number z) u h = number_value z (nat_le (unsigned_abs z) bound) refl u h
+  bare_value (values.text s) u h = let e : text s ≡ u = cc in subst (λ x. literal_value x ≡ Some (values.text s)) e refl
+  bare_value (values.color c) u h = absurd (cc)
+  bare_value (values.list ds) u h = absurd (cc)
+  bare_value (values.map ps) u h = absurd (cc)
 
   read_inside : (b : Bool) (r : Read) (x : Term) → (if b then Ok None else inside r) ≡ Ok (Some x) → r ≡ Ok x
   read_inside true r x h = absurd (cc)
@@ -167,11 +196,11 @@ module _ (g : Values) where
   none_asked [] names names' h = tt
   none_asked (s ∷ ss) names names' h = absurd (cc)
 
-  module _ (want : Want) (N : Names) (f : Bool) (t : Term) (e : SimpleElement) (good : Good g want N f t e) (k : Kind) (kind : e.kind ≡ Some k) where
-    abbrev known : Known g want f e good.first good.second
+  module _ (scope : KindScope) (want : Want) (N : Names) (f : Bool) (t : Term) (e : SimpleElement) (good : Good g scope want N f t e) (k : Kind) (kind : e.kind ≡ Some k) where
+    abbrev known : Known g scope want f e good.first good.second
     known = good.known k kind
 
-    fold_by : is_closed e ≡ true → (ts : Trees) → e.tree ≡ list ts → (r : Reading) → reading (list ts) ≡ r → (made : SimpleElement) → as_literal want (literal_of_reading want r) ≡ Some made → Good g want N f t made
+    fold_by : is_closed e ≡ true → (ts : Trees) → e.tree ≡ list ts → (r : Reading) → reading (list ts) ≡ r → (made : SimpleElement) → as_literal want (literal_of_reading want r) ≡ Some made → Good g scope want N f t made
     fold_by closed ts is (Ok None) q made h = absurd (cc)
     fold_by closed ts is (Err fault) q made h = absurd (cc)
     fold_by closed ts is (Ok (Some x)) q made h = by (mean x (folding_want want) [] unread_world) refl h
@@ -184,7 +213,7 @@ module _ (g : Values) where
             let three : Ok x ≡ Ok good.first = sym one ∙ (sym (ap (λ u. read u (globals []) []) is) ∙ two) in
             cc
 
-        by_data : (d : Data) → mean x (folding_want want) [] unread_world ≡ Ok d → (o : Option Tree) → bare_literal d ≡ o → as_literal want o ≡ Some made → Good g want N f t made
+        by_data : (d : Data) → mean x (folding_want want) [] unread_world ≡ Ok d → (o : Option Tree) → bare_literal d ≡ o → as_literal want o ≡ Some made → Good g scope want N f t made
         by_data d m None b h = absurd (cc)
         by_data d m (Some u) b h =
             let (none, unread) = and_parts (is_empty e.asks) (not e.reads) closed in
@@ -192,15 +221,15 @@ module _ (g : Values) where
             let made_is : literal_element want u ≡ made = cc in
             let second_is : x ≡ good.second = reads_as ∙ known.steady still in
             let there : mean good.second want [] unread_world ≡ fit want d = folded_same want good.second d (sym (ap (λ y. mean y (folding_want want) [] unread_world) second_is) ∙ m) in
-            subst (Good g want N f t) made_is
-            (literal_good want N f t (literal_element want u) d (bare_is_literal d u b)
-            (λ names world. sym there ∙ (sym (known.depends names [] world unread_world (none_asked e.asks names [] none) (λ z. absurd (let bad : true ≡ false = sym z ∙ still in cc))) ∙ good.same names world)) refl refl)
+            subst (Good g scope want N f t) made_is
+            (literal_good scope want N f t (literal_element want u) d (bare_is_literal d u b)
+            (λ names world. sym there ∙ (sym (known.depends names [] world unread_world (none_asked e.asks names [] none) (λ z. absurd (let bad : true ≡ false = sym z ∙ still in cc))) ∙ good.same names world)) (element_kinds want u d (bare_value d u b)) refl refl)
 
-        by : (m : Evaluated) → mean x (folding_want want) [] unread_world ≡ m → as_literal want (bare_or_none m) ≡ Some made → Good g want N f t made
+        by : (m : Evaluated) → mean x (folding_want want) [] unread_world ≡ m → as_literal want (bare_or_none m) ≡ Some made → Good g scope want N f t made
         by (Ok d) q h = by_data d q (bare_literal d) refl h
         by (Err fault) q h = absurd (cc)
 
-    fold_tree : is_closed e ≡ true → (u : Tree) → e.tree ≡ u → (made : SimpleElement) → as_literal want (literal_of want u) ≡ Some made → Good g want N f t made
+    fold_tree : is_closed e ≡ true → (u : Tree) → e.tree ≡ u → (made : SimpleElement) → as_literal want (literal_of want u) ≡ Some made → Good g scope want N f t made
     fold_tree closed (list ts) is made h = fold_by closed ts is (reading (list ts)) refl made h
     fold_tree closed null is made h = absurd (cc)
     fold_tree closed (boolean b) is made h = absurd (cc)
@@ -208,18 +237,19 @@ module _ (g : Values) where
     fold_tree closed (text s) is made h = absurd (cc)
     fold_tree closed (object fs) is made h = absurd (cc)
 
-    pub fold_good : (made : SimpleElement) → folded want e ≡ Some made → Good g want N f t made
+    pub fold_good : (made : SimpleElement) → folded want e ≡ Some made → Good g scope want N f t made
     fold_good made h = by (is_closed e) refl h
       where
-        by : (b : Bool) → is_closed e ≡ b → (if b then as_literal want (literal_of want e.tree) else None) ≡ Some made → Good g want N f t made
+        by : (b : Bool) → is_closed e ≡ b → (if b then as_literal want (literal_of want e.tree) else None) ≡ Some made → Good g scope want N f t made
         by true q h = fold_tree q e.tree refl made h
         by false q h = absurd (cc)
 
   -- choices of a node that is good
-  pub choices_good : (want : Want) (N : Names) (f : Bool) (t : Term) (e : SimpleElement) (shorter : Option SimpleElement) → Good g want N f t e →
-      ((made : SimpleElement) → shorter ≡ Some made → (k : Kind) → e.kind ≡ Some k → Good g want N f t made) → GoodChoices g want N f t (choices_of want e shorter)
-  choices_good want N f t e shorter good short = record {
+  pub choices_good : (scope : KindScope) (want : Want) (N : Names) (f : Bool) (t : Term) (e : SimpleElement) (shorter : Option SimpleElement) → Good g scope want N f t e → Kept g scope want t e →
+      ((made : SimpleElement) → shorter ≡ Some made → (k : Kind) → e.kind ≡ Some k → Good g scope want N f t made) → GoodChoices g scope want N f t (choices_of want e shorter)
+  choices_good scope want N f t e shorter good kept short = record {
     node = good;
-    literal = λ made h k kind. fold_good want N f t e good k kind made h;
+    kept = kept;
+    literal = λ made h k kind. fold_good scope want N f t e good k kind made h;
     shorter = short;
   }

@@ -27,7 +27,7 @@ use Rattle.expr_syntax.specs.declared.names.Name.{Name}
 use Rattle.expr_types.specs.Typing.{KindScope}
 use Rattle.eval_face.specs.Meaning.{mean}
 use Rattle.eval_face.specs.World.{World}
-use Rattle.expr_plain.specs.Resolved.{passes, resolved}
+use Rattle.eval_face.specs.Resolved.{passes, resolved}
 use Rattle.legacy_filters.specs.Form as filters
 use Rattle.legacy_filters.specs.Split.{is_array, is_legacy}
 use Rattle.value_forms.specs.Forms.{form_of, is_expression, is_function, is_token_text, takes_literals_alone}
@@ -170,12 +170,12 @@ module _ (g : Values) where
         by true q k = array_listed u a b alone p q
         by false q k = bare_listed u a b alone p q k
 
-    choice_listed : (c : NodeChoices) (b : Term) → takes_literals_alone row ≡ false → GoodChoices g row.want [] true b c → is_array c.node.tree ≡ true → listed_as (accepted_or_node row c) ≡ resolved fallback (mean b row.want [] w)
+    choice_listed : (c : NodeChoices) (b : Term) → takes_literals_alone row ≡ false → GoodChoices g [] row.want [] true b c → is_array c.node.tree ≡ true → listed_as (accepted_or_node row c) ≡ resolved fallback (mean b row.want [] w)
     choice_listed c b alone good array = by (is_accepted row (chosen false c).tree) refl
       where
         by : (x : Bool) → is_accepted row (chosen false c).tree ≡ x → listed_as (if x then (chosen false c).tree else c.node.tree) ≡ resolved fallback (mean b row.want [] w)
         by true q =
-            let one = chosen_good g row.want [] true b false c good in
+            let one = chosen_good g [] row.want [] true b false c good in
             accepted_listed (chosen false c).tree one.first one.second alone one.parsed q ∙ ap (resolved fallback) (one.same [] w)
         by false q =
             let one = good.node in
@@ -240,7 +240,7 @@ module _ (g : Values) where
         by true k = refl
         by false k =
             let (b, parsed) = parsed_now t e q in
-            let one = chosen_good g wants.Boolean [] true b false (choices e t wants.Boolean []) (tree_good g l t sound [] true e b parsed wants.Boolean []).0 in
+            let one = chosen_good g [] wants.Boolean [] true b false (choices e t wants.Boolean []) (tree_good g l t sound [] true e b parsed wants.Boolean []).0 in
             condition_passes u one.first one.second k one.parsed ∙ (ap passes (one.same [] w) ∙ sym (condition_passes t e b legacy parsed))
 
     pub filter_same : (l : ℕ) (t : Tree) → IsSound l t → passing (simplified_filter t) ≡ passing t
@@ -271,7 +271,7 @@ module _ (g : Values) where
       by true k = refl
       by false k =
           let (b, parsed) = parsed_now t e q in
-          let one = chosen_good g wants.Boolean [] true b false (choices e t wants.Boolean []) (tree_good g l t sound [] true e b parsed wants.Boolean []).0 in
+          let one = chosen_good g [] wants.Boolean [] true b false (choices e t wants.Boolean []) (tree_good g l t sound [] true e b parsed wants.Boolean []).0 in
           condition_inside u one.first one.second k one.parsed ∙ sym (condition_inside t e b legacy parsed)
 
   pub outside_same : (l : ℕ) (t : Tree) → IsSound l t → is_shown_outside (simplified_filter t) ≡ is_shown_outside t
@@ -292,10 +292,10 @@ filters_pass_the_same g l t sound w = filter_same g w l t sound
 
 -- ---- no more nodes
 
-same_reading : (r : Reading) (x y : Term) → r ≡ Ok (Some x) → r ≡ Ok (Some y) → x ≡ y
+pub same_reading : (r : Reading) (x y : Term) → r ≡ Ok (Some x) → r ≡ Ok (Some y) → x ≡ y
 same_reading r x y p q = let both : Ok (Some x) ≡ Ok (Some y) = sym p ∙ q in cc
 
-good_fewer : (want : Want) (t : Tree) (e b : Term) (s : SimpleElement) (x : Term) → reading t ≡ Ok (Some e) → Parsed [] t [] true e b → Good [] want [] true b s → reading s.tree ≡ Ok (Some x) → nodes x ≤ nodes e
+good_fewer : (want : Want) (t : Tree) (e b : Term) (s : SimpleElement) (x : Term) → reading t ≡ Ok (Some e) → Parsed [] t [] true e b → Good [] [] want [] true b s → reading s.tree ≡ Ok (Some x) → nodes x ≤ nodes e
 good_fewer want t e b s x h parsed good q =
     let old : b ≡ e = same_reading (reading t) b e (read_now [] t e b parsed) h in
     let new : good.second ≡ x = same_reading (reading s.tree) good.second x (read_now [] s.tree good.first good.second good.parsed) q in
@@ -308,8 +308,8 @@ accepted_fewer row l t e sound h x q =
     let good = (tree_good [] l t sound [] true e b parsed row.want []).0 in
     by b parsed good (is_accepted row (chosen false (choices e t row.want [])).tree) q
   where
-    by : (b : Term) → Parsed [] t [] true e b → GoodChoices [] row.want [] true b (choices e t row.want []) → (c : Bool) → reading (if c then (chosen false (choices e t row.want [])).tree else (choices e t row.want []).node.tree) ≡ Ok (Some x) → nodes x ≤ nodes e
-    by b parsed good true q = good_fewer row.want t e b (chosen false (choices e t row.want [])) x h parsed (chosen_good [] row.want [] true b false (choices e t row.want []) good) q
+    by : (b : Term) → Parsed [] t [] true e b → GoodChoices [] [] row.want [] true b (choices e t row.want []) → (c : Bool) → reading (if c then (chosen false (choices e t row.want [])).tree else (choices e t row.want []).node.tree) ≡ Ok (Some x) → nodes x ≤ nodes e
+    by b parsed good true q = good_fewer row.want t e b (chosen false (choices e t row.want [])) x h parsed (chosen_good [] [] row.want [] true b false (choices e t row.want []) good) q
     by b parsed good false q = good_fewer row.want t e b (choices e t row.want []).node x h parsed good.node q
 
 stays_fewer : (t : Tree) (e x : Term) → reading t ≡ Ok (Some e) → reading t ≡ Ok (Some x) → nodes x ≤ nodes e
@@ -341,7 +341,7 @@ filters_have_no_more l t e x sound h q = by (is_legacy t) q
     unless_by y same true q = stays_fewer t e x h q
     unless_by y same false q =
         let (b, parsed) = parsed_now [] t e h in
-        let good = chosen_good [] wants.Boolean [] true b false (choices e t wants.Boolean []) (tree_good [] l t sound [] true e b parsed wants.Boolean []).0 in
+        let good = chosen_good [] [] wants.Boolean [] true b false (choices e t wants.Boolean []) (tree_good [] l t sound [] true e b parsed wants.Boolean []).0 in
         good_fewer wants.Boolean t e b (chosen false (choices e t wants.Boolean [])) x h parsed good (ap (λ z. reading (u_of z)) same ∙ q)
 
     read_by : (r : Reading) → reading t ≡ r → reading (filter_read t r) ≡ Ok (Some x) → nodes x ≤ nodes e

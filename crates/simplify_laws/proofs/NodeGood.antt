@@ -35,9 +35,11 @@ use Rattle.style_simplify.specs.Choices.{is_image}
 use Rattle.style_simplify.specs.Simple.{choices, elements, is_any_read, is_script, listed, operator_reads, simple_element, simples}
 use Rattle.style_simplify.specs.SimpleElements.{SimpleElement, all_asks, argument_kinds, kind_by, node_of, part, some_reads, tree_in}
 use Rattle.simplify_laws.proofs.ParsedTrees.{Names, Values, LaidBy, Parsed, ParsedArguments}
+use Rattle.simplify_laws.proofs.TermKinds.{AllHave, node_from, node_has}
 use Rattle.simplify_laws.proofs.Measures.{same_weight}
+use Rattle.simplify_laws.proofs.Strays.{node_calmer}
 use Rattle.simplify_laws.proofs.Alike.{AreAlike, IsNameless, any_read, node_alike}
-use Rattle.simplify_laws.proofs.GoodElements.{AreAmong, AreGood, Good, Known, NewArguments, new_arguments}
+use Rattle.simplify_laws.proofs.GoodElements.{AreAmong, AreGood, AreKept, Good, Kept, Known, NewArguments, kinds_kept, new_arguments}
 
 -- ---- the name of an operator that was read
 
@@ -324,44 +326,55 @@ module _ (g : Values) where
       ),
     )
 
-    pub node_good : (want : Want) (N : Names) (f : Bool) (ts : List Tree) (es : List SimpleElement) (vs : List Term) (reads : Bool) (n : ℕ) →
-        IsNode (trees_of (map tree_in es)) f → length es ≡ n → AreGood g op (length vs) want layout n N f 0 0 ts es vs → (operator_reads op (length vs) ≡ true → reads ≡ true) →
-        Good g want N f (node op (terms_of vs)) (node_of op want reads es)
-    node_good want N f ts es vs reads n is counted h reading =
-        let r = new_arguments g op (length vs) want layout n N f 0 0 ts es vs h in
-        let new = trees_of (map tree_in es) in
-        let all : count_trees new ≡ n = trees_count es ∙ counted in
-        let as_many : length (means (terms_of r.seconds)) ≡ length vs = means_count r.seconds ∙ r.as_many in
-        record {
-          first = node op (terms_of r.firsts);
-          second = node op (terms_of r.seconds);
-          parsed = node_parsed new f is n all N r.firsts r.seconds r.parsed;
-          same = λ names world.
-              node_alike want names names world world op (means (terms_of r.seconds)) (means (terms_of vs)) plain (λ z. refl) (λ z. refl)
-              (subst (λ m. AreAlike want names names world world op m 0 (means (terms_of r.seconds)) (means (terms_of vs))) (sym as_many) (r.alike names world));
-          lighter = λ w. let x = r.lighter w in let same = same_weight w op r.seconds vs r.as_many in omega (arith, x, same);
-          known = λ k q. known_by r as_many all (argument_kinds es) refl k q;
-          asked = λ k q. asked_by r (argument_kinds es) refl k q;
-          argument = refl;
-        }
-      where
-        asked_by : (r : NewArguments g op (length vs) want layout n N f 0 0 ts es vs) → (o : Option (List Kind)) → argument_kinds es ≡ o → (k : Kind) → kind_by op want o ≡ Some k → AreAmong N (all_asks es)
-        asked_by r None e k q = absurd (cc)
-        asked_by r (Some ks) e k q = r.asked ks e
+    -- in names of these kinds
+    module _ (scope : KindScope) where
+      pub node_good : (want : Want) (N : Names) (f : Bool) (ts : List Tree) (es : List SimpleElement) (vs : List Term) (reads : Bool) (n : ℕ) →
+          IsNode (trees_of (map tree_in es)) f → length es ≡ n → AreGood g scope op (length vs) want layout n N f 0 0 ts es vs → (operator_reads op (length vs) ≡ true → reads ≡ true) →
+          Good g scope want N f (node op (terms_of vs)) (node_of op want reads es)
+      node_good want N f ts es vs reads n is counted h reading =
+          let r = new_arguments g scope op (length vs) want layout n N f 0 0 ts es vs h in
+          let new = trees_of (map tree_in es) in
+          let all : count_trees new ≡ n = trees_count es ∙ counted in
+          let as_many : length (means (terms_of r.seconds)) ≡ length vs = means_count r.seconds ∙ r.as_many in
+          record {
+            first = node op (terms_of r.firsts);
+            second = node op (terms_of r.seconds);
+            parsed = node_parsed new f is n all N r.firsts r.seconds r.parsed;
+            same = λ names world.
+                node_alike want names names world world op (means (terms_of r.seconds)) (means (terms_of vs)) plain (λ z. refl) (λ z. refl)
+                (subst (λ m. AreAlike want names names world world op m 0 (means (terms_of r.seconds)) (means (terms_of vs))) (sym as_many) (r.alike names world));
+            lighter = λ w. let x = r.lighter w in let same = same_weight w op r.seconds vs r.as_many in omega (arith, x, same);
+            calmer = node_calmer op r.seconds vs r.as_many r.calmer;
+            known = λ k q. known_by r as_many all (argument_kinds es) refl k q;
+            asked = λ k q. asked_by r (argument_kinds es) refl k q;
+            argument = refl;
+          }
+        where
+          asked_by : (r : NewArguments g scope op (length vs) want layout n N f 0 0 ts es vs) → (o : Option (List Kind)) → argument_kinds es ≡ o → (k : Kind) → kind_by op want o ≡ Some k → AreAmong N (all_asks es)
+          asked_by r None e k q = absurd (cc)
+          asked_by r (Some ks) e k q = r.asked ks e
 
-        known_by : (r : NewArguments g op (length vs) want layout n N f 0 0 ts es vs) → length (means (terms_of r.seconds)) ≡ length vs → count_trees (trees_of (map tree_in es)) ≡ n →
-            (o : Option (List Kind)) → argument_kinds es ≡ o → (k : Kind) → kind_by op want o ≡ Some k → Known g want f (node_of op want reads es) (node op (terms_of r.firsts)) (node op (terms_of r.seconds))
-        known_by r as_many all None e k q = absurd (cc)
-        known_by r as_many all (Some ks) e k q =
-            let s = r.known ks e in
-            record {
-              names = λ M a. node_parsed (trees_of (map tree_in es)) f is n all M r.firsts r.seconds (s.names M a);
-              depends = λ names names' v w a given.
-                  let own : operator_reads op (length vs) ≡ true → v ≡ w = λ z. given (or_left reads (some_reads es) (reading z)) in
-                  node_alike want names names' v w op (means (terms_of r.seconds)) (means (terms_of r.seconds)) plain
-                  (λ z. own (or_right (is_script op) (is_any_read (of_operator op (length vs))) (sym (ap (λ m. any_read (of_operator op m)) as_many) ∙ z)))
-                  (λ z. own (or_left (is_script op) (is_any_read (of_operator op (length vs))) (ap is_script z)))
-                  (subst (λ m. AreAlike want names names' v w op m 0 (means (terms_of r.seconds)) (means (terms_of r.seconds))) (sym as_many)
-                  (s.depends names names' v w a (λ z. given (or_right reads (some_reads es) z))));
-              steady = λ z. ap (λ us. node op (terms_of us)) (s.steady (or_parts reads (some_reads es) z).1);
-            }
+          known_by : (r : NewArguments g scope op (length vs) want layout n N f 0 0 ts es vs) → length (means (terms_of r.seconds)) ≡ length vs → count_trees (trees_of (map tree_in es)) ≡ n →
+              (o : Option (List Kind)) → argument_kinds es ≡ o → (k : Kind) → kind_by op want o ≡ Some k → Known g scope want f (node_of op want reads es) (node op (terms_of r.firsts)) (node op (terms_of r.seconds))
+          known_by r as_many all None e k q = absurd (cc)
+          known_by r as_many all (Some ks) e k q =
+              let s = r.known ks e in
+              record {
+                names = λ M a. node_parsed (trees_of (map tree_in es)) f is n all M r.firsts r.seconds (s.names M a);
+                depends = λ names names' v w a given.
+                    let own : operator_reads op (length vs) ≡ true → v ≡ w = λ z. given (or_left reads (some_reads es) (reading z)) in
+                    node_alike want names names' v w op (means (terms_of r.seconds)) (means (terms_of r.seconds)) plain
+                    (λ z. own (or_right (is_script op) (is_any_read (of_operator op (length vs))) (sym (ap (λ m. any_read (of_operator op m)) as_many) ∙ z)))
+                    (λ z. own (or_left (is_script op) (is_any_read (of_operator op (length vs))) (ap is_script z)))
+                    (subst (λ m. AreAlike want names names' v w op m 0 (means (terms_of r.seconds)) (means (terms_of r.seconds))) (sym as_many)
+                    (s.depends names names' v w a (λ z. given (or_right reads (some_reads es) z))));
+                steady = λ z. ap (λ us. node op (terms_of us)) (s.steady (or_parts reads (some_reads es) z).1);
+                typed = λ js a j kind.
+                    node_has op plain want js r.seconds j ks
+                    (subst (λ m. AllHave op m 0 want js r.seconds ks) (sym r.as_many) (s.typed js a ks e)) (sym (ap (kind_by op want) e) ∙ kind);
+              }
+
+      pub node_kept : (want : Want) (es : List SimpleElement) (vs : List Term) (reads : Bool) → AreKept g scope op (length vs) 0 want es vs → Kept g scope want (node op (terms_of vs)) (node_of op want reads es)
+      node_kept want es vs reads h k typed =
+          let (js, are, kind) = node_from op plain want scope vs k typed in
+          ap (kind_by op want) (kinds_kept g scope op (length vs) 0 want es vs js h are) ∙ kind

@@ -86,12 +86,12 @@ module _ (g : Values) where
         by true q k = subst (λ m. ReadsNoMore m (mentions b)) (sym (array_reads u a b alone p q)) (reads_itself (mentions b))
         by false q k = subst (λ m. ReadsNoMore m (mentions b)) (sym (bare_reads u a b alone p q k)) (reads_nothing (mentions b))
 
-    choice_reads : (c : NodeChoices) (b : Term) → takes_literals_alone row ≡ false → GoodChoices g row.want [] true b c → is_array c.node.tree ≡ true → ReadsNoMore (read_by (accepted_or_node row c)) (mentions b)
+    choice_reads : (c : NodeChoices) (b : Term) → takes_literals_alone row ≡ false → GoodChoices g [] row.want [] true b c → is_array c.node.tree ≡ true → ReadsNoMore (read_by (accepted_or_node row c)) (mentions b)
     choice_reads c b alone good array = by (is_accepted row (chosen false c).tree) refl
       where
         by : (x : Bool) → is_accepted row (chosen false c).tree ≡ x → ReadsNoMore (read_by (if x then (chosen false c).tree else c.node.tree)) (mentions b)
         by true q =
-            let one = chosen_good g row.want [] true b false c good in
+            let one = chosen_good g [] row.want [] true b false c good in
             then_no_more (read_by (chosen false c).tree) (mentions one.second) (mentions b) (accepted_reads (chosen false c).tree one.first one.second alone one.parsed q) (reads_no_more one.second b one.lighter)
         by false q =
             let one = good.node in
@@ -135,7 +135,7 @@ module _ (g : Values) where
       by true k = reads_itself (filter_read_by t)
       by false k =
           let (b, parsed) = parsed_now g t e q in
-          let one = chosen_good g wants.Boolean [] true b false (choices e t wants.Boolean []) (tree_good g l t sound [] true e b parsed wants.Boolean []).0 in
+          let one = chosen_good g [] wants.Boolean [] true b false (choices e t wants.Boolean []) (tree_good g l t sound [] true e b parsed wants.Boolean []).0 in
           subst (ReadsNoMore (filter_read_by u)) (sym (condition_reads t e b legacy parsed))
           (subst (λ m. ReadsNoMore m (mentions b)) (sym (condition_reads u one.first one.second k one.parsed)) (reads_no_more one.second b one.lighter))
 

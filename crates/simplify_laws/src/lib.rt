@@ -24,7 +24,7 @@
 //! may change it again: there is such a document (`simplifying_twice_may_do_more`).
 //!
 //! Each law is a definition, and a function without arguments ensures it: a caller that calls the function has the
-//! law. That a simplified style has no findings is no law here.
+//! law. That a simplified style has no findings is the law of `simplify_soundness`.
 //!
 //! The text to believe is in `specs/`: `MeaningLaw`, `DocumentLaw`, `NeverLaw`, `TwiceLaw`.
 #![tactic(auto)]

@@ -1,0 +1,3 @@
+pub mod KeptChecks
+pub mod SimplifiedValues
+pub mod SimplifiedDocuments

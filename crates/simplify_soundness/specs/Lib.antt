@@ -1,0 +1,2 @@
+-- Laws. The statements are to be believed; their proofs are in proofs/.
+pub mod NoFindingsLaw
