@@ -347,15 +347,15 @@ impl<E: CountedEvaluator + Drop> ViewCells<E> {
     }
 }
 
-// The zoom that a value sees: a paint value the zoom, and every other its floor.
-fn zoom_for(zoom: Zoom, paint: bool) -> Fixed
+/// The zoom that a value sees: a paint value the zoom, and every other its floor.
+pub fn zoom_for(zoom: Zoom, paint: bool) -> Fixed
     ensures { result ≡ (if paint then zoom else floor_of zoom) }
 {
     if paint { zoom.exact() } else { zoom.floor() }
 }
 
-// Whether a value is listed with the feature, or with the layer.
-fn is_listed(feature: Option<&LayerFeature<'_>>, property: &Property) -> bool
+/// Whether a value is listed with the feature, or with the layer.
+pub fn is_listed(feature: Option<&LayerFeature<'_>>, property: &Property) -> bool
     ensures { result ≡ is_listed (cell_feature feature.entry) (property_seen property.now) }
 {
     match feature {

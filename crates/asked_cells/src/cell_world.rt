@@ -4,14 +4,14 @@ use fixed_num::Fixed;
 use operator_rules::WorldView;
 use prop_values::Entries;
 use style_layout::{LayerFeature, Scene, TextTests};
-use tile_reader::{FeatureProperties, Shape};
+use tile_reader::{Feature, FeatureProperties, Shape};
 
 /// A scene as the value of a cell reads it: at a zoom, with a feature or with none.
 #[derive(Clone, Copy)]
-pub(crate) struct CellWorld<'a, V> {
-    pub(crate) scene: &'a Scene<'a, V>,
-    pub(crate) zoom: Fixed,
-    pub(crate) feature: Option<&'a LayerFeature<'a>>,
+pub struct CellWorld<'a, V> {
+    pub scene: &'a Scene<'a, V>,
+    pub zoom: Fixed,
+    pub feature: Option<&'a LayerFeature<'a>>,
 }
 
 impl<V: TextTests> WorldView for CellWorld<'_, V> {
@@ -23,6 +23,13 @@ impl<V: TextTests> WorldView for CellWorld<'_, V> {
 
     fn zoom(&self) -> Fixed {
         self.zoom
+    }
+
+    fn feature(&self) -> Option<&Feature> {
+        match self.feature {
+            Some(feature) => Some(feature.feature),
+            None => None,
+        }
     }
 
     fn properties(&self) -> Option<&FeatureProperties> {

@@ -36,5 +36,7 @@ mod cell_world;
 mod filters;
 mod view_cells;
 
+pub use asking::{is_listed, zoom_for};
+pub use cell_world::CellWorld;
 pub use filters::{constant_answer, has_feature_cells, is_passed, sum_of};
 pub use view_cells::{LayerAt, ViewCells};

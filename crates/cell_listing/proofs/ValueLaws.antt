@@ -64,7 +64,7 @@ given_value (legacy_function r f) row fallback world v given = (refl, sym given)
 given_value (token_text s) row fallback world v given = (refl, sym given)
 given_value outside row fallback world v given = (refl, refl)
 
-zoom_by : (zoom : ℤ) (place : Place) → (if is_paint place then zoom else floor_of zoom) ≡ zoom_at zoom place
+pub zoom_by : (zoom : ℤ) (place : Place) → (if is_paint place then zoom else floor_of zoom) ≡ zoom_at zoom place
 zoom_by zoom Paint = refl
 zoom_by zoom Layout = refl
 
@@ -139,7 +139,7 @@ module _ (scene : Scene) (kept : KeptValues) (n : Option ℕ) (feature : Option 
 
 -- ---- keys
 
-fixed_same : (value : PropertyValue) (row : RowData) (fallback : Option Data) (v w : World) → is_fixed value ≡ true
+pub fixed_same : (value : PropertyValue) (row : RowData) (fallback : Option Data) (v w : World) → is_fixed value ≡ true
     → forms.outcome_by value row fallback v ≡ forms.outcome_by value row fallback w
 fixed_same (literal d) row fallback v w fixed = refl
 fixed_same (expression t) row fallback v w fixed = absurd (true≢false (sym fixed))
@@ -157,7 +157,7 @@ second_false true b h = absurd (true≢false h)
 
 module _ (scene : Scene) (f : LayerFeature) (p : Property) where
   -- a value that is listed with the layer is the same for each feature
-  same_for_all : (o : Option CellExpression) → IsGivenBy p o → ReadsAsListed p o → p.is_per_feature ≡ false
+  pub same_for_all : (o : Option CellExpression) → IsGivenBy p o → ReadsAsListed p o → p.is_per_feature ≡ false
       → outcome_in scene None p ≡ outcome_in scene (Some f) p
   same_for_all None given reads own = fixed_same p.value p.row p.fallback (cell_world scene (zoom_at scene.zoom p.row.place) None)
       (cell_world scene (zoom_at scene.zoom p.row.place) (Some f)) given

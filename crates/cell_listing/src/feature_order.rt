@@ -124,7 +124,8 @@ fn number_in(kept: Option<Result<&Value, EvalFault>>) -> Option<i128>
     }
 }
 
-fn number_of(value: &Value) -> Option<i128>
+/// The number by which a value orders its feature, in millionths; none of a value of another kind.
+pub fn number_of(value: &Value) -> Option<i128>
     ensures { result ≡ number_of (data_of value.now) }
 {
     match value {

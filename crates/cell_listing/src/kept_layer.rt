@@ -182,9 +182,9 @@ fn is_listed(feature: Option<u32>, property: &Property) -> bool
     }
 }
 
-// Appends the line of a property after a fault, with its default.
+/// Appends the line of a property after a fault, with its default.
 #[tactic(auto, using(prop_values::proofs::ViewLaws::value_again))]
-fn write_fault(
+pub fn write_fault(
     margin: &'static [u8],
     property: &Property,
     fault: EvalFault,

@@ -25,4 +25,6 @@ mod feature_order;
 mod kept_layer;
 mod listing;
 
+pub use feature_order::number_of;
+pub use kept_layer::write_fault;
 pub use listing::write_layer;

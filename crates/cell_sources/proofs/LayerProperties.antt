@@ -71,22 +71,23 @@ own_cells : (o : Option CellExpression) → reads_feature (mentions_of o) ≡ ha
 own_cells (Some e) = refl
 own_cells None = refl
 
+-- a row of a type is one of the table
+pub table_row : TableKeepsRules → (type : LayerType) (n : ℕ) (row : RowData) → slice_get (rows_of type) n ≡ Some row → IsTableRow row
+table_row keeps type n row is =
+    let (m, found) = found_at 0 (rows_of type) n row (keeps type).names is in (
+      type,
+      row.place,
+      row.name,
+      m,
+      ap (at_place row.place) found ∙ ap (λ b. if b then Some (m, row) else None) (at_itself row.place),
+    )
+
 module _ (values : ExpressionsGiveValues) (globals : List (List ℕ × Data)) (type : LayerType) (layer : Tree) where
   abbrev expressions : LayerExpressions
   expressions = item_expression globals type layer
 
   abbrev AreOf : List Property → Type 0
   AreOf ps = AreGiven expressions ps × AreReadBy expressions ps
-
-  is_table_row : TableKeepsRules → (row : RowData) → slice_get (rows_of type) row.number ≡ Some row → IsTableRow row
-  is_table_row keeps row is =
-      let (n, found) = found_at 0 (rows_of type) row.number row (keeps type).names is in (
-        type,
-        row.place,
-        row.name,
-        n,
-        ap (at_place row.place) found ∙ ap (λ b. if b then Some (n, row) else None) (at_itself row.place),
-      )
 
   row_of_layer : (row : RowData) (rest : List Property) → IsTableRow row → AreOf rest → (b : Bool) (o : Option Tree)
       → expressions (items.Property row.number) ≡ (if b then None else option_and_then (value_expression row globals) o)
@@ -103,7 +104,7 @@ module _ (values : ExpressionsGiveValues) (globals : List (List ℕ × Data)) (t
       → AreOf (flat_map (set_property globals layer) rows)
   rows_of_layer keeps [] at = (tt, tt)
   rows_of_layer keeps (row ∷ rows) at =
-      row_of_layer row (flat_map (set_property globals layer) rows) (is_table_row keeps row at.0)
+      row_of_layer row (flat_map (set_property globals layer) rows) (table_row keeps type row.number row at.0)
       (rows_of_layer keeps rows at.1) (is_visibility row) (set_value layer row.place row.name)
       (ap (option_and_then (row_expression globals type layer)) at.0)
 

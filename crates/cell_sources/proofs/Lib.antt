@@ -5,3 +5,4 @@ pub mod LayerProperties
 pub mod CellsAlike
 pub mod ReadWithoutGlobals
 pub mod SameExpressions
+mod FormedExpressions

@@ -1,6 +1,6 @@
 -- Sources stay what they are where expressions come, and what one call leaves and then another leaves both.
 use Rattle.std.proofs.Common.{◌≡◌, ◌≢◌, ◌∙◌, ℕ, zero, suc, ◌+◌, ◌<◌, ◌≤◌, List, [], ◌∷◌, ◌++◌, length, refl, ap, sym, subst, inl, inr, arith, true, false}
-use Rattle.std.specs.Prelude.{◌⊎◌, Bool, Option, Some, None, if◌then◌else◌}
+use Rattle.std.specs.Prelude.{◌⊎◌, Bool, OnErr, OnOk, Option, Some, None, Ok, Err, Result, if◌then◌else◌}
 use Rattle.std.specs.List.{slice_get}
 use Rattle.std.proofs.lemmas.Bool.{false≢true, false_from_ne_true}
 use Rattle.std.proofs.lemmas.List.{append-nil, append_assoc}
@@ -10,8 +10,9 @@ use Rattle.expr_syntax.specs.declared.world_parts.Mentions.{Mentions}
 use Rattle.expr_nodes.specs.Evaluators.{Sized, sized_term}
 use Rattle.layer_buckets.proofs.ItemLaws.{is_item_same, is_item_true}
 use Rattle.layer_buckets.specs.Cells.{is_item}
-use Rattle.layer_buckets.specs.Seen.{evaluator_of, source_of}
+use Rattle.layer_buckets.specs.Seen.{evaluator_of, features_of, kept_at, source_of}
 use Rattle.layer_buckets.specs.declared.buckets.Buckets.{Buckets}
+use Rattle.layer_buckets.specs.declared.cell.Cell.{Cell}
 use Rattle.layer_buckets.specs.declared.cell.CellItem.{CellItem}
 use Rattle.layer_buckets.specs.declared.cell.CellItem.TheVariants as items
 use Rattle.layer_buckets.specs.declared.cell.Source.{Source}
@@ -106,6 +107,41 @@ module _ {E : Type 0} (slots : E → List Sized) (layer : ℕ) where
         (false_from_ne_true (is_item layer item layer other) (λ h. apart ((is_item_true layer layer item other h).1)))
         ∙ left layer other;
   }
+
+  -- something is put, and an item gets a source: all else of other layers stays
+  module _ {X Y : Type 0} (r : Result X Y) (item : CellItem) (given : Source) (mid new : Buckets E) where
+    off : (l : ℕ) (i : CellItem) → layer ≢ l → is_item layer item l i ≡ false
+    off l i apart = false_from_ne_true (is_item layer item l i) (λ h. apart ((is_item_true layer l item i h).0))
+
+    source_left : (s : Result X Y)
+        → OnOk s ((l : ℕ) (i : CellItem) → source_of new l i ≡ (if is_item layer item l i then Some given else source_of mid l i))
+        → OnErr s ((l : ℕ) (i : CellItem) → source_of new l i ≡ source_of mid l i)
+        → (l : ℕ) (i : CellItem) → layer ≢ l → source_of new l i ≡ source_of mid l i
+    source_left (Ok x) ok err l i apart = ok l i ∙ ap (λ b. if b then Some given else source_of mid l i) (off l i apart)
+    source_left (Err y) ok err l i apart = err l i
+
+    kept_left : (s : Result X Y)
+        → OnOk s ((cell : Cell) → kept_at new cell ≡ (if is_item layer item cell.layer cell.item then None else kept_at mid cell))
+        → OnErr s ((cell : Cell) → kept_at new cell ≡ kept_at mid cell)
+        → (cell : Cell) → layer ≢ cell.layer → kept_at new cell ≡ kept_at mid cell
+    kept_left (Ok x) ok err cell apart = ok cell ∙ ap (λ b. if b then None else kept_at mid cell) (off cell.layer cell.item apart)
+    kept_left (Err y) ok err cell apart = err cell
+
+    pub others_put : (old : Buckets E) (made : Sized) → ((l : ℕ) → features_of mid l ≡ features_of old l)
+        → ((l : ℕ) (i : CellItem) → source_of mid l i ≡ source_of old l i) → ((cell : Cell) → kept_at mid cell ≡ kept_at old cell)
+        → slots (evaluator_of mid) ≡ slots (evaluator_of old) ++ made ∷ [] → evaluator_of new ≡ evaluator_of mid
+        → ((l : ℕ) → features_of new l ≡ features_of mid l)
+        → OnOk r ((l : ℕ) (i : CellItem) → source_of new l i ≡ (if is_item layer item l i then Some given else source_of mid l i))
+        → OnErr r ((l : ℕ) (i : CellItem) → source_of new l i ≡ source_of mid l i)
+        → OnOk r ((cell : Cell) → kept_at new cell ≡ (if is_item layer item cell.layer cell.item then None else kept_at mid cell))
+        → OnErr r ((cell : Cell) → kept_at new cell ≡ kept_at mid cell)
+        → LeavesOthers slots layer old new
+    others_put old made features source kept put same still ok err kept_ok kept_err = record {
+      features = λ l. still l ∙ features l;
+      source = λ l i apart. source_left r ok err l i apart ∙ source l i;
+      kept = λ cell apart. kept_left r kept_ok kept_err cell apart ∙ kept cell;
+      expressions = (made ∷ [], ap slots same ∙ put);
+    }
 
   -- one property more, and the filter at last
   module _ (expression_of : LayerExpressions) where

@@ -1,10 +1,11 @@
 //! The sources of a layer's items.
 
-ghost use Rattle.std.specs.Prelude.{◌≡◌, ◌<◌, ℕ, ◌++◌, ◌∷◌, [], None, Some, true, is_some, length, option_map, slice_get, if◌then◌else◌, IfOk, OnOk, OnErr};
+ghost use Rattle.std.specs.Prelude.{◌≡◌, ◌<◌, ℕ, ◌++◌, ◌∷◌, [], None, Some, true, is_some, length, option_map, slice_get, if◌then◌else◌, IfOk, IfSome, OnOk, OnErr};
 ghost use Rattle.decimal_json.specs.Tree.{object, fields_of};
 ghost use Rattle.property_tables.specs.Rows.{rows_of};
 ghost use Rattle.property_tables.specs.RowView.{row_seen};
-ghost use Rattle.expr_nodes.specs.Evaluators.{sized_node};
+ghost use Rattle.expr_syntax.specs.TermView.{term_of};
+ghost use Rattle.expr_nodes.specs.Evaluators.{sized_node, sized_term};
 ghost use Rattle.layer_buckets.specs.Cells.{is_item};
 ghost use Rattle.layer_buckets.specs.Seen.{IsSound, evaluator_of, features_of, kept_at, source_of};
 ghost use Rattle.layer_buckets.specs.declared.cell.Cell.{Cell};
@@ -14,17 +15,20 @@ ghost use Rattle.style_layout.specs.Layers.{has_features};
 ghost use Rattle.asked_cells.specs.Expressions.{HasExpressions};
 ghost use Rattle.cell_sources.specs.CellExpressions.{IsItemOf, item_expression, row_expression};
 ghost use Rattle.cell_sources.specs.Sourced.{KeepsNoMore, KeepsOthers, LeavesOthers, SetsItem};
-ghost use Rattle.cell_sources.specs.Views.{expression_seen};
+ghost use Rattle.cell_sources.specs.Views.{IsFormAs, IsFormed, expression_seen};
+ghost use Rattle.legacy_laws.specs.LegacyFunctionLaw.{IsTableRow};
+ghost use Rattle.form_pool.specs.LegacyForms.{IsReadForm, sized_form};
 
 use crate::expressions::{ItemExpression, filter_expression, value_expression};
 use decimal_json::Members;
 use dependency_sets::mentions;
 use expr_nodes::{BoxedExpression, CountedEvaluator};
 use expr_resolving::boxed;
+use expr_syntax::Expr;
+use form_pool::{FormPool, LegacyForm};
 use layer_buckets::{Buckets, CellItem, Source};
-use node_pool::Pool;
-use prop_values::Entries;
-use property_tables::{LayerType, Row, row_count, row_numbered};
+use prop_values::{Entries, Want};
+use property_tables::{LayerType, Row, row_count, row_numbered, tables_keep_their_rules};
 use std::alloc::{AllocError, Global};
 use style_layout::{VISIBILITY, set_value};
 
@@ -43,14 +47,14 @@ pub fn add_sources(
     alloc: Global,
     number: u32,
     layer: &LayerValues<'_>,
-    buckets: &mut Buckets<Pool>,
+    buckets: &mut Buckets<FormPool>,
 ) -> Result<(), AllocError>
     requires sound { IsSound buckets.old }
     requires there { is_some (features_of buckets.old number) ≡ true }
     requires bare { (item : CellItem) → source_of buckets.old number item ≡ None }
     ensures sound { IsSound buckets.new }
-    ensures others { LeavesOthers ⟦<Pool as CountedEvaluator>⟧.slots number buckets.old buckets.new }
-    ensures sources { OnOk result (HasExpressions ⟦<Pool as CountedEvaluator>⟧.slots number
+    ensures others { LeavesOthers ⟦<FormPool as CountedEvaluator>⟧.slots number buckets.old buckets.new }
+    ensures sources { OnOk result (HasExpressions ⟦<FormPool as CountedEvaluator>⟧.slots number
         (item_expression layer.now.globals.now layer.now.layer_type (object (fields_of layer.now.members.now))) buckets.new) }
     ensures kept { KeepsNoMore buckets.old buckets.new }
 {
@@ -70,17 +74,17 @@ pub fn set_item(
     number: u32,
     layer: &LayerValues<'_>,
     item: CellItem,
-    buckets: &mut Buckets<Pool>,
+    buckets: &mut Buckets<FormPool>,
 ) -> Result<(), AllocError>
     requires sound { IsSound buckets.old }
     requires there { is_some (features_of buckets.old number) ≡ true }
     requires row { IsItemOf layer.now.layer_type item }
     ensures sound { IsSound buckets.new }
-    ensures others { LeavesOthers ⟦<Pool as CountedEvaluator>⟧.slots number buckets.old buckets.new }
-    ensures source { OnOk result (SetsItem ⟦<Pool as CountedEvaluator>⟧.slots number item
+    ensures others { LeavesOthers ⟦<FormPool as CountedEvaluator>⟧.slots number buckets.old buckets.new }
+    ensures source { OnOk result (SetsItem ⟦<FormPool as CountedEvaluator>⟧.slots number item
         (item_expression layer.now.globals.now layer.now.layer_type (object (fields_of layer.now.members.now)) item)
         buckets.old buckets.new) }
-    ensures err { OnErr result (SetsItem ⟦<Pool as CountedEvaluator>⟧.slots number item None
+    ensures err { OnErr result (SetsItem ⟦<FormPool as CountedEvaluator>⟧.slots number item None
         buckets.old buckets.new) }
     ensures kept { (cell : Cell) → kept_at buckets.new cell
         ≡ (if is_item number item cell.layer cell.item then None else kept_at buckets.old cell) }
@@ -97,8 +101,9 @@ fn item_expression(
     item: CellItem,
 ) -> Result<Option<ItemExpression>, AllocError>
     requires { IsItemOf layer.now.layer_type item }
-    ensures { IfOk result (λ made. option_map expression_seen made
+    ensures seen { IfOk result (λ made. option_map expression_seen made
         ≡ item_expression layer.now.globals.now layer.now.layer_type (object (fields_of layer.now.members.now)) item) }
+    ensures formed { IfOk result (λ made. IfSome made IsFormed) }
 {
     match item {
         CellItem::Filter => layer_filter(alloc, layer),
@@ -111,15 +116,15 @@ fn add_property(
     number: u32,
     layer: &LayerValues<'_>,
     row: u16,
-    buckets: &mut Buckets<Pool>,
+    buckets: &mut Buckets<FormPool>,
 ) -> Result<(), AllocError>
     requires sound { IsSound buckets.old }
     requires there { is_some (features_of buckets.old number) ≡ true }
     requires row { row < length (rows_of layer.now.layer_type) }
     requires bare { source_of buckets.old number (items.Property row) ≡ None }
     ensures sound { IsSound buckets.new }
-    ensures others { LeavesOthers ⟦<Pool as CountedEvaluator>⟧.slots number buckets.old buckets.new }
-    ensures source { OnOk result (SetsItem ⟦<Pool as CountedEvaluator>⟧.slots number (items.Property row)
+    ensures others { LeavesOthers ⟦<FormPool as CountedEvaluator>⟧.slots number buckets.old buckets.new }
+    ensures source { OnOk result (SetsItem ⟦<FormPool as CountedEvaluator>⟧.slots number (items.Property row)
         (item_expression layer.now.globals.now layer.now.layer_type (object (fields_of layer.now.members.now)) (items.Property row))
         buckets.old buckets.new) }
     ensures kept { KeepsNoMore buckets.old buckets.new }
@@ -129,15 +134,18 @@ fn add_property(
 }
 
 // The expression of the property of a row's number.
+#[tactic(auto, using(crate::proofs::LayerProperties::table_row))]
 fn property_expression(
     alloc: Global,
     layer: &LayerValues<'_>,
     row: u16,
 ) -> Result<Option<ItemExpression>, AllocError>
     requires { row < length (rows_of layer.now.layer_type) }
-    ensures { IfOk result (λ made. option_map expression_seen made
+    ensures seen { IfOk result (λ made. option_map expression_seen made
         ≡ item_expression layer.now.globals.now layer.now.layer_type (object (fields_of layer.now.members.now)) (items.Property row)) }
+    ensures formed { IfOk result (λ made. IfSome made IsFormed) }
 {
+    tables_keep_their_rules();
     match row_at(layer.layer_type, row) {
         Some(row) => row_expression(alloc, layer, &row),
         None => Ok(None),
@@ -156,8 +164,10 @@ fn row_expression(
     layer: &LayerValues<'_>,
     row: &Row,
 ) -> Result<Option<ItemExpression>, AllocError>
-    ensures { IfOk result (λ made. option_map expression_seen made
+    requires { IsTableRow (row_seen row.now) }
+    ensures seen { IfOk result (λ made. option_map expression_seen made
         ≡ row_expression layer.now.globals.now layer.now.layer_type (object (fields_of layer.now.members.now)) (row_seen row.now)) }
+    ensures formed { IfOk result (λ made. IfSome made IsFormed) }
 {
     if row.name == VISIBILITY {
         return Ok(None);
@@ -172,8 +182,9 @@ fn layer_filter(
     alloc: Global,
     layer: &LayerValues<'_>,
 ) -> Result<Option<ItemExpression>, AllocError>
-    ensures { IfOk result (λ made. option_map expression_seen made
+    ensures seen { IfOk result (λ made. option_map expression_seen made
         ≡ item_expression layer.now.globals.now layer.now.layer_type (object (fields_of layer.now.members.now)) items.Filter) }
+    ensures formed { IfOk result (λ made. IfSome made IsFormed) }
 {
     if !has_features(layer.layer_type) {
         return Ok(None);
@@ -202,14 +213,15 @@ fn add_item(
     number: u32,
     item: CellItem,
     expression: Option<ItemExpression>,
-    buckets: &mut Buckets<Pool>,
+    buckets: &mut Buckets<FormPool>,
 ) -> Result<(), AllocError>
     requires sound { IsSound buckets.old }
     requires there { is_some (features_of buckets.old number) ≡ true }
     requires bare { source_of buckets.old number item ≡ None }
+    requires formed { IfSome expression IsFormed }
     ensures sound { IsSound buckets.new }
-    ensures others { LeavesOthers ⟦<Pool as CountedEvaluator>⟧.slots number buckets.old buckets.new }
-    ensures source { OnOk result (SetsItem ⟦<Pool as CountedEvaluator>⟧.slots number item
+    ensures others { LeavesOthers ⟦<FormPool as CountedEvaluator>⟧.slots number buckets.old buckets.new }
+    ensures source { OnOk result (SetsItem ⟦<FormPool as CountedEvaluator>⟧.slots number item
         (option_map expression_seen expression) buckets.old buckets.new) }
     ensures err { OnErr result ((l : ℕ) (i : CellItem) → source_of buckets.new l i ≡ source_of buckets.old l i) }
     ensures kept { KeepsOthers number item buckets.old buckets.new }
@@ -226,19 +238,25 @@ fn add_source(
     number: u32,
     item: CellItem,
     expression: ItemExpression,
-    buckets: &mut Buckets<Pool>,
+    buckets: &mut Buckets<FormPool>,
 ) -> Result<(), AllocError>
     requires sound { IsSound buckets.old }
     requires there { is_some (features_of buckets.old number) ≡ true }
+    requires formed { IsFormed expression }
     ensures sound { IsSound buckets.new }
-    ensures others { LeavesOthers ⟦<Pool as CountedEvaluator>⟧.slots number buckets.old buckets.new }
-    ensures source { OnOk result (SetsItem ⟦<Pool as CountedEvaluator>⟧.slots number item (Some (expression_seen expression)) buckets.old buckets.new) }
+    ensures others { LeavesOthers ⟦<FormPool as CountedEvaluator>⟧.slots number buckets.old buckets.new }
+    ensures source { OnOk result (SetsItem ⟦<FormPool as CountedEvaluator>⟧.slots number item (Some (expression_seen expression)) buckets.old buckets.new) }
     ensures err { OnErr result ((l : ℕ) (i : CellItem) → source_of buckets.new l i ≡ source_of buckets.old l i) }
     ensures kept { KeepsOthers number item buckets.old buckets.new }
 {
     let mentions = mentions(&expression.expression);
-    let made = boxed(alloc, expression.expression, expression.want)?;
-    let slot = put_expression(made, buckets)?;
+    let slot = put_item(
+        alloc,
+        expression.expression,
+        expression.want,
+        expression.legacy,
+        buckets,
+    )?;
     let source = Source {
         item,
         slot,
@@ -249,21 +267,68 @@ fn add_source(
     buckets.set_source(alloc, number, &source)
 }
 
-// Puts an expression after those that the evaluator has.
+// Puts what gives the values of an item after what the evaluator has: a legacy form, and an expression where there is none.
+#[tactic(auto, using(form_pool::proofs::FormLaws::sized_as))]
+fn put_item(
+    alloc: Global,
+    expression: Expr,
+    want: Want,
+    legacy: Option<LegacyForm>,
+    buckets: &mut Buckets<FormPool>,
+) -> Result<u32, AllocError>
+    requires sound { IsSound buckets.old }
+    requires form { IfSome legacy (λ form. IsFormAs form (term_of expression) want) }
+    ensures sound { IsSound buckets.new }
+    ensures features { (l : ℕ) → features_of buckets.new l ≡ features_of buckets.old l }
+    ensures source { (l : ℕ) (item : CellItem) → source_of buckets.new l item ≡ source_of buckets.old l item }
+    ensures kept { (cell : Cell) → kept_at buckets.new cell ≡ kept_at buckets.old cell }
+    ensures slot { IfOk result (λ slot. slot ≡ length (⟦<FormPool as CountedEvaluator>⟧.slots (evaluator_of buckets.old))) }
+    ensures ok { OnOk result (⟦<FormPool as CountedEvaluator>⟧.slots (evaluator_of buckets.new)
+        ≡ ⟦<FormPool as CountedEvaluator>⟧.slots (evaluator_of buckets.old) ++ sized_term (term_of expression) want ∷ []) }
+    ensures err { OnErr result (⟦<FormPool as CountedEvaluator>⟧.slots (evaluator_of buckets.new)
+        ≡ ⟦<FormPool as CountedEvaluator>⟧.slots (evaluator_of buckets.old)) }
+{
+    match legacy {
+        Some(form) => put_form(form, buckets),
+        None => {
+            let made = boxed(alloc, expression, want)?;
+            put_expression(made, buckets)
+        }
+    }
+}
+
+// Puts a legacy form after what the evaluator has.
+fn put_form(form: LegacyForm, buckets: &mut Buckets<FormPool>) -> Result<u32, AllocError>
+    requires sound { IsSound buckets.old }
+    requires form { IsReadForm form }
+    ensures sound { IsSound buckets.new }
+    ensures features { (l : ℕ) → features_of buckets.new l ≡ features_of buckets.old l }
+    ensures source { (l : ℕ) (item : CellItem) → source_of buckets.new l item ≡ source_of buckets.old l item }
+    ensures kept { (cell : Cell) → kept_at buckets.new cell ≡ kept_at buckets.old cell }
+    ensures slot { IfOk result (λ slot. slot ≡ length (⟦<FormPool as CountedEvaluator>⟧.slots (evaluator_of buckets.old))) }
+    ensures ok { OnOk result (⟦<FormPool as CountedEvaluator>⟧.slots (evaluator_of buckets.new)
+        ≡ ⟦<FormPool as CountedEvaluator>⟧.slots (evaluator_of buckets.old) ++ sized_form form ∷ []) }
+    ensures err { OnErr result (⟦<FormPool as CountedEvaluator>⟧.slots (evaluator_of buckets.new)
+        ≡ ⟦<FormPool as CountedEvaluator>⟧.slots (evaluator_of buckets.old)) }
+{
+    buckets.evaluator().put_legacy(form)
+}
+
+// Puts an expression after what the evaluator has.
 fn put_expression(
     expression: BoxedExpression,
-    buckets: &mut Buckets<Pool>,
+    buckets: &mut Buckets<FormPool>,
 ) -> Result<u32, AllocError>
     requires { IsSound buckets.old }
     ensures sound { IsSound buckets.new }
     ensures features { (l : ℕ) → features_of buckets.new l ≡ features_of buckets.old l }
     ensures source { (l : ℕ) (item : CellItem) → source_of buckets.new l item ≡ source_of buckets.old l item }
     ensures kept { (cell : Cell) → kept_at buckets.new cell ≡ kept_at buckets.old cell }
-    ensures slot { IfOk result (λ slot. slot ≡ length (⟦<Pool as CountedEvaluator>⟧.slots (evaluator_of buckets.old))) }
-    ensures ok { OnOk result (⟦<Pool as CountedEvaluator>⟧.slots (evaluator_of buckets.new)
-        ≡ ⟦<Pool as CountedEvaluator>⟧.slots (evaluator_of buckets.old) ++ sized_node expression ∷ []) }
-    ensures err { OnErr result (⟦<Pool as CountedEvaluator>⟧.slots (evaluator_of buckets.new)
-        ≡ ⟦<Pool as CountedEvaluator>⟧.slots (evaluator_of buckets.old)) }
+    ensures slot { IfOk result (λ slot. slot ≡ length (⟦<FormPool as CountedEvaluator>⟧.slots (evaluator_of buckets.old))) }
+    ensures ok { OnOk result (⟦<FormPool as CountedEvaluator>⟧.slots (evaluator_of buckets.new)
+        ≡ ⟦<FormPool as CountedEvaluator>⟧.slots (evaluator_of buckets.old) ++ sized_node expression ∷ []) }
+    ensures err { OnErr result (⟦<FormPool as CountedEvaluator>⟧.slots (evaluator_of buckets.new)
+        ≡ ⟦<FormPool as CountedEvaluator>⟧.slots (evaluator_of buckets.old)) }
 {
     buckets.evaluator().put(expression)
 }

@@ -6,6 +6,7 @@ ghost use Rattle.decimal_json.specs.Sound.{LacksKey};
 ghost use Rattle.decimal_json.specs.declared.tree.Member.{Member};
 
 use crate::tree::{Items, Json, Member, Members};
+use moved_slices::move_element;
 use shared_text::Text;
 use std::alloc::AllocError;
 use std::mem;
@@ -33,17 +34,14 @@ impl Items {
         self.items.remove(place)
     }
 
-    /// Moves the item at a place to another, and the items in between by one place. Takes time linear in the
-    /// items.
+    /// Moves the item at a place to another, and the items in between by one place. Takes time linear in how many
+    /// these are.
     pub fn move_item(&mut self, from: usize, to: usize)
         requires from { from < length self.old }
         requires to { to < length self.old }
         ensures { self.new ≡ moved_items from to self.old }
     {
-        let item = self.items.remove(from);
-        let Ok(()) = self.items.insert(to, item) else {
-            unreachable!()
-        };
+        move_element(self.items.as_mut_slice(), from, to);
     }
 
     /// Puts an item in place of the one at a place, which it gives. Takes constant time. An item is changed

@@ -1,11 +1,15 @@
 -- From what a command gives before what is kept follows it to what it gives.
-use Rattle.std.proofs.Common.{◌≡◌, ◌∙◌, ℕ, List, refl, ap, sym, Bool, true, false, Option, Some, None}
+use Rattle.std.proofs.Common.{◌≡◌, ◌∙◌, ◌+◌, ◌≤◌, ℕ, List, refl, ap, sym, arith, Bool, true, false, Option, Some, None, Result, Ok, Err}
+use Rattle.std.specs.Prelude.{OnOk}
 use Rattle.edit_script.specs.Edit as edits
+use Rattle.edit_script.specs.View.{command_seen}
+use Rattle.edit_script.specs.declared.command.Command.{Command}
+use Rattle.edit_script.specs.declared.command.Command.TheVariants as commands
 use Rattle.edit_script.specs.Edit.{Edit}
 use Rattle.kept_layers.specs.KeptLayers.{StyleKept}
 use Rattle.style_layout.specs.Shown.{SourceTile}
 use Rattle.edit_session.specs.Answering.{is_done, is_list, unfollowed}
-use Rattle.edit_session.specs.Applied.{Reply, done, listed, counted, styled, refused, applied, changed_by, kept_left, refusal, tells_image, unless_refused}
+use Rattle.edit_session.specs.Applied.{Reply, done, listed, counted, styled, refused, applied, changed_by, kept_left, least_steps, most_steps, refusal, tells_image, unless_refused}
 use Rattle.edit_session.specs.SessionState.{SessionState}
 use Rattle.edit_session.specs.declared.answer.Refusal.{Refusal}
 
@@ -159,3 +163,21 @@ module _ (tiles : List SourceTile) (scripts : List ℕ → Bool) (can_change : B
 
     pub images_stay : tells_image e ≡ false → q.has_image ≡ p.has_image
     images_stay h = ap (λ (a : SessionState × Reply). a.0.has_image) given ∙ leaves_images e h
+
+-- what is so always is so after success
+pub on_ok_always : {T E P : Type 0} (r : Result T E) → P → OnOk r P
+on_ok_always (Ok x) p = p
+on_ok_always (Err e) p = tt
+
+-- a command that lists nothing takes no steps
+module _ (tiles : List SourceTile) (scripts : List ℕ → Bool) (p : SessionState) where
+  no_least : (command : Command) → (command ≡ commands.List → ⊥) → least_steps tiles scripts p (command_seen command) ≡ 0
+  no_least commands.List other = absurd (other refl)
+  no_least _ other = refl
+
+  pub quiet_least : (command : Command) → (command ≡ commands.List → ⊥) → (n : ℕ)
+      → n + least_steps tiles scripts p (command_seen command) ≤ n
+  quiet_least command other n = let none = no_least command other in omega (arith, none)
+
+  pub quiet_most : (command : Command) (n : ℕ) → n ≤ n + most_steps tiles scripts p (command_seen command)
+  quiet_most command n = omega arith

@@ -2,12 +2,13 @@
 use Rattle.std.specs.Prelude.{◌≡◌, ◌≤◌, ℕ, List, [], ◌∷◌, map, Bool, false, None}
 use Rattle.decimal_json.specs.Tree.{Tree}
 use Rattle.decimal_json.specs.View.{tree_of}
-use Rattle.expr_nodes.specs.Evaluators.{Sized, sized_node}
+use Rattle.expr_nodes.specs.Evaluators.{Sized}
 use Rattle.feature_states.specs.Members.{members_at}
 use Rattle.global_laws.specs.GlobalLaw.{items_name_globals}
 use Rattle.kept_layers.specs.View.{AreNumbered, HoldsLayers, IsRightIn, kept_seen}
 use Rattle.kept_layers.specs.declared.kept_layers.KeptLayers.{KeptLayers}
-use Rattle.node_pool.specs.declared.pool.Pool.{Pool}
+use Rattle.form_pool.specs.PoolSlots.{pool_slots}
+use Rattle.form_pool.specs.declared.form_pool.FormPool.{FormPool}
 use Rattle.prop_values.specs.Data.{Data}
 use Rattle.style_edits.specs.Layers.{layer_list}
 use Rattle.style_parts.specs.Parts.{layers_of}
@@ -103,8 +104,8 @@ IsReady session =
 -- ---- what is kept
 
 -- the expressions of an evaluator, by their slots
-abbrev pub slots_of : Pool → List Sized
-slots_of pool = map sized_node pool
+abbrev pub slots_of : FormPool → List Sized
+slots_of = pool_slots
 
 -- What is kept is of the layers of a document, and right by what they are shown by.
 pub record IsKept (tiles : List SourceTile) (scripts : List ℕ → Bool) (p : SessionState) (kept : KeptLayers) : Type 0 where

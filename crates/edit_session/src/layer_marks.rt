@@ -14,6 +14,7 @@ ghost use Rattle.style_parts.specs.Parts.{is_id_of};
 
 use decimal_json::{Json, Text};
 use edit_script::Command;
+use moved_slices::move_element;
 use std::alloc::{AllocError, Global};
 use std::hash::{DefaultHasher, Hasher};
 use style_edits::{EditPlaces, Undo, before_named, id_added, layer_named, layer_place, text_id};
@@ -79,7 +80,8 @@ impl LayerMarks {
         self.marks.as_slice().iter().position(|one| *one == mark)
     }
 
-    /// Follows an edit, after which a document has these layers.
+    /// Follows an edit, after which a document has these layers. Takes time linear in them; for a move, in how many
+    /// layers are in between, and then no memory.
     pub(crate) fn follow(&mut self, layers: &[Json], undo: &Undo) -> Result<(), AllocError>
         requires before { AreMarks self.old (undone_layers undo.now (items_view layers.now)) }
         requires within { IsWithin undo.now (items_view layers.now) }
@@ -102,10 +104,7 @@ impl LayerMarks {
                 Ok(())
             }
             Undo::Moved(from, to) => {
-                let mark = self.marks.remove(*from);
-                let Ok(()) = self.marks.insert(*to, mark) else {
-                    return Err(AllocError);
-                };
+                move_element(self.marks.as_mut_slice(), *from, *to);
                 Ok(())
             }
         }

@@ -1,7 +1,7 @@
 //! The evaluator whose nodes own their arguments.
 
-ghost use Rattle.std.specs.Prelude.{◌≡◌, [], ◌++◌, ◌∷◌, OnOk, OnErr};
-ghost use Rattle.expr_nodes.specs.Evaluators.{sized_node};
+ghost use Rattle.std.specs.Prelude.{◌≡◌, ◌<◌, [], ◌++◌, ◌∷◌, length, OnOk, OnErr};
+ghost use Rattle.expr_nodes.specs.Evaluators.{nodes_at, sized_node};
 
 use crate::boxed_expression::BoxedExpression;
 use crate::evaluator::CountedEvaluator;
@@ -39,6 +39,15 @@ impl Boxed {
         self.expressions.push(expression)?;
         Ok(())
     }
+
+    /// How many nodes the expression of a number has, literals counted.
+    pub fn nodes(&self, slot: u32) -> u64
+        requires { slot < length (⟦<Boxed as CountedEvaluator>⟧.slots self.now) }
+        ensures { result ≡ nodes_at (⟦<Boxed as CountedEvaluator>⟧.slots self.now) slot }
+    {
+        let expression = &self.expressions[slot as usize];
+        expression.nodes()
+    }
 }
 
 impl CountedEvaluator for Boxed {
@@ -56,10 +65,5 @@ impl CountedEvaluator for Boxed {
     ) -> Result<Value, Halt> {
         let expression = &self.expressions[slot as usize];
         expression.evaluated(workspace, world, steps)
-    }
-
-    fn nodes(&self, slot: u32) -> u64 {
-        let expression = &self.expressions[slot as usize];
-        expression.nodes()
     }
 }

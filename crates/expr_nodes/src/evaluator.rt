@@ -28,9 +28,4 @@ pub trait CountedEvaluator {
         ensures meaning { GivesAt result (slots self.now) slot (W.world world.now) }
         ensures least { steps.old < steps.new }
         ensures most { steps.new ≤ steps.old + nodes_at (slots self.now) slot };
-
-    /// How many nodes an expression has, literals counted.
-    fn nodes(&self, slot: u32) -> u64
-        requires { slot < length (slots self.now) }
-        ensures { result ≡ nodes_at (slots self.now) slot };
 }

@@ -172,7 +172,7 @@ fn push_slots(nodes: &mut Vec<u32>, slots: u32)
     ensures new { (k : ℕ) → length nodes.old.items ≤ k → k < slots → slice_index nodes.new.items k ≡ k }
 {
     for slot in nodes.len() as u32..slots {
-        let _pushed = nodes.push(slot).is_ok();
+        nodes.push_reserved(slot);
     }
 }
 
@@ -187,6 +187,6 @@ fn push_lists(nodes: &mut Vec<u32>, lists: u32)
         slice_index nodes.new.items k ≡ 4294967295 - k }
 {
     for list in nodes.len() as u32..lists {
-        let _pushed = nodes.push(u32::MAX - list).is_ok();
+        nodes.push_reserved(u32::MAX - list);
     }
 }

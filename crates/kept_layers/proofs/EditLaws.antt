@@ -13,7 +13,7 @@ use Rattle.edit_script.specs.declared.command.Command.TheVariants as commands
 use Rattle.edit_script.specs.declared.command.Command.TheVariants.{SetPaint, SetLayout, SetFilter, SetRange, AddLayer, RemoveLayer, MoveLayer, SetZoom, SetState, RemoveState, AddImage, RemoveImage, SetGlobal}
 use Rattle.edit_script.specs.Edit.{Edit, set_paint, set_layout, set_filter, set_range, add_layer, remove_layer, move_layer}
 use Rattle.expr_nodes.specs.Evaluators.{Sized}
-use Rattle.node_pool.specs.declared.pool.Pool.{Pool}
+use Rattle.form_pool.specs.declared.form_pool.FormPool.{FormPool}
 use Rattle.property_tables.specs.declared.property_row.Place.TheVariants.{Layout, Paint}
 use Rattle.layer_buckets.specs.declared.cell.CellItem.TheVariants.{Filter}
 use Rattle.style_edits.specs.ByPlace.{changed_at, edited_at, moved_at, place_moved_to}
@@ -42,7 +42,7 @@ own_kept None ks within = refl
 own_kept (Some i) ks within =
     ap (λ n. insert (remove ks i) n (get_or ks i none_kept)) (same_place (length ks) i) ∙ insert_removed ks i none_kept within
 
-nothing_at : (slots : Pool → List Sized) (style : StyleLayers) (o : Option ℕ) (old new : KeptLayers) → new ≡ old → ChangesAt slots style o (λ t. None) old new
+nothing_at : (slots : FormPool → List Sized) (style : StyleLayers) (o : Option ℕ) (old new : KeptLayers) → new ≡ old → ChangesAt slots style o (λ t. None) old new
 nothing_at slots style (Some place) old new e = e
 nothing_at slots style None old new e = e
 
@@ -50,7 +50,7 @@ without_nothing : (o : Option ℕ) (ts : List Tree) (ks : StyleKept) → without
 without_nothing (Some place) ts ks = refl
 without_nothing None ts ks = refl
 
-module _ (slots : Pool → List Sized) (style : StyleLayers) (places : EditPlaces) (edit : Edit) (before : List Tree) (old : KeptLayers)
+module _ (slots : FormPool → List Sized) (style : StyleLayers) (places : EditPlaces) (edit : Edit) (before : List Tree) (old : KeptLayers)
     (is : IsEditOf slots style places edit old before) where
   kept_counted : length (kept_seen old) ≡ length before
   kept_counted = kept_count slots (tiles_in style) (globals_in style) before old is.holds
@@ -185,7 +185,7 @@ module _ (slots : Pool → List Sized) (style : StyleLayers) (places : EditPlace
         (same slots style before old new numbered is.holds (trees_as other e ∙ stay) still))
 
 -- any edit but those of which what is kept changes
-module _ (slots : Pool → List Sized) (style : StyleLayers) (places : EditPlaces) (before : List Tree) (old : KeptLayers) (numbered : AreNumbered old) where
+module _ (slots : FormPool → List Sized) (style : StyleLayers) (places : EditPlaces) (before : List Tree) (old : KeptLayers) (numbered : AreNumbered old) where
   abbrev IsStill : Edit → Type 0
   IsStill edit = IsEditOf slots style places edit old before → HasFollowed slots style before (edited_kept places edit before (kept_seen old)) old old
 

@@ -7,7 +7,7 @@ use Rattle.decimal_json.specs.Tree.{Tree, null}
 use Rattle.decimal_json.specs.View.{tree_of}
 use Rattle.prop_values.specs.Data.{Data}
 use Rattle.expr_nodes.specs.Evaluators.{Sized}
-use Rattle.node_pool.specs.declared.pool.Pool.{Pool}
+use Rattle.form_pool.specs.declared.form_pool.FormPool.{FormPool}
 use Rattle.layer_buckets.specs.declared.cell.CellItem.{CellItem}
 use Rattle.style_edits.specs.ByPlace.{changed_at, inserted_at, moved_at, place_moved_to, removed_at}
 use Rattle.style_layout.specs.Shown.{SourceTile}
@@ -28,12 +28,12 @@ use Rattle.kept_layers.proofs.EditedItems.{ChangesIf}
 subst_all : {A B C : Type 0} (P : A → B → C → Type 0) {a x : A} {b y : B} {c z : C} → a ≡ x → b ≡ y → c ≡ z → P a b c → P x y z
 subst_all P {a} {x} {b} {y} {c} {z} p q r h = subst (λ k. P k y z) p (subst (λ k. P a k z) q (subst (P a b) r h))
 
-module _ (slots : Pool → List Sized) (tiles : List SourceTile) (globals : List (List ℕ × Data)) (before : List Tree) (old : KeptLayers) where
+module _ (slots : FormPool → List Sized) (tiles : List SourceTile) (globals : List (List ℕ × Data)) (before : List Tree) (old : KeptLayers) where
   -- as many layers as there were
   pub kept_count : HoldsLayers slots tiles globals before old → length (kept_seen old) ≡ length before
   kept_count held = length-map old.numbers.items _ ∙ pairs_lengths (HasLayer slots tiles globals old.cells.buckets) old.numbers.items before held
 
-module _ (slots : Pool → List Sized) (style : StyleLayers) (before : List Tree) (old new : KeptLayers) (numbered : AreNumbered old)
+module _ (slots : FormPool → List Sized) (style : StyleLayers) (before : List Tree) (old new : KeptLayers) (numbered : AreNumbered old)
     (held : HoldsLayers slots (tiles_in style) (globals_in style) before old) where
   abbrev tiles : List SourceTile
   tiles = tiles_in style

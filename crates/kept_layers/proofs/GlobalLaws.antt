@@ -6,7 +6,7 @@ use Rattle.decimal_json.specs.Tree.{Tree, null}
 use Rattle.prop_values.specs.Data.{Data}
 use Rattle.operator_values.specs.Evaluated.{Evaluated}
 use Rattle.expr_nodes.specs.Evaluators.{Sized}
-use Rattle.node_pool.specs.declared.pool.Pool.{Pool}
+use Rattle.form_pool.specs.declared.form_pool.FormPool.{FormPool}
 use Rattle.layer_buckets.specs.Cells as cells
 use Rattle.layer_buckets.specs.Cells.{is_item}
 use Rattle.layer_buckets.specs.Seen.{evaluator_of, features_of, kept_at, source_of}
@@ -306,7 +306,7 @@ module _ {E : Type 0} (slots : E → List Sized) (after : List (List ℕ × Data
 
 -- ---- all layers are turned
 
-module _ (slots : Pool → List Sized) (change : GlobalsChangeNoOther) (tiles : List SourceTile) (before after : List (List ℕ × Data)) (ts : List Tree)
+module _ (slots : FormPool → List Sized) (change : GlobalsChangeNoOther) (tiles : List SourceTile) (before after : List (List ℕ × Data)) (ts : List Tree)
     (old new : KeptLayers) (held : AreHeld slots tiles before old.cells.buckets old.numbers.items ts) (same : length old.numbers.items ≡ length ts)
     (numbers : new.numbers ≡ old.numbers) (place : ℕ) (end : length old.numbers.items ≤ place)
     (turned : LayersAreTurned slots after old.cells.buckets old.numbers.items ts place new.cells.buckets) where

@@ -8,6 +8,7 @@ pub mod NumberedLaws
 pub mod OneLayers
 pub mod SceneLaws
 pub mod StateLaws
+pub mod StateNotes
 pub mod Stepping
 pub mod TurnLaws
 pub mod ItemLaws

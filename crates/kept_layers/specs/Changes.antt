@@ -4,7 +4,7 @@ use Rattle.decimal_json.specs.Tree.{Tree}
 use Rattle.decimal_json.specs.View.{tree_of}
 use Rattle.prop_values.specs.Data.{Data}
 use Rattle.expr_nodes.specs.Evaluators.{Sized}
-use Rattle.node_pool.specs.declared.pool.Pool.{Pool}
+use Rattle.form_pool.specs.declared.form_pool.FormPool.{FormPool}
 use Rattle.feature_states.specs.Features.{same_feature}
 use Rattle.layer_buckets.specs.declared.cell.CellItem.{CellItem}
 use Rattle.style_layout.specs.CodeView.{layer_seen, tile_seen}
@@ -35,7 +35,7 @@ pub record IsOneLayer (one : OneLayer) : Type 0 where
   pub prepared : layer_seen one.prepared.now ≡ prepared_layer (globals_of one) (tree_of one.layer.now)
   pub few : length (layer_features (tiles_of one) (layer_seen one.prepared.now)) < 4294967295
 
-module _ (slots : Pool → List Sized) where
+module _ (slots : FormPool → List Sized) where
   -- ---- layers come, go and move
 
   pub record AddsLayer (place : ℕ) (one : OneLayer) (old new : KeptLayers) : Type 0 where

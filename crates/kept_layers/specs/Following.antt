@@ -5,7 +5,7 @@ use Rattle.decimal_json.specs.View.{tree_of}
 use Rattle.edit_script.specs.Edit.{Edit}
 use Rattle.expr_nodes.specs.Evaluators.{Sized}
 use Rattle.layer_buckets.specs.declared.cell.CellItem.{CellItem}
-use Rattle.node_pool.specs.declared.pool.Pool.{Pool}
+use Rattle.form_pool.specs.declared.form_pool.FormPool.{FormPool}
 use Rattle.style_edits.specs.ByPlace.{place_moved_to}
 use Rattle.style_edits.specs.Edited.{edited_layers}
 use Rattle.style_edits.specs.Places.{places_in}
@@ -18,7 +18,7 @@ use Rattle.kept_layers.specs.declared.kept_layers.KeptLayers.{KeptLayers}
 use Rattle.kept_layers.specs.declared.style_layers.OneLayer.{OneLayer}
 use Rattle.kept_layers.specs.declared.style_layers.StyleLayers.{StyleLayers}
 
-module _ (slots : Pool → List Sized) (style : StyleLayers) where
+module _ (slots : FormPool → List Sized) (style : StyleLayers) where
   -- The layers of the style are these after an edit, the edit named layers at these places, and what is kept is of the
   -- layers before it.
   pub record IsEditOf (places : EditPlaces) (edit : Edit) (kept : KeptLayers)
@@ -51,7 +51,7 @@ pub record IsLayerAt (style : StyleLayers) (place : ℕ) (one : OneLayer) : Type
 abbrev pub IsPlaceIn : StyleLayers → KeptLayers → ℕ → Type 0
 IsPlaceIn style kept place = (place < length (trees_in style)) × (place < length (kept_seen kept))
 
-module _ (slots : Pool → List Sized) (style : StyleLayers) where
+module _ (slots : FormPool → List Sized) (style : StyleLayers) where
   -- an item, if it is one, of the layer at a place is another
   abbrev pub ChangesItemAt : ℕ → Option CellItem → KeptLayers → KeptLayers → Type 0
   ChangesItemAt place (Some item) old new =
@@ -71,7 +71,7 @@ module _ (slots : Pool → List Sized) (style : StyleLayers) where
   abbrev pub AddsBefore : Option ℕ → KeptLayers → KeptLayers → Type 0
   AddsBefore before old new = AddsAt (unwrap_or before (length (kept_seen old))) old new
 
-module _ (slots : Pool → List Sized) where
+module _ (slots : FormPool → List Sized) where
   -- the layer at a place, if there is one, is removed
   abbrev pub RemovesAt : Option ℕ → KeptLayers → KeptLayers → Type 0
   RemovesAt (Some place) old new = RemovesLayer slots place old new

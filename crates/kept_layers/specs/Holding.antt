@@ -3,7 +3,7 @@ use Rattle.std.specs.Prelude.{◌≡◌, ◌≢◌, ℕ, List, [], ◌∷◌, le
 use Rattle.decimal_json.specs.Tree.{Tree}
 use Rattle.prop_values.specs.Data.{Data}
 use Rattle.expr_nodes.specs.Evaluators.{Sized}
-use Rattle.layer_buckets.specs.Cells.{reads_globals}
+use Rattle.layer_buckets.specs.Cells.{reads_globals, reads_state}
 use Rattle.layer_buckets.specs.Seen.{evaluator_of, features_of, source_of}
 use Rattle.layer_buckets.specs.declared.buckets.Buckets.{Buckets}
 use Rattle.layer_buckets.specs.declared.cell.CellItem.{CellItem}
@@ -46,6 +46,10 @@ module _ {E : Type 0} where
   -- no expression was read by the values of the global state
   abbrev pub NoneReadsGlobals : Buckets E → Type 0
   NoneReadsGlobals b = (layer : ℕ) (item : CellItem) → reads_globals (source_of b layer item) ≡ false
+
+  -- no expression of a layer reads a feature's state
+  abbrev pub ReadsNoState : Buckets E → ℕ → Type 0
+  ReadsNoState b layer = (item : CellItem) → reads_state (source_of b layer item) ≡ false
 
   -- layers, sources and expressions are as they were
   pub record Still (old new : Buckets E) : Type 0 where

@@ -4,15 +4,16 @@ use Rattle.decimal_json.specs.Tree.{Tree}
 use Rattle.decimal_json.specs.View.{items_view}
 use Rattle.prop_values.specs.Data.{Data}
 use Rattle.expr_nodes.specs.Evaluators.{Sized}
-use Rattle.node_pool.specs.declared.pool.Pool.{Pool}
+use Rattle.form_pool.specs.declared.form_pool.FormPool.{FormPool}
 use Rattle.value_forms.specs.LayerTypes.{layer_type}
 use Rattle.layer_buckets.specs.Seen.{IsSound}
+use Rattle.noted_places.specs.Places.{AreNoted, places_in}
 use Rattle.style_layout.specs.CodeView.{layers_seen, tile_seen}
 use Rattle.style_layout.specs.Forms.{Scene}
 use Rattle.style_layout.specs.Shown.{SourceTile}
 use Rattle.style_layout.specs.StyleLayout.{cell_count}
 use Rattle.kept_layers.specs.Holding as holding
-use Rattle.kept_layers.specs.Holding.{AbsentAreBare, AreApart, AreThere, NoneReadsGlobals, style_kept}
+use Rattle.kept_layers.specs.Holding.{AbsentAreBare, AreApart, AreThere, NoneReadsGlobals, ReadsNoState, style_kept}
 use Rattle.kept_layers.specs.KeptLayers.{StyleKept, prepared_layers}
 use Rattle.kept_layers.specs.declared.kept_layers.KeptLayers.{KeptLayers}
 use Rattle.kept_layers.specs.declared.style_layers.StyleLayers.{StyleLayers}
@@ -22,15 +23,17 @@ abbrev pub kept_seen : KeptLayers → StyleKept
 kept_seen k = style_kept k.cells.buckets k.numbers.items
 
 -- Layers have numbers of their own, and those of other numbers are not there. Where it is not noted that an expression
--- was read by the values of the global state, none was. A fact that each call asks and hands on.
+-- was read by the values of the global state, none was; and where the place of a layer is not noted, none of its
+-- expressions reads a state. A fact that each call asks and hands on.
 pub record AreNumbered (k : KeptLayers) : Type 0 where
   pub sound : IsSound k.cells.buckets
   pub apart : AreApart k.numbers.items
   pub there : AreThere k.cells.buckets k.numbers.items
   pub bare : AbsentAreBare k.cells.buckets
   pub noted : k.reads_globals ≡ false → NoneReadsGlobals k.cells.buckets
+  pub states : AreNoted (ReadsNoState k.cells.buckets) k.numbers.items (places_in k.state_places)
 
-module _ (slots : Pool → List Sized) (tiles : List SourceTile) (globals : List (List ℕ × Data)) where
+module _ (slots : FormPool → List Sized) (tiles : List SourceTile) (globals : List (List ℕ × Data)) where
   -- they are those of a document, in their order
   abbrev pub HoldsLayers : List Tree → KeptLayers → Type 0
   HoldsLayers ts k = holding.AreHeld slots tiles globals k.cells.buckets k.numbers.items ts

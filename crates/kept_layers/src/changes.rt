@@ -21,13 +21,14 @@ use crate::style_layers::{OneLayer, StyleLayers};
 use cell_sources::set_item;
 use eval_face::agreeing_worlds_give_one_meaning;
 use expr_nodes::CountedEvaluator;
+use form_pool::FormPool;
 use layer_buckets::{CellItem, Stale};
-use node_pool::Pool;
 use std::alloc::{AllocError, Global};
 use style_layout::{LayerFeatures, SourceTile, StyleLayer, Zoom};
 
 impl KeptLayers {
-    /// An item of the layer at a place is another. Takes time linear in the item and its kept cells.
+    /// An item of the layer at a place is another. Takes time linear in the item and its kept cells; and where its
+    /// expression reads a state, in the layers of which one does.
     pub fn change(
         &mut self,
         alloc: Global,
@@ -39,13 +40,15 @@ impl KeptLayers {
         requires layer { IsOneLayer one.now }
         requires within { place < length self.old.numbers.items }
         requires item { IsItemOf (type_of (tree_of one.now.layer.now)) item }
-        ensures { OnOk result (ChangesLayer ⟦<Pool as CountedEvaluator>⟧.slots place item one.now self.old self.new) }
+        ensures { OnOk result (ChangesLayer ⟦<FormPool as CountedEvaluator>⟧.slots place item one.now self.old self.new) }
     {
         let number = self.numbers[place];
         let values = one.values();
         set_item(alloc, number, &values, item, &mut self.cells.buckets)?;
         let reads = self.item_reads_globals(number, item);
         self.reads_globals |= reads;
+        let reads_state = self.item_reads_state(number, item);
+        self.state_places.note_if(reads_state, place)?;
         Ok(())
     }
 
@@ -54,8 +57,8 @@ impl KeptLayers {
         requires numbered { AreNumbered self.old }
         ensures numbered { AreNumbered self.new }
         ensures drops { (tiles : List TileOf) (globals : List (List ℕ × Data)) (ts : List Tree)
-            → HoldsLayers ⟦<Pool as CountedEvaluator>⟧.slots tiles globals ts self.old
-            → Drops ⟦<Pool as CountedEvaluator>⟧.slots (is_stale_zoom globals old new) (TurnsZoom old new)
+            → HoldsLayers ⟦<FormPool as CountedEvaluator>⟧.slots tiles globals ts self.old
+            → Drops ⟦<FormPool as CountedEvaluator>⟧.slots (is_stale_zoom globals old new) (TurnsZoom old new)
             tiles globals ts self.old self.new }
     {
         agreeing_worlds_give_one_meaning();
@@ -70,29 +73,30 @@ impl KeptLayers {
         requires numbered { AreNumbered self.old }
         ensures numbered { AreNumbered self.new }
         ensures drops { (tiles : List TileOf) (globals : List (List ℕ × Data)) (ts : List Tree)
-            → HoldsLayers ⟦<Pool as CountedEvaluator>⟧.slots tiles globals ts self.old
-            → Drops ⟦<Pool as CountedEvaluator>⟧.slots
+            → HoldsLayers ⟦<FormPool as CountedEvaluator>⟧.slots tiles globals ts self.old
+            → Drops ⟦<FormPool as CountedEvaluator>⟧.slots
             (is_stale_image globals) TurnsImages tiles globals ts self.old self.new }
     {
         agreeing_worlds_give_one_meaning();
         self.cells.buckets.drop_cells(&Stale::Images);
     }
 
-    /// The state of the features of a source, a source layer and an id is another. Takes time linear in the layers
-    /// and in the features of those that show this source layer.
+    /// The state of the features of a source, a source layer and an id is another. Takes time linear in the layers of
+    /// which an expression reads a state, and in the features of those of them that show this source layer.
     pub fn turn_state(&mut self, source: &str, source_layer: &str, id: u64, style: &StyleLayers<'_>)
         requires numbered { AreNumbered self.old }
         requires prepared { IsPrepared style.now }
-        requires holds { HoldsLayers ⟦<Pool as CountedEvaluator>⟧.slots (tiles_in style.now)
+        requires holds { HoldsLayers ⟦<FormPool as CountedEvaluator>⟧.slots (tiles_in style.now)
             (globals_in style.now) (trees_in style.now) self.old }
         ensures numbered { AreNumbered self.new }
-        ensures drops { Drops ⟦<Pool as CountedEvaluator>⟧.slots
+        ensures drops { Drops ⟦<FormPool as CountedEvaluator>⟧.slots
             (is_stale_state (tiles_in style.now) (globals_in style.now) source.now source_layer.now id)
             (TurnsState source.now source_layer.now id)
             (tiles_in style.now) (globals_in style.now) (trees_in style.now) self.old self.new }
     {
         agreeing_worlds_give_one_meaning();
-        for place in 0..self.numbers.len() {
+        for index in 0..self.state_places.len() {
+            let place = self.state_places.at(index);
             let shown = style.style.layer(place);
             if shows(shown, source, source_layer) {
                 let number = self.numbers[place];
@@ -107,6 +111,7 @@ impl KeptLayers {
         requires few { length (layer_features (map tile_seen tiles.now) (layer_seen shown.now)) < 4294967295 }
         ensures numbers { self.new.numbers ≡ self.old.numbers }
         ensures reads { self.new.reads_globals ≡ self.old.reads_globals }
+        ensures states { self.new.state_places ≡ self.old.state_places }
         ensures sound { IsSound self.new.cells.buckets }
         ensures still { Still self.old.cells.buckets self.new.cells.buckets }
         ensures kept { (cell : Cell) → kept_at self.new.cells.buckets cell

@@ -13,8 +13,8 @@ use crate::style_layers::StyleLayers;
 use decimal_json::Text;
 use edit_script::Command;
 use expr_nodes::CountedEvaluator;
+use form_pool::FormPool;
 use layer_buckets::CellItem;
-use node_pool::Pool;
 use property_tables::{Place, row};
 use std::alloc::{AllocError, Global};
 use style_edits::EditPlaces;
@@ -32,12 +32,12 @@ pub fn follow(
 ) -> Result<(), AllocError>
     requires numbered { AreNumbered kept.old }
     requires prepared { IsPrepared style.now }
-    requires edited { IsEdited ⟦<Pool as CountedEvaluator>⟧.slots style.now
+    requires edited { IsEdited ⟦<FormPool as CountedEvaluator>⟧.slots style.now
         places (command_seen command.now) kept.old }
     ensures { (before : List Tree)
-        → IsEditOf ⟦<Pool as CountedEvaluator>⟧.slots style.now
+        → IsEditOf ⟦<FormPool as CountedEvaluator>⟧.slots style.now
         places (command_seen command.now) kept.old before
-        → OnOk result (HasFollowed ⟦<Pool as CountedEvaluator>⟧.slots style.now before
+        → OnOk result (HasFollowed ⟦<FormPool as CountedEvaluator>⟧.slots style.now before
         (edited_kept places (command_seen command.now) before (kept_seen kept.old)) kept.old kept.new) }
 {
     match command {
@@ -73,7 +73,7 @@ fn change_property(
     requires numbered { AreNumbered kept.old }
     requires prepared { IsPrepared style.now }
     requires layer { IfSome layer (IsPlaceIn style.now kept.old) }
-    ensures { OnOk result (ChangesAt ⟦<Pool as CountedEvaluator>⟧.slots style.now
+    ensures { OnOk result (ChangesAt ⟦<FormPool as CountedEvaluator>⟧.slots style.now
         layer (item_named place name.now) kept.old kept.new) }
 {
     let Some(layer) = layer else {
@@ -96,7 +96,7 @@ fn change_filter(
     requires numbered { AreNumbered kept.old }
     requires prepared { IsPrepared style.now }
     requires layer { IfSome layer (IsPlaceIn style.now kept.old) }
-    ensures { OnOk result (ChangesAt ⟦<Pool as CountedEvaluator>⟧.slots style.now
+    ensures { OnOk result (ChangesAt ⟦<FormPool as CountedEvaluator>⟧.slots style.now
         layer (λ t. Some CellItem.Filter) kept.old kept.new) }
 {
     match layer {
@@ -119,7 +119,7 @@ fn add_layer(
     requires prepared { IsPrepared style.now }
     requires before { IfSome before (λ i. i < length (kept_seen kept.old)) }
     requires counted { length (trees_in style.now) ≡ length (kept_seen kept.old) + 1 }
-    ensures { OnOk result (AddsBefore ⟦<Pool as CountedEvaluator>⟧.slots style.now before kept.old kept.new) }
+    ensures { OnOk result (AddsBefore ⟦<FormPool as CountedEvaluator>⟧.slots style.now before kept.old kept.new) }
 {
     let place = before.unwrap_or(style.layers.len() - 1);
     let one = style.one(place);
@@ -130,7 +130,7 @@ fn add_layer(
 fn remove_layer(kept: &mut KeptLayers, layer: Option<usize>)
     requires numbered { AreNumbered kept.old }
     requires layer { IfSome layer (λ i. i < length (kept_seen kept.old)) }
-    ensures { RemovesAt ⟦<Pool as CountedEvaluator>⟧.slots layer kept.old kept.new }
+    ensures { RemovesAt ⟦<FormPool as CountedEvaluator>⟧.slots layer kept.old kept.new }
 {
     if let Some(place) = layer {
         kept.remove(place);
@@ -143,7 +143,7 @@ fn move_layer(kept: &mut KeptLayers, layer: Option<usize>, before: Option<usize>
     requires layer { IfSome layer (λ i. i < length (kept_seen kept.old)) }
     requires before { IfSome before (λ i. i < length (kept_seen kept.old)) }
     requires counted { count ≡ length (kept_seen kept.old) }
-    ensures { MovesAt ⟦<Pool as CountedEvaluator>⟧.slots layer before kept.old kept.new }
+    ensures { MovesAt ⟦<FormPool as CountedEvaluator>⟧.slots layer before kept.old kept.new }
 {
     if let Some(from) = layer {
         kept.move_layer(from, place_moved_to(from, before, count));

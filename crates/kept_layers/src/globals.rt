@@ -18,8 +18,8 @@ use crate::kept_layers::KeptLayers;
 use crate::style_layers::{OneLayer, StyleLayers};
 use cell_sources::{LayerValues, globals_change_no_other, set_item};
 use expr_nodes::CountedEvaluator;
+use form_pool::FormPool;
 use layer_buckets::CellItem;
-use node_pool::Pool;
 use property_tables::{LayerType, row_count};
 use std::alloc::{AllocError, Global};
 
@@ -32,8 +32,8 @@ impl KeptLayers {
         requires prepared { IsPrepared style.now }
         requires counted { length self.old.numbers.items ≡ length (trees_in style.now) }
         ensures { (before : List (List ℕ × Data))
-            → HoldsLayers ⟦<Pool as CountedEvaluator>⟧.slots (tiles_in style.now) before (trees_in style.now) self.old
-            → OnOk result (TurnsGlobals ⟦<Pool as CountedEvaluator>⟧.slots (tiles_in style.now)
+            → HoldsLayers ⟦<FormPool as CountedEvaluator>⟧.slots (tiles_in style.now) before (trees_in style.now) self.old
+            → OnOk result (TurnsGlobals ⟦<FormPool as CountedEvaluator>⟧.slots (tiles_in style.now)
             before (globals_in style.now) (trees_in style.now) self.old self.new) }
     {
         globals_change_no_other();
@@ -44,6 +44,8 @@ impl KeptLayers {
             let one = style.one(place);
             let number = self.numbers[place];
             self.turn_layer(alloc, number, &one)?;
+            let reads_state = self.layer_reads_state(number, one.prepared.layer_type);
+            self.state_places.note_if(reads_state, place)?;
         }
         Ok(())
     }
@@ -60,10 +62,11 @@ impl KeptLayers {
         requires layer { IsOneLayer one.now }
         ensures numbers { self.new.numbers ≡ self.old.numbers }
         ensures reads { self.new.reads_globals ≡ self.old.reads_globals }
+        ensures states { self.new.state_places ≡ self.old.state_places }
         ensures sound { IsSound self.new.cells.buckets }
-        ensures others { LeavesOthers ⟦<Pool as CountedEvaluator>⟧.slots number
+        ensures others { LeavesOthers ⟦<FormPool as CountedEvaluator>⟧.slots number
             self.old.cells.buckets self.new.cells.buckets }
-        ensures turned { OnOk result ((item : CellItem) → TurnsItem ⟦<Pool as CountedEvaluator>⟧.slots number item
+        ensures turned { OnOk result ((item : CellItem) → TurnsItem ⟦<FormPool as CountedEvaluator>⟧.slots number item
             (layer_expressions (globals_of one.now) (tree_of one.now.layer.now) item)
             self.old.cells.buckets self.new.cells.buckets) }
     {
@@ -87,10 +90,11 @@ impl KeptLayers {
         requires row { IsItemOf values.now.layer_type item }
         ensures numbers { self.new.numbers ≡ self.old.numbers }
         ensures reads { self.new.reads_globals ≡ self.old.reads_globals }
+        ensures states { self.new.state_places ≡ self.old.state_places }
         ensures sound { IsSound self.new.cells.buckets }
-        ensures others { LeavesOthers ⟦<Pool as CountedEvaluator>⟧.slots number
+        ensures others { LeavesOthers ⟦<FormPool as CountedEvaluator>⟧.slots number
             self.old.cells.buckets self.new.cells.buckets }
-        ensures turned { OnOk result (TurnsItem ⟦<Pool as CountedEvaluator>⟧.slots number item
+        ensures turned { OnOk result (TurnsItem ⟦<FormPool as CountedEvaluator>⟧.slots number item
             (item_expression values.now.globals.now values.now.layer_type
             (object (fields_of values.now.members.now)) item)
             self.old.cells.buckets self.new.cells.buckets) }

@@ -10,18 +10,22 @@ use crate::style_layers::{OneLayer, StyleLayers};
 use asked_cells::ViewCells;
 use cell_sources::add_sources;
 use expr_nodes::CountedEvaluator;
-use node_pool::Pool;
+use form_pool::FormPool;
+use moved_slices::move_element;
+use noted_places::NotedPlaces;
 use std::alloc::{AllocError, Global};
 
 /// The kept cells of the layers of a style, as one view has them, with the expressions that give their values.
 /// `kept_seen` is which cells are kept, for clauses.
 #[derive(Drop)]
 pub struct KeptLayers {
-    pub(crate) cells: ViewCells<Pool>,
+    pub(crate) cells: ViewCells<FormPool>,
     /// The number of each layer in the buckets, in the order of the layers.
     pub(crate) numbers: Vec<u32>,
     /// Whether an expression that they have or had was read by the values of the global state.
     pub(crate) reads_globals: bool,
+    /// The place of each layer of which an expression reads a feature's state, and of others of which one did.
+    pub(crate) state_places: NotedPlaces,
 }
 
 impl KeptLayers {
@@ -30,15 +34,16 @@ impl KeptLayers {
         requires { IsPrepared style.now }
         ensures numbered { IfOk result AreNumbered }
         ensures kept { IfOk result (λ made. kept_seen made ≡ nothing_kept (trees_in style.now)) }
-        ensures holds { IfOk result (HoldsLayers ⟦<Pool as CountedEvaluator>⟧.slots
+        ensures holds { IfOk result (HoldsLayers ⟦<FormPool as CountedEvaluator>⟧.slots
             (tiles_in style.now) (globals_in style.now) (trees_in style.now)) }
-        ensures right { (scene : Scene) → IfOk result (IsRightIn ⟦<Pool as CountedEvaluator>⟧.slots
+        ensures right { (scene : Scene) → IfOk result (IsRightIn ⟦<FormPool as CountedEvaluator>⟧.slots
             (tiles_in style.now) (globals_in style.now) scene (trees_in style.now)) }
     {
         let mut kept = KeptLayers {
-            cells: ViewCells::new(alloc, Pool::new(alloc))?,
+            cells: ViewCells::new(alloc, FormPool::new(alloc))?,
             numbers: Vec::new(alloc),
             reads_globals: false,
+            state_places: NotedPlaces::new(alloc),
         };
         for place in 0..style.layers.len() {
             let one = style.one(place);
@@ -53,7 +58,7 @@ impl KeptLayers {
         requires numbered { AreNumbered self.old }
         requires layer { IsOneLayer one.now }
         requires within { place ≤ length self.old.numbers.items }
-        ensures { OnOk result (AddsLayer ⟦<Pool as CountedEvaluator>⟧.slots place one.now self.old self.new) }
+        ensures { OnOk result (AddsLayer ⟦<FormPool as CountedEvaluator>⟧.slots place one.now self.old self.new) }
     {
         let number = self.unused_number()?;
         self.cells
@@ -62,6 +67,10 @@ impl KeptLayers {
         add_sources(alloc, number, &values, &mut self.cells.buckets)?;
         let reads = self.layer_reads_globals(number, values.layer_type);
         self.reads_globals |= reads;
+        let reads_state = self.layer_reads_state(number, values.layer_type);
+        let count = self.numbers.len();
+        self.state_places.follow_insert(place, count);
+        self.state_places.note_if(reads_state, place)?;
         let Ok(()) = self.numbers.insert(place, number) else {
             return Err(AllocError);
         };
@@ -89,23 +98,22 @@ impl KeptLayers {
     pub fn remove(&mut self, place: usize)
         requires numbered { AreNumbered self.old }
         requires within { place < length self.old.numbers.items }
-        ensures { RemovesLayer ⟦<Pool as CountedEvaluator>⟧.slots place self.old self.new }
+        ensures { RemovesLayer ⟦<FormPool as CountedEvaluator>⟧.slots place self.old self.new }
     {
         let number = self.numbers.remove(place);
         self.cells.buckets.remove(number);
+        self.state_places.follow_remove(place);
     }
 
-    /// Moves the layer at a place to another, with what is kept of it. Takes time linear in the layers, and no
-    /// memory.
+    /// Moves the layer at a place to another, with what is kept of it. Takes time linear in how many layers are in
+    /// between and in those of which an expression reads a state, and no memory.
     pub fn move_layer(&mut self, from: usize, to: usize)
         requires numbered { AreNumbered self.old }
         requires from { from < length self.old.numbers.items }
         requires to { to < length self.old.numbers.items }
-        ensures { MovesLayer ⟦<Pool as CountedEvaluator>⟧.slots from to self.old self.new }
+        ensures { MovesLayer ⟦<FormPool as CountedEvaluator>⟧.slots from to self.old self.new }
     {
-        let number = self.numbers.remove(from);
-        let Ok(()) = self.numbers.insert(to, number) else {
-            unreachable!()
-        };
+        move_element(self.numbers.as_mut_slice(), from, to);
+        self.state_places.follow_move(from, to);
     }
 }

@@ -30,7 +30,8 @@
 //! Layers have numbers in the buckets (`layer_buckets`) that stay theirs while they move; a number is used again once
 //! its layer is gone. Expressions of items that were edited stay in the pool of nodes until the view goes. `list_last`
 //! drops the cells of each layer once its lines are written. `turn_globals` takes constant time as long as no
-//! expression has used the global state.
+//! expression has used the global state. `turn_state` looks only at the layers of which an expression reads a state,
+//! however many others there are.
 //!
 //! The text to believe is in `specs/`: `KeptLayers`, and `EditedKept` for `follow`.
 #![tactic(auto)]
@@ -40,6 +41,7 @@ mod following;
 mod globals;
 mod kept_layers;
 mod listing;
+mod states;
 mod style_layers;
 
 pub use following::follow;

@@ -17,9 +17,9 @@ use asked_cells::{LayerAt, sum_of};
 use cell_listing::write_layer;
 use cell_sources::{filters_are_decided, properties_are_given, properties_are_read_by_expressions};
 use expr_nodes::CountedEvaluator;
+use form_pool::FormPool;
 use layer_buckets::Stale;
 use listing_text::{write_end, write_zoom};
-use node_pool::Pool;
 use outside_io::Steps;
 use std::alloc::{AllocError, Global};
 use std::sync::ledger::Ledger;
@@ -40,14 +40,14 @@ impl KeptLayers {
     ) -> Result<u64, AllocError>
         requires numbered { AreNumbered self.old }
         requires prepared { IsPrepared style.now }
-        requires holds { HoldsLayers ⟦<Pool as CountedEvaluator>⟧.slots (tiles_in style.now)
+        requires holds { HoldsLayers ⟦<FormPool as CountedEvaluator>⟧.slots (tiles_in style.now)
             (globals_in style.now) (trees_in style.now) self.old }
-        requires right { IsRightIn ⟦<Pool as CountedEvaluator>⟧.slots (tiles_in style.now) (globals_in style.now)
+        requires right { IsRightIn ⟦<FormPool as CountedEvaluator>⟧.slots (tiles_in style.now) (globals_in style.now)
             (scene_seen V.tests scene.now) (trees_in style.now) self.old }
         ensures numbered { AreNumbered self.new }
         ensures counts { Counts (scene_seen V.tests scene.now) (tiles_in style.now) (globals_in style.now)
             (trees_in style.now) (kept_seen self.old) result steps.old steps.new }
-        ensures listed { OnOk result (HaveListed ⟦<Pool as CountedEvaluator>⟧.slots (scene_seen V.tests scene.now)
+        ensures listed { OnOk result (HaveListed ⟦<FormPool as CountedEvaluator>⟧.slots (scene_seen V.tests scene.now)
             (tiles_in style.now) (globals_in style.now) (trees_in style.now) self.old self.new) }
         ensures text { OnOk result (out.new.items ≡ out.old.items
             ++ listing (layers_layout (scene_seen V.tests scene.now) (tiles_in style.now)
@@ -72,9 +72,9 @@ impl KeptLayers {
     ) -> Result<u64, AllocError>
         requires numbered { AreNumbered self.old }
         requires prepared { IsPrepared style.now }
-        requires holds { HoldsLayers ⟦<Pool as CountedEvaluator>⟧.slots (tiles_in style.now)
+        requires holds { HoldsLayers ⟦<FormPool as CountedEvaluator>⟧.slots (tiles_in style.now)
             (globals_in style.now) (trees_in style.now) self.old }
-        requires right { IsRightIn ⟦<Pool as CountedEvaluator>⟧.slots (tiles_in style.now) (globals_in style.now)
+        requires right { IsRightIn ⟦<FormPool as CountedEvaluator>⟧.slots (tiles_in style.now) (globals_in style.now)
             (scene_seen V.tests scene.now) (trees_in style.now) self.old }
         ensures numbered { AreNumbered self.new }
         ensures counts { Counts (scene_seen V.tests scene.now) (tiles_in style.now) (globals_in style.now)
@@ -99,14 +99,14 @@ impl KeptLayers {
     ) -> Result<u64, AllocError>
         requires numbered { AreNumbered self.old }
         requires prepared { IsPrepared style.now }
-        requires holds { HoldsLayers ⟦<Pool as CountedEvaluator>⟧.slots (tiles_in style.now)
+        requires holds { HoldsLayers ⟦<FormPool as CountedEvaluator>⟧.slots (tiles_in style.now)
             (globals_in style.now) (trees_in style.now) self.old }
-        requires right { IsRightIn ⟦<Pool as CountedEvaluator>⟧.slots (tiles_in style.now) (globals_in style.now)
+        requires right { IsRightIn ⟦<FormPool as CountedEvaluator>⟧.slots (tiles_in style.now) (globals_in style.now)
             (scene_seen V.tests scene.now) (trees_in style.now) self.old }
         ensures numbered { AreNumbered self.new }
         ensures counts { Counts (scene_seen V.tests scene.now) (tiles_in style.now) (globals_in style.now)
             (trees_in style.now) (kept_seen self.old) result steps.old steps.new }
-        ensures listed { OnOk result (HaveListed ⟦<Pool as CountedEvaluator>⟧.slots (scene_seen V.tests scene.now)
+        ensures listed { OnOk result (HaveListed ⟦<FormPool as CountedEvaluator>⟧.slots (scene_seen V.tests scene.now)
             (tiles_in style.now) (globals_in style.now) (trees_in style.now) self.old self.new) }
         ensures text { OnOk result (out.new.items ≡ out.old.items ++ flat_map layer_lines
             (map (layer_out (scene_seen V.tests scene.now) (tiles_in style.now)) (layers_seen style.now.style.now))) }
@@ -136,9 +136,9 @@ impl KeptLayers {
     ) -> Result<u64, AllocError>
         requires numbered { AreNumbered self.old }
         requires prepared { IsPrepared style.now }
-        requires holds { HoldsLayers ⟦<Pool as CountedEvaluator>⟧.slots (tiles_in style.now)
+        requires holds { HoldsLayers ⟦<FormPool as CountedEvaluator>⟧.slots (tiles_in style.now)
             (globals_in style.now) (trees_in style.now) self.old }
-        requires right { IsRightIn ⟦<Pool as CountedEvaluator>⟧.slots (tiles_in style.now) (globals_in style.now)
+        requires right { IsRightIn ⟦<FormPool as CountedEvaluator>⟧.slots (tiles_in style.now) (globals_in style.now)
             (scene_seen V.tests scene.now) (trees_in style.now) self.old }
         ensures numbered { AreNumbered self.new }
         ensures counts { Counts (scene_seen V.tests scene.now) (tiles_in style.now) (globals_in style.now)
@@ -171,13 +171,14 @@ impl KeptLayers {
         out: &mut Vec<u8>,
     ) -> Result<u64, AllocError>
         requires sound { IsSound self.old.cells.buckets }
-        requires layer { IsKeptLayer ⟦<Pool as CountedEvaluator>⟧.slots (scene_at V.tests at.now)
+        requires layer { IsKeptLayer ⟦<FormPool as CountedEvaluator>⟧.slots (scene_at V.tests at.now)
             (map tile_seen tiles.now) at.now.number (layer_at at.now) self.old.cells.buckets }
         ensures numbers { self.new.numbers ≡ self.old.numbers }
         ensures reads { self.new.reads_globals ≡ self.old.reads_globals }
+        ensures states { self.new.state_places ≡ self.old.state_places }
         ensures sound { IsSound self.new.cells.buckets }
         ensures sources { LeavesSources at.now.number self.old.cells.buckets self.new.cells.buckets }
-        ensures asks { AsksLayer ⟦<Pool as CountedEvaluator>⟧.slots at.now.number (scene_at V.tests at.now)
+        ensures asks { AsksLayer ⟦<FormPool as CountedEvaluator>⟧.slots at.now.number (scene_at V.tests at.now)
             (map tile_seen tiles.now) (layer_at at.now) self.old.cells.buckets self.new.cells.buckets
             result steps.old steps.new }
         ensures lines { OnOk result (out.new.items ≡ out.old.items

@@ -6,7 +6,7 @@ use Rattle.std.proofs.Common.{zero, suc, ◌+◌, length-append}
 use Rattle.std.proofs.lemmas.List.{length-replicate}
 use Rattle.index_lists.specs.SlotLists.{SlotLists, after_grow}
 use Rattle.index_lists.specs.Holds.{MovesSlot}
-use Rattle.index_lists.proofs.Holding.{free_of, listed_of, holds_same, holds_more, first_some, first_none}
+use Rattle.index_lists.proofs.Holding.{free_of, listed_of, holds_same, holds_more, first_some, first_none, unmoved}
 use Rattle.layer_buckets.specs.Listing.{no_lists, is_in, list_named, IsThere, AreThere, HoldAll, IsUnlisted, IsListedIn, MovesNumbers, Alike, AreAlike, HaveSlots, AreCounted, Grows, Widens, AreWider}
 use Rattle.layer_buckets.specs.declared.lists.CauseLists.{CauseLists}
 use Rattle.layer_buckets.specs.declared.lists.ListName.{ListName}
@@ -35,6 +35,10 @@ listed_in lists h slot n k e = record {
 
 pub moves_part : (part : ListNumbers → Option ℕ) (slot : ℕ) (n : ListNumbers) (h g : ℕ → ListNumbers) → MovesNumbers slot n h g → MovesSlot slot (part n) (λ s. part (h s)) (λ s. part (g s))
 moves_part part slot n h g m = record { here = ap part m.here; others = λ x d. ap part (m.others x d) }
+
+-- a slot that is in no list of a kind, and is put in none, is as it was
+pub part_same : (part : ListNumbers → Option ℕ) (slot : ℕ) (n : ListNumbers) (h g : ℕ → ListNumbers) → part (h slot) ≡ None → part n ≡ None → MovesNumbers slot n h g → (x : ℕ) → part (g x) ≡ part (h x)
+part_same part slot n h g before after m = unmoved slot None (λ s. part (h s)) (λ s. part (g s)) before (subst (λ o. MovesSlot slot o (λ s. part (h s)) (λ s. part (g s))) after (moves_part part slot n h g m))
 
 pub hold_same : (lists : CauseLists) (h g : ℕ → ListNumbers) → HoldAll lists h → ((x : ℕ) → g x ≡ h x) → HoldAll lists g
 hold_same lists h g k e = record {

@@ -29,6 +29,11 @@ pub record HasRows (old new : SeenColumn) (rows : ℕ) : Type 0 where
   pub first : new.first_state ≡ old.first_state
   pub most : (n : ℕ) → rows ≤ n → old.rows ≤ n → new.rows ≤ n
 
+-- the place of a cell whose item has a column
+pub record IsPlaceOf (t : CellTable) (cell : Cell) (p : CellPlace) : Type 0 where
+  pub column : column_of t.layers.items cell.layer cell.item ≡ Some p.column
+  pub row : row_of cell.feature ≡ p.row
+
 -- the place of a cell that can be kept
 pub record IsPlaceFor (t : CellTable) (cell : Cell) (p : CellPlace) : Type 0 where
   pub column : column_of t.layers.items cell.layer cell.item ≡ Some p.column

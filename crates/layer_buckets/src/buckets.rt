@@ -131,25 +131,19 @@ impl<E: CountedEvaluator + Drop> Buckets<E> {
         self.table.source(layer, item)
     }
 
+    /// Whether no cell is kept, nor has been: one that was dropped leaves its room.
+    pub fn is_bare(&self) -> bool
+        ensures { result ≡ true → (cell : Cell) → kept_at self.now cell ≡ None }
+    {
+        self.table.is_bare()
+    }
+
     /// The value of a kept cell, or its fault.
     pub fn value(&self, cell: &Cell) -> Option<Result<&Value, EvalFault>>
         requires { IsSound self.now }
         ensures { seen_outcome result ≡ kept_at self.now cell.now }
     {
         self.table.outcome(cell)
-    }
-
-    /// Makes room for so many more values. Without it room is made as values come.
-    pub fn reserve(&mut self, cells: u32) -> Result<(), AllocError>
-        requires { IsSound self.old }
-        ensures sound { IsSound self.new }
-        ensures evaluator { evaluator_of self.new ≡ evaluator_of self.old }
-        ensures sources { (layer : ℕ) (item : CellItem) →
-            source_of self.new layer item ≡ source_of self.old layer item }
-        ensures features { (layer : ℕ) → features_of self.new layer ≡ features_of self.old layer }
-        ensures kept { (cell : Cell) → kept_at self.new cell ≡ kept_at self.old cell }
-    {
-        self.table.reserve(cells)
     }
 
     /// Keeps the value of a cell in a world, and how many evaluations that took: 0 where it was kept, else 1. The
@@ -183,16 +177,34 @@ impl<E: CountedEvaluator + Drop> Buckets<E> {
         ensures most { steps.new ≤ steps.old + nodes_at (E.slots (evaluator_of self.old))
             (slot_in_source (source_of self.old cell.now.layer cell.now.item)) }
     {
-        if self.table.outcome(cell).is_some() {
+        let place = self.table.place(cell);
+        if self.table.is_kept(cell, place) {
             return Ok(0);
         }
-        let Some(source) = self.table.source(cell.layer, cell.item) else {
+        let Some(source) = self.table.source_at(cell, place) else {
             unreachable!()
         };
-        let place = self.table.place_for(cell)?;
+        self.table.make_place(cell, place)?;
         let outcome = outcome_of(&self.evaluator, workspace, source.slot, world, steps)?;
         self.table.keep(cell, place, outcome);
         Ok(1)
+    }
+
+    /// The value of an item of a layer in a world, or its fault, which is not kept. The workspace is the memory of an evaluation, and
+    /// any serves.
+    pub fn evaluate<W: WorldView, L: Ledger>(
+        &self,
+        workspace: &mut Workspace,
+        source: &Source,
+        world: &W,
+        steps: &mut Steps<L>,
+    ) -> Result<Result<Value, EvalFault>, AllocError>
+        requires { source.now.slot < length (E.slots (evaluator_of self.now)) }
+        ensures given { IfOk result (λ outcome. given_at (E.slots (evaluator_of self.now)) source.now.slot (W.world world.now) ≡ Some (outcome_owned outcome)) }
+        ensures least { steps.old < steps.new }
+        ensures most { steps.new ≤ steps.old + nodes_at (E.slots (evaluator_of self.now)) source.now.slot }
+    {
+        outcome_of(&self.evaluator, workspace, source.slot, world, steps)
     }
 
     /// Drops the values that a cause names, and no other.

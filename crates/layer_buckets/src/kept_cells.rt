@@ -13,7 +13,7 @@ use crate::cell::Source;
 use crate::columns::{Column, grow_rows, name_slot, push_column, set_source, slot_at};
 use crate::lists::{CauseLists, ListName, ListNumbers};
 use crate::slots::{
-    CellPlace, SlotMark, ValueSlot, empty, empty_slot, fill, full_slot, outcome_in,
+    CellPlace, SlotMark, ValueSlot, empty, empty_slot, fill, full_slot, keeps, outcome_in,
 };
 use prop_values::{EvalFault, Value};
 use std::alloc::{AllocError, Global};
@@ -46,6 +46,13 @@ impl KeptCells {
         })
     }
 
+    /// Whether there is no slot, so that no place is kept.
+    pub fn is_bare(&self) -> bool
+        ensures { result ≡ true → (p : CellPlace) → kept_outcome self.now p ≡ None }
+    {
+        self.slots.is_empty()
+    }
+
     /// The outcome of a kept place.
     pub fn outcome(&self, place: CellPlace) -> Option<Result<&Value, EvalFault>>
         ensures { seen_outcome result ≡ kept_outcome self.now place }
@@ -56,6 +63,19 @@ impl KeptCells {
                 None => None,
             },
             None => None,
+        }
+    }
+
+    /// Whether a place is kept.
+    pub fn is_kept(&self, place: CellPlace) -> bool
+        ensures { result ≡ is_some (kept_outcome self.now place) }
+    {
+        match slot_at(&self.columns, place) {
+            Some(slot) => match self.slots.get(slot as usize) {
+                Some(slot) => keeps(slot, place),
+                None => false,
+            },
+            None => false,
         }
     }
 
@@ -199,7 +219,8 @@ impl KeptCells {
         Ok(())
     }
 
-    /// Makes a slot free where none is: half as many as there are, so that a cell costs the same however many are kept.
+    /// Makes a slot free where none is: a sixteenth of those that there are, so that a cell costs the same however many
+    /// are kept, and few slots are made in vain.
     pub fn reserve_more(&mut self) -> Result<(), AllocError>
         requires { IsKeeping self.old }
         ensures keeping { IsKeeping self.new }
@@ -209,7 +230,7 @@ impl KeptCells {
         if !self.free.is_empty() {
             return Ok(());
         }
-        match u32::try_from(self.slots.len() / 2 + 64) {
+        match u32::try_from(self.slots.len() / 16 + 64) {
             Ok(more) => self.reserve(more),
             Err(_) => Err(AllocError),
         }

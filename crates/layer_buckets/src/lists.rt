@@ -1,6 +1,6 @@
 //! The lists in which slots are, one of each kind, by what their values may be dropped for.
 
-ghost use Rattle.std.specs.Prelude.{◌≡◌, ◌+◌, ◌<◌, ◌≤◌, ◌&&◌, ℕ, Option, None, length, is_some, true, IfOk, IfSome, OnErr, OnOk, slice_get};
+ghost use Rattle.std.specs.Prelude.{◌≡◌, ◌+◌, ◌<◌, ◌≤◌, ◌&&◌, ℕ, Option, None, length, is_some, true, IfOk, IfSome, OnErr, OnOk, false, slice_get};
 ghost use Rattle.index_lists.specs.SlotLists.{IsFree, IsListed};
 ghost use Rattle.index_lists.specs.Holds.{Holds, MovesSlot};
 ghost use Rattle.layer_buckets.specs.Listing.{Alike, AreAlike, AreCounted, AreGrown, AreThere, AreWider, Grows, HaveSlots, HoldAll, IsListedIn, IsThere, IsUnlisted, MovesNumbers, Widens, list_named, no_lists};
@@ -75,9 +75,12 @@ impl CauseLists {
             MovesNumbers slot numbers h g → HoldAll self.new g }
     {
         put_in(&mut self.items, numbers.item, slot);
-        put_in(&mut self.zooms, numbers.zoom, slot);
-        put_in(&mut self.images, numbers.image, slot);
-        put_in(&mut self.states, numbers.state, slot);
+        let more = has_causes(numbers);
+        if more {
+            put_in(&mut self.zooms, numbers.zoom, slot);
+            put_in(&mut self.images, numbers.image, slot);
+            put_in(&mut self.states, numbers.state, slot);
+        }
     }
 
     /// Takes a slot out of these lists, all that it is in.
@@ -88,9 +91,12 @@ impl CauseLists {
             MovesNumbers slot no_lists h g → HoldAll self.new g }
     {
         take_out(&mut self.items, numbers.item, slot);
-        take_out(&mut self.zooms, numbers.zoom, slot);
-        take_out(&mut self.images, numbers.image, slot);
-        take_out(&mut self.states, numbers.state, slot);
+        let more = has_causes(numbers);
+        if more {
+            take_out(&mut self.zooms, numbers.zoom, slot);
+            take_out(&mut self.images, numbers.image, slot);
+            take_out(&mut self.states, numbers.state, slot);
+        }
     }
 
     /// Makes slots until there are so many. Whether it could.
@@ -185,6 +191,16 @@ fn all(a: bool, b: bool, c: bool, d: bool) -> bool
     ensures { result ≡ ((a && b) && (c && d)) }
 {
     (a && b) && (c && d)
+}
+
+/// Whether there is a list beside that of the item. Most cells have none.
+fn has_causes(numbers: ListNumbers) -> bool
+    ensures { result ≡ false → (numbers.zoom ≡ None) × (numbers.image ≡ None) × (numbers.state ≡ None) }
+{
+    match (numbers.zoom, numbers.image, numbers.state) {
+        (None, None, None) => false,
+        _ => true,
+    }
 }
 
 /// Puts a slot in a list, or in none.

@@ -1,6 +1,6 @@
 //! The slots of kept values.
 
-ghost use Rattle.std.specs.Prelude.{◌≡◌, ◌<◌, Some, length, slice_set};
+ghost use Rattle.std.specs.Prelude.{◌≡◌, ◌<◌, Some, is_some, length, slice_set};
 ghost use Rattle.layer_buckets.specs.KeptSlots.{kept_in, no_slot, outcome_for, same_place};
 ghost use Rattle.layer_buckets.specs.Outcomes.{outcome_owned, seen_outcome};
 
@@ -69,6 +69,18 @@ pub fn outcome_in(slot: &ValueSlot, place: CellPlace) -> Option<Result<&Value, E
         SlotMark::Given => None,
         SlotMark::Failed(fault) if same => Some(Err(fault)),
         SlotMark::Failed(_) => None,
+    }
+}
+
+/// Whether a slot keeps a place.
+pub fn keeps(slot: &ValueSlot, place: CellPlace) -> bool
+    ensures { result ≡ is_some (outcome_for place (kept_in (Some slot.now))) }
+{
+    let same = same_place(slot.place, place);
+    match slot.mark {
+        SlotMark::Empty => false,
+        SlotMark::Given => same,
+        SlotMark::Failed(_) => same,
     }
 }
 

@@ -4,7 +4,7 @@ ghost use Rattle.std.specs.Prelude.{◌≡◌, ℕ, ◌+◌, ◌<◌, ◌≤◌,
 ghost use Rattle.std.specs.List.{slice_get};
 ghost use Rattle.layer_buckets.specs.Cells.{cell_eq, is_item};
 ghost use Rattle.layer_buckets.specs.Drops.{AreKept, Drops, DropsList};
-ghost use Rattle.layer_buckets.specs.Growing.{IsPlaceFor, IsSame};
+ghost use Rattle.layer_buckets.specs.Growing.{IsPlaceFor, IsPlaceOf, IsSame};
 ghost use Rattle.layer_buckets.specs.Keeping.{slot_named};
 ghost use Rattle.layer_buckets.specs.Listing.{IsThere};
 ghost use Rattle.layer_buckets.specs.KeptSlots.{column_at};
@@ -199,6 +199,13 @@ impl CellTable {
         }
     }
 
+    /// Whether there is no slot, so that no cell is kept.
+    pub fn is_bare(&self) -> bool
+        ensures { result ≡ true → (cell : Cell) → kept_in_table self.now cell ≡ None }
+    {
+        self.cells.is_bare()
+    }
+
     /// The source of an item.
     pub fn source(&self, layer: u32, item: CellItem) -> Option<Source>
         ensures { result ≡ source_in_table self.now layer item }
@@ -209,24 +216,52 @@ impl CellTable {
         }
     }
 
-    /// The place of a cell, which can be kept there.
-    pub fn place_for(&mut self, cell: &Cell) -> Result<CellPlace, AllocError>
-        requires table { IsCellTable self.old }
-        requires column { is_some (column_of self.old.layers.items cell.now.layer cell.now.item) ≡ true }
+    /// The place of a cell whose item has a column.
+    pub fn place(&self, cell: &Cell) -> CellPlace
+        requires table { IsCellTable self.now }
+        requires column { is_some (column_of self.now.layers.items cell.now.layer cell.now.item) ≡ true }
         requires feature { row_of cell.now.feature
-            ≤ feature_count (features_in_table self.old cell.now.layer) }
-        ensures table { IsCellTable self.new }
-        ensures same { IsSame self.old self.new }
-        ensures ok { IfOk result (IsPlaceFor self.new cell.now) }
+            ≤ feature_count (features_in_table self.now cell.now.layer) }
+        ensures { IsPlaceOf self.now cell.now result }
     {
         let Some(column) = self.column(cell.layer, cell.item) else {
             unreachable!()
         };
-        let row = row_within(cell.feature);
+        CellPlace {
+            column,
+            row: row_within(cell.feature),
+        }
+    }
+
+    /// Whether the cell of a place is kept.
+    pub fn is_kept(&self, cell: &Cell, place: CellPlace) -> bool
+        requires { IsPlaceOf self.now cell.now place }
+        ensures { result ≡ is_some (kept_in_table self.now cell.now) }
+    {
+        self.cells.is_kept(place)
+    }
+
+    /// The source of the item of a place's cell.
+    pub fn source_at(&self, cell: &Cell, place: CellPlace) -> Option<Source>
+        requires { IsPlaceOf self.now cell.now place }
+        ensures { result ≡ source_in_table self.now cell.now.layer cell.now.item }
+    {
+        self.cells.source(place.column)
+    }
+
+    /// Makes what the cell of a place needs to be kept.
+    pub fn make_place(&mut self, cell: &Cell, place: CellPlace) -> Result<(), AllocError>
+        requires table { IsCellTable self.old }
+        requires place { IsPlaceOf self.old cell.now place }
+        requires feature { row_of cell.now.feature
+            ≤ feature_count (features_in_table self.old cell.now.layer) }
+        ensures table { IsCellTable self.new }
+        ensures same { IsSame self.old self.new }
+        ensures ok { OnOk result (IsPlaceFor self.new cell.now place) }
+    {
         let features = self.features(cell.layer);
-        self.make_rows(cell, column, row_count(cell.feature, features))?;
-        self.reserve_more()?;
-        Ok(CellPlace { column, row })
+        self.make_rows(cell, place.column, row_count(cell.feature, features))?;
+        self.reserve_more()
     }
 
     // Makes rows of the column of a cell.
@@ -251,15 +286,6 @@ impl CellTable {
         ensures ok { OnOk result (0 < length self.new.cells.free.items) }
     {
         self.cells.reserve_more()
-    }
-
-    /// Makes slots until so many are free.
-    pub fn reserve(&mut self, cells: u32) -> Result<(), AllocError>
-        requires { IsCellTable self.old }
-        ensures table { IsCellTable self.new }
-        ensures same { IsSame self.old self.new }
-    {
-        self.cells.reserve(cells)
     }
 
     /// Keeps the outcome of a cell.

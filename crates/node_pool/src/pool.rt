@@ -1,7 +1,7 @@
 //! The evaluator whose nodes are kept together.
 
 ghost use Rattle.std.specs.Prelude.{◌≡◌, ◌<◌, [], ◌++◌, ◌∷◌, length, slice_set, IfOk, OnErr, OnOk};
-ghost use Rattle.expr_nodes.specs.Evaluators.{sized_node};
+ghost use Rattle.expr_nodes.specs.Evaluators.{nodes_at, sized_node};
 
 use crate::adding::added;
 use crate::block::evaluated;
@@ -93,6 +93,15 @@ impl Pool {
         Ok(())
     }
 
+    /// How many nodes the expression of a number has, literals counted.
+    pub fn nodes(&self, slot: u32) -> u64
+        requires { slot < length (⟦<Pool as CountedEvaluator>⟧.slots self.now) }
+        ensures { result ≡ nodes_at (⟦<Pool as CountedEvaluator>⟧.slots self.now) slot }
+    {
+        let expression = &self.expressions[slot as usize];
+        expression.nodes
+    }
+
     // Moves the nodes together where more than half of them are unused. Without memory for that they stay where they
     // are.
     fn gather(&mut self)
@@ -131,10 +140,5 @@ impl CountedEvaluator for Pool {
     ) -> Result<Value, Halt> {
         let expression = &self.expressions[slot as usize];
         evaluated(self.nodes.as_slice(), expression, workspace, world, steps)
-    }
-
-    fn nodes(&self, slot: u32) -> u64 {
-        let expression = &self.expressions[slot as usize];
-        expression.nodes
     }
 }

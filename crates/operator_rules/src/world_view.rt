@@ -8,7 +8,7 @@ use eval_face::Context;
 use fixed_num::Fixed;
 use host_ops::TextTest;
 use prop_values::Entries;
-use tile_reader::{FeatureProperties, Shape};
+use tile_reader::{Feature, FeatureProperties, Shape};
 
 /// What an expression reads of the world, each part by a call of its own.
 pub trait WorldView {
@@ -17,6 +17,12 @@ pub trait WorldView {
 
     fn zoom(&self) -> Fixed
         ensures { result ≡ (world self.now).zoom };
+
+    /// The feature: none where there is none.
+    fn feature(&self) -> Option<&Feature>
+        ensures id { (feature_of result).id ≡ (world self.now).id }
+        ensures shape { (feature_of result).shape ≡ (world self.now).shape }
+        ensures properties { (feature_of result).properties ≡ (world self.now).properties };
 
     /// The properties of the feature: none where there is no feature.
     fn properties(&self) -> Option<&FeatureProperties>
@@ -54,6 +60,10 @@ impl<I: TextTest, S: TextTest> WorldView for TestedContext<'_, '_, I, S> {
 
     fn zoom(&self) -> Fixed {
         self.context.zoom
+    }
+
+    fn feature(&self) -> Option<&Feature> {
+        self.context.feature
     }
 
     fn properties(&self) -> Option<&FeatureProperties> {

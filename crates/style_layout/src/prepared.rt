@@ -8,6 +8,7 @@ ghost use Rattle.style_layout.specs.Layers.{style_layers, StyleLayer as Layer};
 
 use crate::layers::{StyleLayer, prepare_layer};
 use decimal_json::Json;
+use moved_slices::move_element;
 use prop_values::Entries;
 use std::alloc::{AllocError, Global};
 use std::mem;
@@ -76,17 +77,14 @@ impl PreparedStyle {
         let _ = self.layers.remove(place);
     }
 
-    /// Moves the layer at a place to another, and the layers in between by one place. Takes time linear in the layers, and
-    /// no memory.
+    /// Moves the layer at a place to another, and the layers in between by one place. Takes time linear in how many
+    /// these are, and no memory.
     pub fn move_layer(&mut self, from: usize, to: usize)
         requires from { from < length (layers_seen self.old) }
         requires to { to < length (layers_seen self.old) }
         ensures { (other : Layer) → layers_seen self.new
             ≡ insert (remove (layers_seen self.old) from) to (slice_index_or (layers_seen self.old) from other) }
     {
-        let layer = self.layers.remove(from);
-        let Ok(()) = self.layers.insert(to, layer) else {
-            unreachable!()
-        };
+        move_element(self.layers.as_mut_slice(), from, to);
     }
 }

@@ -1,6 +1,5 @@
-use Rattle.std.specs.Prelude.{map}
 use Rattle.decimal_json.specs.Tree.{object, fields_of}
-use Rattle.expr_nodes.specs.Evaluators.{sized_node}
+use Rattle.form_pool.specs.PoolSlots.{pool_slots}
 use Rattle.layer_buckets.specs.Seen.{IsSound}
 use Rattle.cell_sources.specs.CellExpressions.{item_expression}
 use Rattle.cell_sources.specs.Sourced.{HasFirst, KeepsNoMore, LeavesOthers}
@@ -9,6 +8,6 @@ use Rattle.cell_sources.proofs.sources.add_sources.Given as goal
 abbrev pub invariant-loop-row : goal.invariant-loop-row
 invariant-loop-row l =
     IsSound l.buckets
-    × LeavesOthers (map sized_node) l.number l.fn.buckets l.buckets
-    × HasFirst (map sized_node) l.number l.row (item_expression l.layer.globals.now l.layer.layer_type (object (fields_of l.layer.members.now))) l.buckets
+    × LeavesOthers pool_slots l.number l.fn.buckets l.buckets
+    × HasFirst pool_slots l.number l.row (item_expression l.layer.globals.now l.layer.layer_type (object (fields_of l.layer.members.now))) l.buckets
     × KeepsNoMore l.fn.buckets l.buckets

@@ -1,5 +1,6 @@
 use Rattle.std.proofs.Common.{◌∙◌, ap, get_or, map, set, subst}
 use Rattle.std.specs.Prelude.{insert, remove}
+use Rattle.std.proofs.lemmas.List.{with_items_is}
 use Rattle.decimal_json.specs.View.{items_view, tree_of}
 use Rattle.style_edits.specs.Undone.{IsWithin, undone_layers}
 use Rattle.style_edits.specs.declared.undo.Undo.{Undo}
@@ -33,14 +34,14 @@ returns-in-Removed c =
     let before = c.requires.before ∙ ap (λ (u : Undo). map layer_mark (undone_layers u us)) c.in-Removed.is in
     c.remove.ensures.items ∙ ((λ i. remove (before i) place) ∙ removed_back layer_mark us place (tree_of c.in-Removed.field-1) within)
 
-pub returns-in-Ok-insert : goal.returns-in-Ok-insert
-returns-in-Ok-insert c =
+pub returns-in-Moved : goal.returns-in-Moved
+returns-in-Moved c =
     let us = items_view c.args.layers.now in
     let from = c.in-Moved.from in
     let to = c.in-Moved.to in
-    let mark = c.remove-mark.result in
     let within = subst (λ (u : Undo). IsWithin u us) c.in-Moved.is c.requires.within in
     let before = c.requires.before ∙ ap (λ (u : Undo). map layer_mark (undone_layers u us)) c.in-Moved.is in
-    c.in-Ok-insert.ensures.items
-    ∙ ((λ i. insert (c.remove-mark.ensures.items i) to (c.remove-mark.ensures.value i))
-    ∙ ((λ i. insert (remove (before i) from) to (get_or (before i) from mark)) ∙ moved_forth us from to within.0 within.1 layer_mark mark))
+    with_items_is c.args.self.now.marks c.move_element.new.items (c.move_element.ensures.len ∙ c.as_mut_slice.ensures.len)
+    ∙ (c.move_element.ensures.moved 0
+    ∙ (ap (λ marks. insert (remove marks from) to (get_or marks from 0)) (c.as_mut_slice.ensures.value ∙ before)
+    ∙ moved_forth us from to within.0 within.1 layer_mark 0))

@@ -23,6 +23,7 @@ loop-feature-preserved-then-eq c =
       few = c.next.ensures.few;
       numbers = i.numbers;
       reads = i.reads;
+      states = i.states;
       sound = e.sound;
       still = record {
         evaluator = e.evaluator ∙ i.still.evaluator;

@@ -15,6 +15,7 @@ invariant-loop-feature l = record {
   few : HasFewLeft l.features;
   numbers : l.self.numbers ≡ l.fn.self.numbers;
   reads : l.self.reads_globals ≡ l.fn.self.reads_globals;
+  states : l.self.state_places ≡ l.fn.self.state_places;
   sound : IsSound l.self.cells.buckets;
   still : Still l.fn.self.cells.buckets l.self.cells.buckets;
   kept : (cell : Cell) → left_by (nat_eq l.fn.number cell.layer) (hits l.fn.id (features_left l.features) cell.feature)

@@ -1,7 +1,7 @@
 use Rattle.std.proofs.Common.{◌≡◌, ◌+◌, ◌<◌, ◌≤◌, length, map, get_or, refl, ap, ◌∙◌, arith, vec_len}
-use Rattle.expr_nodes.specs.Evaluators.{sized_node}
 use Rattle.layer_buckets.specs.declared.cell.Stale.TheVariants.{Layer}
 use Rattle.style_layout.specs.CodeView.{layer_seen, layers_seen, scene_seen}
+use Rattle.form_pool.specs.PoolSlots.{pool_slots}
 use Rattle.kept_layers.proofs.ListLaws.{all_counts, dropped_counts, failed_counts, layers_length, lines_end, lines_first, lines_next, most_taken, none_counted, stops_here, this_kept_layer, this_layer, this_there, this_within}
 use Rattle.kept_layers.proofs.NumberedLaws.{asked_numbered, dropped_numbered}
 use Rattle.kept_layers.specs.Holding.{Still}
@@ -15,7 +15,7 @@ loop-place-init g c =
     record {
       numbered = c.requires.numbered;
       numbers = refl;
-      counts = none_counted (map sized_node) scene (tiles_in style) (globals_in style) c.args.self.now.numbers.items (trees_in style)
+      counts = none_counted pool_slots scene (tiles_in style) (globals_in style) c.args.self.now.numbers.items (trees_in style)
           c.args.self.now.cells.buckets c.args.steps.now c.requires.holds c.requires.right;
       text = lines_first scene (tiles_in style) c.args.out.now.items (layers_seen style.style.now);
     }
@@ -60,7 +60,7 @@ returns-in_err-more-clause-numbered g c =
     let within : k < length ns = omega (arith, c.loop-place-test.true, c.len-place-end.ensures, c.args.self.now.numbers.ok.0) in
     let is : x ≡ get_or ns k x = c.index.ensures ∙ ap (λ v. get_or v.items k x) i.numbers in
     let leaves = c.list_layer.ensures.sources in
-    asked_numbered c.loop-place.self c.list_layer.new.self c.list_layer.ensures.numbers c.list_layer.ensures.reads c.list_layer.ensures.sound
+    asked_numbered c.loop-place.self c.list_layer.new.self c.list_layer.ensures.numbers c.list_layer.ensures.reads c.list_layer.ensures.states c.list_layer.ensures.sound
     x leaves (this_there i.counts x within is) i.numbered
 
 pub returns-in_err-more-clause-counts : goal.returns-in_err-more-clause-counts
@@ -100,8 +100,8 @@ returns-in_err-evaluated-clause-numbered g c =
       source = c.drop_cells.ensures.sources;
       features = c.drop_cells.ensures.features;
     } in
-    dropped_numbered c.list_layer.new.self _ refl refl c.drop_cells.ensures.sound (Layer x) still c.drop_cells.ensures.kept
-    (asked_numbered c.loop-place.self c.list_layer.new.self c.list_layer.ensures.numbers c.list_layer.ensures.reads c.list_layer.ensures.sound
+    dropped_numbered c.list_layer.new.self _ refl refl refl c.drop_cells.ensures.sound (Layer x) still c.drop_cells.ensures.kept
+    (asked_numbered c.loop-place.self c.list_layer.new.self c.list_layer.ensures.numbers c.list_layer.ensures.reads c.list_layer.ensures.states c.list_layer.ensures.sound
     x leaves (this_there i.counts x within is) i.numbered)
 
 pub returns-in_err-evaluated-clause-counts : goal.returns-in_err-evaluated-clause-counts
@@ -152,8 +152,8 @@ loop-place-preserved g c =
       features = c.drop_cells.ensures.features;
     } in
     record {
-      numbered = dropped_numbered c.list_layer.new.self _ refl refl c.drop_cells.ensures.sound (Layer x) still c.drop_cells.ensures.kept
-          (asked_numbered c.loop-place.self c.list_layer.new.self c.list_layer.ensures.numbers c.list_layer.ensures.reads c.list_layer.ensures.sound
+      numbered = dropped_numbered c.list_layer.new.self _ refl refl refl c.drop_cells.ensures.sound (Layer x) still c.drop_cells.ensures.kept
+          (asked_numbered c.loop-place.self c.list_layer.new.self c.list_layer.ensures.numbers c.list_layer.ensures.reads c.list_layer.ensures.states c.list_layer.ensures.sound
           x leaves (this_there i.counts x within is) i.numbered);
       numbers = c.list_layer.ensures.numbers ∙ i.numbers;
       counts = dropped_counts i.counts x within is layer found law asked c.list_layer.new.steps c.requires.numbered.apart c.in_ok-more.more c.in_ok-more.ensures.asks leaves

@@ -1,6 +1,6 @@
 use Rattle.std.proofs.Common.{◌≡◌, ◌+◌, ◌<◌, ◌≤◌, length, map, get_or, refl, ap, sym, subst, ◌∙◌, arith, vec_len}
-use Rattle.expr_nodes.specs.Evaluators.{sized_node}
 use Rattle.style_layout.specs.CodeView.{layer_seen, layers_seen, scene_seen}
+use Rattle.form_pool.specs.PoolSlots.{pool_slots}
 use Rattle.kept_layers.proofs.ListLaws.{all_counts, all_kept_after, asked_counts, asked_keeps, failed_counts, layers_length, lines_end, lines_first, lines_next, most_taken, none_counted, stops_here, this_kept_layer, this_layer, this_there, this_within}
 use Rattle.kept_layers.proofs.NumberedLaws.{asked_numbered}
 use Rattle.kept_layers.specs.Holding.{AreHeld, AreRightIn, style_kept}
@@ -14,7 +14,7 @@ loop-place-init g c =
     record {
       numbered = c.requires.numbered;
       numbers = refl;
-      counts = none_counted (map sized_node) scene (tiles_in style) (globals_in style) c.args.self.now.numbers.items (trees_in style)
+      counts = none_counted pool_slots scene (tiles_in style) (globals_in style) c.args.self.now.numbers.items (trees_in style)
           c.args.self.now.cells.buckets c.args.steps.now c.requires.holds c.requires.right;
       keeps = refl;
       text = lines_first scene (tiles_in style) c.args.out.now.items (layers_seen style.style.now);
@@ -60,7 +60,7 @@ returns-in_err-more-clause-numbered g c =
     let within : k < length ns = omega (arith, c.loop-place-test.true, c.len-place-end.ensures, c.args.self.now.numbers.ok.0) in
     let is : x ≡ get_or ns k x = c.index.ensures ∙ ap (λ v. get_or v.items k x) i.numbers in
     let leaves = c.list_layer.ensures.sources in
-    asked_numbered c.loop-place.self c.list_layer.new.self c.list_layer.ensures.numbers c.list_layer.ensures.reads c.list_layer.ensures.sound
+    asked_numbered c.loop-place.self c.list_layer.new.self c.list_layer.ensures.numbers c.list_layer.ensures.reads c.list_layer.ensures.states c.list_layer.ensures.sound
     x leaves (this_there i.counts x within is) i.numbered
 
 pub returns-in_err-more-clause-counts : goal.returns-in_err-more-clause-counts
@@ -89,7 +89,7 @@ returns-in_err-number-clause-numbered g c =
     let within : k < length ns = omega (arith, c.loop-place-test.true, c.len-place-end.ensures, c.args.self.now.numbers.ok.0) in
     let is : x ≡ get_or ns k x = c.index.ensures ∙ ap (λ v. get_or v.items k x) i.numbers in
     let leaves = c.list_layer.ensures.sources in
-    asked_numbered c.loop-place.self c.list_layer.new.self c.list_layer.ensures.numbers c.list_layer.ensures.reads c.list_layer.ensures.sound
+    asked_numbered c.loop-place.self c.list_layer.new.self c.list_layer.ensures.numbers c.list_layer.ensures.reads c.list_layer.ensures.states c.list_layer.ensures.sound
     x leaves (this_there i.counts x within is) i.numbered
 
 pub returns-in_err-number-clause-counts : goal.returns-in_err-number-clause-counts
@@ -127,7 +127,7 @@ loop-place-preserved g c =
     let asked = c.list_layer.new.self.cells.buckets in
     let leaves = c.list_layer.ensures.sources in
     record {
-      numbered = asked_numbered c.loop-place.self c.list_layer.new.self c.list_layer.ensures.numbers c.list_layer.ensures.reads c.list_layer.ensures.sound
+      numbered = asked_numbered c.loop-place.self c.list_layer.new.self c.list_layer.ensures.numbers c.list_layer.ensures.reads c.list_layer.ensures.states c.list_layer.ensures.sound
           x leaves (this_there i.counts x within is) i.numbered;
       numbers = c.list_layer.ensures.numbers ∙ i.numbers;
       counts = asked_counts i.counts x within is layer found law asked c.list_layer.new.steps c.requires.numbered.apart c.in_ok-more.more c.in_ok-more.ensures.asks leaves
@@ -157,8 +157,8 @@ returns-clause-listed g c =
     omega (arith, c.loop-place-test.false, c.len-place-end.ensures, c.args.self.now.numbers.ok.0) in
     record {
       kept = ap (λ v. style_kept now v.items) i.numbers ∙ all_kept_after i.counts past i.keeps;
-      holds = subst (λ v. AreHeld (map sized_node) (tiles_in style) (globals_in style) now v.items (trees_in style)) (sym i.numbers) i.counts.holds;
-      right = subst (λ v. AreRightIn (map sized_node) (tiles_in style) (globals_in style) now scene v.items (trees_in style)) (sym i.numbers) i.counts.right;
+      holds = subst (λ v. AreHeld pool_slots (tiles_in style) (globals_in style) now v.items (trees_in style)) (sym i.numbers) i.counts.holds;
+      right = subst (λ v. AreRightIn pool_slots (tiles_in style) (globals_in style) now scene v.items (trees_in style)) (sym i.numbers) i.counts.right;
     }
 
 pub returns-clause-text : goal.returns-clause-text

@@ -1,15 +1,17 @@
-use Rattle.std.proofs.Common.{◌≡◌, ◌<◌, ℕ, length, map, get_or, sym, ap, subst, ◌∙◌, arith}
+use Rattle.std.proofs.Common.{◌≡◌, ◌<◌, ℕ, length, map, get_or, refl, sym, ap, subst, ◌∙◌, arith, vec_len}
 use Rattle.std.specs.Prelude.{◌&&◌, ◌+◌, nat_eq, slice_index_or, false, Option, None, if◌then◌else◌}
 use Rattle.std.specs.Str.{bytes_eq}
 use Rattle.std.proofs.lemmas.List.{length-map}
 use Rattle.decimal_json.specs.Tree.{null}
-use Rattle.expr_nodes.specs.Evaluators.{sized_node}
 use Rattle.layer_buckets.proofs.Places.{and_true}
 use Rattle.layer_buckets.specs.Cells.{reads_state}
 use Rattle.layer_buckets.specs.Seen.{IsSound, kept_at, source_of}
 use Rattle.layer_buckets.specs.declared.cell.Cell.{Cell}
+use Rattle.noted_places.proofs.NotedLaws.{below_get}
+use Rattle.noted_places.specs.Places.{places_in}
 use Rattle.style_layout.specs.CodeView.{layer_seen, layers_seen}
 use Rattle.style_layout.specs.Shown.{layer_features}
+use Rattle.form_pool.specs.PoolSlots.{pool_slots}
 use Rattle.kept_layers.specs.Holding.{HasLayer, IsRight, Pairwise, style_kept}
 use Rattle.kept_layers.specs.KeptLayers.{id_at, is_feature, is_id, is_stale_state, prepared_layer, prepared_layers}
 use Rattle.kept_layers.specs.View.{globals_in, tiles_in, trees_in}
@@ -19,42 +21,87 @@ use Rattle.kept_layers.proofs.NumberedLaws.{still_numbered}
 use Rattle.kept_layers.proofs.OneLayers.{few_at, prepared_at}
 use Rattle.kept_layers.proofs.SceneLaws.{state_means}
 use Rattle.kept_layers.proofs.StateLaws.{not_shown}
-use Rattle.kept_layers.proofs.TurnLaws.{AreTurned, all_turned, layer_turned, passed_by}
+use Rattle.kept_layers.proofs.TurnLaws.{AreTurned, all_turned, layer_turned, none_turned, passed_by}
 use Rattle.kept_layers.specs.declared.kept_layers.KeptLayers.{KeptLayers}
 use Rattle.kept_layers.proofs.kept_layers.KeptLayers.turn_state.Goals as goal
 use Rattle.kept_layers.proofs.kept_layers.KeptLayers.turn_state.Goals.{then-shows, else-shows}
+
+pub loop-index-init : goal.loop-index-init
+loop-index-init c =
+    let s = c.args.style.now in
+    record {
+      numbers = refl;
+      reads = refl;
+      states = refl;
+      sound = c.requires.numbered.sound;
+      turned = none_turned pool_slots (tiles_in s) (globals_in s) c.args.source.now c.args.source_layer.now c.args.id c.args.self.now.cells.buckets
+          c.args.self.now.numbers.items (trees_in s) (places_in c.args.self.now.state_places);
+    }
+
+pub at-place-requires : goal.at-place-requires
+at-place-requires c = subst (λ v. c.loop-index.index < length (places_in v)) (sym c.loop-index.invariant.states)
+    (omega (arith, c.loop-index-test.true, c.len-index-end.ensures))
 
 pub layer-shown-requires : goal.layer-shown-requires
 layer-shown-requires c =
     let s = c.args.style.now in
     let old = c.args.self.now.cells.buckets in
-    let same = pairs_lengths (HasLayer (map sized_node) (tiles_in s) (globals_in s) old) c.args.self.now.numbers.items (trees_in s) c.requires.holds in
+    let ns = c.args.self.now.numbers.items in
+    let ps = places_in c.args.self.now.state_places in
+    let index = c.loop-index.index in
+    let place = c.at-place.result in
+    let placed : place ≡ get_or ps index place = c.at-place.ensures ∙ ap (λ v. get_or (places_in v) index place) c.loop-index.invariant.states in
+    let more : index < length ps = omega (arith, c.loop-index-test.true, c.len-index-end.ensures) in
+    let within : place < length ns = subst (λ p. p < length ns) (sym placed) (below_get (length ns) ps index place more c.requires.numbered.states.within) in
+    let same = pairs_lengths (HasLayer pool_slots (tiles_in s) (globals_in s) old) ns (trees_in s) c.requires.holds in
     let counted = ap length c.requires.prepared.prepared in
-    omega (arith, same, counted, length-map (trees_in s) (prepared_layer (globals_in s)), c.loop-place-test.true, c.len-place-end.ensures)
+    omega (arith, same, counted, length-map (trees_in s) (prepared_layer (globals_in s)), within)
 
 pub drop_features-requires-clause-few : goal.drop_features-requires-clause-few
 drop_features-requires-clause-few c =
     let s = c.args.style.now in
     let old = c.args.self.now.cells.buckets in
-    let place = c.loop-place.place in
-    let same = pairs_lengths (HasLayer (map sized_node) (tiles_in s) (globals_in s) old) c.args.self.now.numbers.items (trees_in s) c.requires.holds in
+    let ns = c.args.self.now.numbers.items in
+    let ps = places_in c.args.self.now.state_places in
+    let index = c.loop-index.index in
+    let place = c.at-place.result in
+    let placed : place ≡ get_or ps index place = c.at-place.ensures ∙ ap (λ v. get_or (places_in v) index place) c.loop-index.invariant.states in
+    let more : index < length ps = omega (arith, c.loop-index-test.true, c.len-index-end.ensures) in
+    let within : place < length ns = subst (λ p. p < length ns) (sym placed) (below_get (length ns) ps index place more c.requires.numbered.states.within) in
+    let same = pairs_lengths (HasLayer pool_slots (tiles_in s) (globals_in s) old) ns (trees_in s) c.requires.holds in
     let found = c.layer-shown.ensures ∙ ap (λ ls. slice_index_or ls place (layer_seen c.layer-shown.result.now)) c.requires.prepared.prepared in
     let counted : place < length (prepared_layers (globals_in s) (trees_in s)) =
-    omega (arith, same, length-map (trees_in s) (prepared_layer (globals_in s)), c.loop-place-test.true, c.len-place-end.ensures) in
+    omega (arith, same, length-map (trees_in s) (prepared_layer (globals_in s)), within) in
     subst (λ l. length (layer_features (tiles_in s) l) < 4294967295) (sym found)
     (few_at (tiles_in s) (prepared_layers (globals_in s) (trees_in s)) place 4294967295 (layer_seen c.layer-shown.result.now) counted c.requires.prepared.few)
 
-pub loop-place-preserved : goal.loop-place-preserved
-loop-place-preserved c =
+pub index-number-requires : goal.index-number-requires
+index-number-requires c =
+    let ns = c.args.self.now.numbers.items in
+    let ps = places_in c.args.self.now.state_places in
+    let index = c.loop-index.index in
+    let place = c.at-place.result in
+    let placed : place ≡ get_or ps index place = c.at-place.ensures ∙ ap (λ v. get_or (places_in v) index place) c.loop-index.invariant.states in
+    let more : index < length ps = omega (arith, c.loop-index-test.true, c.len-index-end.ensures) in
+    let within : place < length ns = subst (λ p. p < length ns) (sym placed) (below_get (length ns) ps index place more c.requires.numbered.states.within) in
+    let same = ap (λ v. vec_len v) c.loop-index.invariant.numbers in
+    omega (arith, within, same, c.args.self.now.numbers.ok.0)
+
+pub loop-index-preserved : goal.loop-index-preserved
+loop-index-preserved c =
     let s = c.args.style.now in
     let old = c.args.self.now.cells.buckets in
-    let now = c.loop-place.self.cells.buckets in
+    let now = c.loop-index.self.cells.buckets in
     let ns = c.args.self.now.numbers.items in
+    let ps = places_in c.args.self.now.state_places in
     let ts = trees_in s in
-    let place = c.loop-place.place in
-    let i = c.loop-place.invariant in
-    let within : place < length ns = omega (arith, c.loop-place-test.true, c.len-place-end.ensures) in
-    let same = pairs_lengths (HasLayer (map sized_node) (tiles_in s) (globals_in s) old) ns ts c.requires.holds in
+    let index = c.loop-index.index in
+    let place = c.at-place.result in
+    let i = c.loop-index.invariant in
+    let placed : place ≡ get_or ps index place = c.at-place.ensures ∙ ap (λ v. get_or (places_in v) index place) i.states in
+    let more : index < length ps = omega (arith, c.loop-index-test.true, c.len-index-end.ensures) in
+    let within : place < length ns = subst (λ p. p < length ns) (sym placed) (below_get (length ns) ps index place more c.requires.numbered.states.within) in
+    let same = pairs_lengths (HasLayer pool_slots (tiles_in s) (globals_in s) old) ns ts c.requires.holds in
     let counted : place < length ts = omega (arith, same, within) in
     let shown = layer_seen c.layer-shown.result.now in
     let is_shown : shown ≡ prepared_layer (globals_in s) (get_or ts place null) = c.layer-shown.ensures
@@ -62,8 +109,9 @@ loop-place-preserved c =
     let Turned : KeptLayers → Type 0 = λ k. record {
       numbers : k.numbers ≡ c.args.self.now.numbers;
       reads : k.reads_globals ≡ c.args.self.now.reads_globals;
+      states : k.state_places ≡ c.args.self.now.state_places;
       sound : IsSound k.cells.buckets;
-      turned : AreTurned (map sized_node) (tiles_in s) (globals_in s) c.args.source.now c.args.source_layer.now c.args.id old ns ts (place + 1) k.cells.buckets;
+      turned : AreTurned pool_slots (tiles_in s) (globals_in s) c.args.source.now c.args.source_layer.now c.args.id old ns ts ps (index + 1) k.cells.buckets;
     } in
     elim c.if-shows.branch [
       | then-shows w ↦
@@ -79,9 +127,11 @@ loop-place-preserved c =
           subst Turned (sym w.self-is) (record {
             numbers = w.drop_features.ensures.numbers ∙ i.numbers;
             reads = w.drop_features.ensures.reads ∙ i.reads;
+            states = w.drop_features.ensures.states ∙ i.states;
             sound = w.drop_features.ensures.sound;
-            turned = layer_turned (map sized_node) (tiles_in s) (globals_in s) c.args.source.now c.args.source_layer.now c.args.id old ns ts place now i.turned within
-                c.requires.numbered.apart c.requires.holds w.drop_features.new.self.cells.buckets shown is_shown both.0 both.1 w.drop_features.ensures.still kept;
+            turned = layer_turned pool_slots (tiles_in s) (globals_in s) c.args.source.now c.args.source_layer.now c.args.id old ns ts ps index now i.turned
+                place more placed within c.requires.numbered.apart c.requires.holds w.drop_features.new.self.cells.buckets shown is_shown both.0 both.1
+                w.drop_features.ensures.still kept;
           })
       | else-shows w ↦
           let none : (o : Option ℕ) → is_feature c.args.source.now c.args.source_layer.now c.args.id (prepared_layer (globals_in s) (get_or ts place null)) o ≡ false =
@@ -90,37 +140,39 @@ loop-place-preserved c =
           subst Turned (sym w.self-is) (record {
             numbers = i.numbers;
             reads = i.reads;
+            states = i.states;
             sound = i.sound;
-            turned = passed_by (map sized_node) (tiles_in s) (globals_in s) c.args.source.now c.args.source_layer.now c.args.id old ns ts place now i.turned within
-                c.requires.numbered.apart c.requires.holds none;
+            turned = passed_by pool_slots (tiles_in s) (globals_in s) c.args.source.now c.args.source_layer.now c.args.id old ns ts ps index now i.turned
+                place more placed within c.requires.numbered.apart c.requires.holds none;
           })
     ]
 
 pub returns-clause-numbered : goal.returns-clause-numbered
 returns-clause-numbered c =
     let old = c.args.self.now.cells.buckets in
-    let now = c.loop-place.self.cells.buckets in
-    let i = c.loop-place.invariant in
-    still_numbered c.args.self.now c.loop-place.self i.numbers i.reads i.sound i.turned.still
+    let now = c.loop-index.self.cells.buckets in
+    let i = c.loop-index.invariant in
+    still_numbered c.args.self.now c.loop-index.self i.numbers i.reads i.states i.sound i.turned.still
     (bare_still old now i.turned.still i.turned.fewer c.requires.numbered.bare) c.requires.numbered
 
 pub returns-clause-drops : goal.returns-clause-drops
 returns-clause-drops c =
     let s = c.args.style.now in
     let old = c.args.self.now.cells.buckets in
-    let now = c.loop-place.self.cells.buckets in
+    let now = c.loop-index.self.cells.buckets in
     let ns = c.args.self.now.numbers.items in
-    let i = c.loop-place.invariant in
+    let i = c.loop-index.invariant in
     let stale = is_stale_state (tiles_in s) (globals_in s) c.args.source.now c.args.source_layer.now c.args.id in
-    let same = pairs_lengths (HasLayer (map sized_node) (tiles_in s) (globals_in s) old) ns (trees_in s) c.requires.holds in
-    let drops = all_turned (map sized_node) (tiles_in s) (globals_in s) c.args.source.now c.args.source_layer.now c.args.id old ns (trees_in s)
-    c.loop-place.place now (omega (arith, c.loop-place-test.false, c.len-place-end.ensures)) same i.turned in
+    let same = pairs_lengths (HasLayer pool_slots (tiles_in s) (globals_in s) old) ns (trees_in s) c.requires.holds in
+    let drops = all_turned pool_slots (tiles_in s) (globals_in s) c.args.source.now c.args.source_layer.now c.args.id old ns (trees_in s) (places_in c.args.self.now.state_places)
+    c.loop-index.index now (omega (arith, c.loop-index-test.false, c.len-index-end.ensures)) same
+    c.requires.numbered.states c.requires.holds i.turned in
     record {
-      kept = ap (λ v. style_kept now v.items) i.numbers ∙ all_kept (map sized_node) (tiles_in s) (globals_in s) old now stale ns (trees_in s) drops;
-      holds = subst (λ v. Pairwise (HasLayer (map sized_node) (tiles_in s) (globals_in s) now) v.items (trees_in s)) (sym i.numbers)
-          (all_still (map sized_node) (tiles_in s) (globals_in s) old now i.turned.still ns (trees_in s) c.requires.holds);
-      right = λ before after turns right. subst (λ v. Pairwise (IsRight (map sized_node) (tiles_in s) (globals_in s) now after) v.items (trees_in s)) (sym i.numbers)
-          (all_right (map sized_node) (tiles_in s) (globals_in s) old now stale before after
+      kept = ap (λ v. style_kept now v.items) i.numbers ∙ all_kept pool_slots (tiles_in s) (globals_in s) old now stale ns (trees_in s) drops;
+      holds = subst (λ v. Pairwise (HasLayer pool_slots (tiles_in s) (globals_in s) now) v.items (trees_in s)) (sym i.numbers)
+          (all_still pool_slots (tiles_in s) (globals_in s) old now i.turned.still ns (trees_in s) c.requires.holds);
+      right = λ before after turns right. subst (λ v. Pairwise (IsRight pool_slots (tiles_in s) (globals_in s) now after) v.items (trees_in s)) (sym i.numbers)
+          (all_right pool_slots (tiles_in s) (globals_in s) old now stale before after
           (λ t cell fresh. state_means c.agreeing_worlds_give_one_meaning.ensures (tiles_in s) (globals_in s) c.args.source.now c.args.source_layer.now c.args.id
           before after turns t cell fresh) ns (trees_in s) drops right);
     }

@@ -1,17 +1,16 @@
-use Rattle.std.proofs.Common.{◌≡◌, ◌<◌, ap, sym, ◌∙◌, length, get_or, map, arith}
-use Rattle.std.specs.Prelude.{insert, remove}
-use Rattle.std.proofs.lemmas.List.{get_or-map, length-map}
-use Rattle.decimal_json.proofs.Edits.{map_insert, map_remove}
-use Rattle.style_layout.specs.CodeView.{layer_seen}
+use Rattle.std.proofs.Common.{◌≡◌, ◌<◌, ap, ◌∙◌, length, map, arith}
+use Rattle.std.specs.Prelude.{insert, remove, slice_index_or}
+use Rattle.std.proofs.lemmas.List.{length-map, with_items_is}
+use Rattle.moved_slices.proofs.MoveLaws.{map_moved}
+use Rattle.style_layout.specs.CodeView.{layer_seen, layers_seen}
 use Rattle.style_layout.proofs.prepared.PreparedStyle.move_layer.Goals as goal
 
 pub returns : goal.returns
 returns c = λ other.
-    let layers = c.args.self.now.layers.items in
-    let layer = c.remove-layer.result in
-    let from = c.args.from in
-    let within : from < length layers = omega (arith, c.requires.from, length-map layers layer_seen) in
-    let left = ap (map layer_seen) c.remove-layer.ensures.items ∙ map_remove layer_seen layers from in
-    let same = ap layer_seen c.remove-layer.ensures.value ∙ sym (get_or-map layer_seen layers from layer other within) in
-    ap (map layer_seen) c.in-Ok.ensures.items ∙ (map_insert layer_seen c.remove-layer.new.self.items c.args.to layer
-    ∙ (ap (λ ls. insert ls c.args.to (layer_seen layer)) left ∙ ap (λ l. insert (remove (map layer_seen layers) from) c.args.to l) same))
+    let style = c.args.self.now in
+    let layers = c.as_mut_slice.result.now in
+    let same : map layer_seen layers ≡ layers_seen style = ap (map layer_seen) c.as_mut_slice.ensures.value in
+    let within : c.args.from < length layers = omega (arith, c.requires.from, length-map layers layer_seen, ap length same) in
+    ap (map layer_seen) (with_items_is style.layers c.move_element.new.items (c.move_element.ensures.len ∙ c.as_mut_slice.ensures.len))
+    ∙ (map_moved layer_seen layers c.move_element.new.items c.args.from c.args.to within c.move_element.ensures.moved other
+    ∙ ap (λ ls. insert (remove ls c.args.from) c.args.to (slice_index_or ls c.args.from other)) same)

@@ -2,7 +2,7 @@ use Rattle.std.proofs.Common.{length, refl, sym, ap}
 use Rattle.std.proofs.lemmas.Option.{slice_get_read}
 use Rattle.expr_nodes.specs.Evaluators.{nodes_in}
 use Rattle.node_pool.proofs.BlockLaws.{slot_within, slot_is}
-use Rattle.node_pool.proofs.pool.PoolCountedEvaluator.nodes.Goals as goal
+use Rattle.node_pool.proofs.pool.Pool.nodes.Goals as goal
 
 pub returns : goal.returns
 returns c =
