@@ -35,7 +35,7 @@ pub struct FormPool {
     ghost bare_is: { bare ≡ no_feature },
 }
 
-/// What a number stands for.
+/// What a number represents.
 #[derive(Drop)]
 enum PooledForm {
     /// The expression of a number of the nodes.
