@@ -12,10 +12,10 @@ use Rattle.asked_cells.specs.Asked.{AskedCell, LayerCell, cell_in}
 use Rattle.kept_layers.specs.Changes.{nothing_kept}
 use Rattle.kept_layers.specs.KeptLayers.{asked_of, evaluations_of, layer_expressions, none_kept, prepared_layer, type_of}
 use Rattle.asked_laws.specs.AskedLaw.{FirstListingsEvaluateAllCells, ListingsAskNoCellTwice, cells_from, layer_cells}
-use Rattle.asked_laws.proofs.Counting.{all_counted, evaluations_are_counted}
-use Rattle.asked_laws.proofs.LayerCells.{AreOthers, layer_pairs}
-use Rattle.asked_laws.proofs.Pairs.{PairsByRecursion, each_append, each_so, pairs_all, pairs_append, pairs_map}
-use Rattle.asked_laws.proofs.RowNumbers.{properties_rise}
+use Rattle.asked_laws.proofs.LayerCells.{all_counted, evaluations_are_counted}
+use Rattle.bare_listing.proofs.LayerCells.{AreOthers, layer_pairs}
+use Rattle.bare_listing.proofs.Pairs.{PairsByRecursion, each_append, each_so, pairs_all, pairs_append, pairs_map}
+use Rattle.bare_listing.proofs.RowNumbers.{properties_rise}
 
 abbrev AreOtherCells : Cell → Cell → Type 0
 AreOtherCells a b = a ≢ b

@@ -250,6 +250,12 @@ module _ (d : Tree) (places : EditPlaces) (sound : IsSoundList (sources_of d) (l
   by_edit edits.stats keys fault = nothing_listed (sources_of d) (layer_list d) sound
   by_edit edits.style keys fault = nothing_listed (sources_of d) (layer_list d) sound
 
+-- where no name occurs twice in any layer
+pub keys_for : (e : Edit) (ts : List Tree) → AreKeyed ts → HasKeysFor e ts
+keys_for (edits.add_layer layer before) ts h = h
+keys_for (edits.move_layer id before) ts h = h
+keys_for _ ts h = tt
+
 -- The findings of a document without findings after an edit without fault.
 pub after_edit : (d : Tree) (e : Edit) (places : EditPlaces) → HasDistinctMembers d → HasKeysFor e (layer_list d) →
     findings d ≡ [] → edit_fault d e ≡ None → places ≡ places_of d e → found_by_edit d places e ≡ findings (edited d e)

@@ -31,11 +31,13 @@ pub fn findings_after(
     requires possible { edit_fault (tree_of document.now) (command_seen command.now) ≡ None }
     ensures { IfOk result (λ found. map finding_seen found ≡ findings (edited (tree_of document.now) (command_seen command.now))) }
 {
+    note_keys(document, command);
     let places = edit_places(document, command);
     findings_at(alloc, document, places, command)
 }
 
-/// As `findings_after`, of an edit whose layers are at these places.
+/// As `findings_after`, of an edit whose layers are at these places. No name occurs twice in a layer, where one is added or
+/// moved: `layers_have_distinct_members` says it of a document.
 pub fn findings_at(
     alloc: Global,
     document: &Json,
@@ -45,10 +47,10 @@ pub fn findings_at(
     requires sound { findings (tree_of document.now) ≡ [] }
     requires possible { edit_fault (tree_of document.now) (command_seen command.now) ≡ None }
     requires places { places ≡ places_of (tree_of document.now) (command_seen command.now) }
+    requires keys { HasKeysFor (command_seen command.now) (layer_list (tree_of document.now)) }
     ensures { IfOk result (λ found. map finding_seen found ≡ findings (edited (tree_of document.now) (command_seen command.now))) }
 {
     documents_have_distinct_members(document);
-    note_keys(document, command);
     found_by_edit(alloc, document, places, command)
 }
 
@@ -81,13 +83,14 @@ fn note_keys(document: &Json, command: &Command)
     ensures { HasKeysFor (command_seen command.now) (layer_list (tree_of document.now)) }
 {
     match command {
-        Command::AddLayer(_, _) => note_each(layer_list(document)),
-        Command::MoveLayer(_, _) => note_each(layer_list(document)),
+        Command::AddLayer(_, _) => layers_have_distinct_members(layer_list(document)),
+        Command::MoveLayer(_, _) => layers_have_distinct_members(layer_list(document)),
         _ => {}
     }
 }
 
-fn note_each(layers: &[Json])
+/// That no name occurs twice in any of these layers. Takes a look at each.
+pub fn layers_have_distinct_members(layers: &[Json])
     ensures { AreKeyed (items_view layers.now) }
 {
     for layer in layers {

@@ -11,8 +11,8 @@
 //! something away, moves a layer or sets a range finds nothing. Takes time linear in what is put, and in the number
 //! of layers where their number or order changes.
 //!
-//! `findings_after` goes through the layers for each id that the edit names. Whoever knows the places of layers calls
-//! `findings_at`, which is its part after `edit_places`.
+//! `findings_after` goes through the layers for each id that the edit names. Whoever knows the places of layers, and that
+//! no name occurs twice in them (`layers_have_distinct_members`), calls `findings_at`: its time is constant for a move.
 //!
 //! The text to believe is that of `style_rules` and `style_edits`.
 #![tactic(auto)]
@@ -21,4 +21,4 @@ mod after;
 mod layers;
 mod parts;
 
-pub use after::{findings_after, findings_at};
+pub use after::{findings_after, findings_at, layers_have_distinct_members};

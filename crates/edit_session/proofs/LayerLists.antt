@@ -15,6 +15,7 @@ use Rattle.style_layout.specs.Layers.{StyleLayer, typed_layer, with_layer, layer
 use Rattle.style_layout.specs.Shown.{SourceTile}
 use Rattle.style_layout.specs.StyleLayout.{layer_cells, cell_count}
 use Rattle.value_forms.specs.LayerTypes.{layer_type}
+use Rattle.edit_findings.specs.FoundAfter.{Each}
 use Rattle.kept_layers.specs.KeptLayers.{prepared_layers}
 use Rattle.kept_layers.specs.View.{AreTyped}
 
@@ -53,6 +54,30 @@ module _ {X : Type 0} (f : Tree → X) (ts : List Tree) where
 
   pub removed_back : (i : ℕ) (was : Tree) → i ≤ length ts → remove (map f (insert ts i was)) i ≡ map f ts
   removed_back i was h = sym (map_remove f (insert ts i was) i) ∙ ap (map f) (remove_inserted ts i was h)
+
+-- ---- what holds of each layer before an edit was taken back
+
+module _ (P : Tree → Type 0) where
+  pub each_unset : (ts : List Tree) (i : ℕ) (was : Tree) → i < length ts → Each P (set ts i was) → P (get_or ts i null) → Each P ts
+  each_unset [] i was within h p = absurd (omega (arith, within))
+  each_unset (t ∷ ts) zero was within h p = (p, h.1)
+  each_unset (t ∷ ts) (suc i) was within h p = (h.0, each_unset ts i was (omega (arith, within)) h.1 p)
+
+  pub each_unremoved : (ts : List Tree) (i : ℕ) → i < length ts → Each P (remove ts i) → P (get_or ts i null) → Each P ts
+  each_unremoved [] i within h p = absurd (omega (arith, within))
+  each_unremoved (t ∷ ts) zero within h p = (p, h)
+  each_unremoved (t ∷ ts) (suc i) within h p = (h.0, each_unremoved ts i (omega (arith, within)) h.1 p)
+
+  pub each_uninserted : (ts : List Tree) (i : ℕ) (t : Tree) → Each P (insert ts i t) → P t × Each P ts
+  each_uninserted [] zero t h = (h.0, tt)
+  each_uninserted [] (suc i) t h = (h.0, tt)
+  each_uninserted (u ∷ ts) zero t h = (h.0, h.1)
+  each_uninserted (u ∷ ts) (suc i) t h = let (own, others) = each_uninserted ts i t h.1 in (own, (h.0, others))
+
+  pub each_unmoved : (ts : List Tree) (from to : ℕ) → to < length ts → Each P (moved_items to from ts) → Each P ts
+  each_unmoved ts from to within h =
+      let (own, others) = each_uninserted (remove ts to) from (get_or ts to null) h in
+      each_unremoved ts to within others own
 
 -- ---- cells
 

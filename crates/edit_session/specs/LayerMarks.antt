@@ -3,6 +3,7 @@ use Rattle.std.specs.Prelude.{◌≡◌, ℕ, List, map, codes, Option, Some, No
 use Rattle.std.specs.Hash.DefaultHasher as hasher
 use Rattle.decimal_json.specs.Accessors.{text_at}
 use Rattle.decimal_json.specs.Tree.{Tree}
+use Rattle.edit_findings.specs.FoundAfter.{AreKeyed}
 use Rattle.edit_session.specs.declared.layer_marks.LayerMarks.{LayerMarks}
 
 -- a mark of an id
@@ -17,5 +18,6 @@ mark_if None = 0
 abbrev pub layer_mark : Tree → ℕ
 layer_mark layer = mark_if (text_at (codes "id") layer)
 
+-- They are the marks of these layers, in none of which a name occurs twice.
 abbrev pub AreMarks : LayerMarks → List Tree → Type 0
-AreMarks marks ts = marks.marks.items ≡ map layer_mark ts
+AreMarks marks ts = (marks.marks.items ≡ map layer_mark ts) × AreKeyed ts

@@ -18,7 +18,8 @@ pub record ArePrepared (tiles : List SourceTile) (globals : List (List ℕ × Da
   pub noted : p.reads_globals ≡ false → items_name_globals (trees_of ts) ≡ false
 
 -- Where these layers have not too many cells, they are what is prepared; else nothing changes.
-pub record Follows (tiles : List SourceTile) (globals : List (List ℕ × Data)) (ts : List Tree) (is_done : Bool) (old new : PreparedLayers) : Type 0 where
+pub record Follows (tiles : List SourceTile) (globals : List (List ℕ × Data)) (ts : List Tree) (is_done : Bool)
+    (old new : PreparedLayers) : Type 0 where
   pub limit : is_done ≡ within_limit old.limit (cell_count tiles (prepared_layers globals ts))
   pub same_limit : new.limit ≡ old.limit
   pub prepared : is_done ≡ true → ArePrepared tiles globals ts new
@@ -26,7 +27,8 @@ pub record Follows (tiles : List SourceTile) (globals : List (List ℕ × Data))
 
 -- One layer more or another: where the layers have not too many cells they are these, with a note whether the new one reads
 -- the global state; else nothing changes.
-pub record Becomes (tiles : List SourceTile) (ls : List StyleLayer) (reads : Bool) (is_done : Bool) (old new : PreparedLayers) : Type 0 where
+pub record Becomes (tiles : List SourceTile) (ls : List StyleLayer) (reads : Bool) (is_done : Bool)
+    (old new : PreparedLayers) : Type 0 where
   pub limit : is_done ≡ within_limit old.limit (cell_count tiles ls)
   pub same_limit : new.limit ≡ old.limit
   pub layers : is_done ≡ true → layers_seen new.style ≡ ls

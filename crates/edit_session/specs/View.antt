@@ -88,7 +88,8 @@ reads_globals document = items_name_globals (layers_of document)
 
 -- a document over tiles that breaks no rule and is within its limit of cells, with its layers, their cells, and whether they read the
 -- global state
-pub record IsWholeDocument (tiles : List SourceTile) (globals : List (List ℕ × Data)) (document : Tree) (layers : PreparedLayers) : Type 0 where
+pub record IsWholeDocument (tiles : List SourceTile) (globals : List (List ℕ × Data)) (document : Tree)
+    (layers : PreparedLayers) : Type 0 where
   pub is_limited : layers.limit ≤ cell_limit
   pub is_accepted : whole_refusal layers.limit tiles globals document ≡ None
   pub is_prepared : layers_seen layers.style ≡ style_layers globals document

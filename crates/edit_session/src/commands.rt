@@ -70,6 +70,7 @@ impl Session<'_> {
         }
     }
 
+    // The answer to `list`.
     fn answer_list<L: Ledger>(
         &mut self,
         images: &dyn HostOp,
@@ -139,7 +140,7 @@ impl Session<'_> {
         Ok(answer)
     }
 
-    // What is known of it before an edit.
+    /// The places and the zoom before a command, for what follows it.
     pub(crate) fn before(&self, command: &Command) -> BeforeEdit
         requires { IsReady self.now }
         ensures places { result.places ≡ places_of (tree_of self.now.document) (command_seen command.now) }
@@ -174,7 +175,7 @@ impl Session<'_> {
         follow_command(self.alloc, &mut self.kept, command, before, &style)
     }
 
-    /// What is kept of each of several views follows it.
+    /// What is kept of each of several views follows a command that was done.
     pub(crate) fn follow_in_all(
         &self,
         views: &mut [View],

@@ -62,6 +62,7 @@ pub(crate) fn reads_globals(document: &Json) -> bool
     items_name_globals(layers_of(document))
 }
 
+/// Whether a text in a tree is `global-state`, at whatever place. A call goes down the tree.
 #[tactic(auto, using(decimal_json::specs::Falls::item_weight, decimal_json::specs::Falls::member_weight))]
 #[cycle(names)]
 pub(crate) fn names_globals(json: &Json) -> bool

@@ -1,6 +1,6 @@
 //! Marks of layers by their ids, by which a layer is found without a look at each.
 
-ghost use Rattle.std.specs.Prelude.{◌≡◌, nat_eq, slice_index_or, true, IfOk, OnOk, option_map};
+ghost use Rattle.std.specs.Prelude.{◌≡◌, [], nat_eq, slice_index_or, true, IfOk, IfSome, OnOk, Some, option_map};
 ghost use Rattle.std.specs.List.{position};
 ghost use Rattle.std.specs.Option.{option_and_then};
 ghost use Rattle.decimal_json.specs.Tree.{null};
@@ -11,20 +11,26 @@ ghost use Rattle.style_edits.specs.Layers.{layer_list};
 ghost use Rattle.style_edits.specs.Places.{layer_place, places_of};
 ghost use Rattle.style_edits.specs.Undone.{IsWithin, undone_layers};
 ghost use Rattle.style_parts.specs.Parts.{is_id_of};
+ghost use Rattle.style_rules.specs.Findings.{findings};
 
+use crate::place_hints::PlaceHints;
 use decimal_json::{Json, Text};
+use edit_findings::layers_have_distinct_members;
 use edit_script::Command;
 use moved_slices::move_element;
 use std::alloc::{AllocError, Global};
 use std::hash::{DefaultHasher, Hasher};
 use style_edits::{EditPlaces, Undo, before_named, id_added, layer_named, layer_place, text_id};
 use style_parts::{is_id_of, layers_of};
+use style_rules::documents_have_distinct_members;
 
 /// A mark of each layer of a document, in their order. Layers of one id have one mark, and most others have others: so
-/// the layer of an id is found by a look at eight bytes of each.
+/// the layer of an id is found by a look at eight bytes of each. Those near to where it was last are looked at first.
+/// That no name occurs twice in a layer goes along, so that a move asks it of none.
 #[derive(Drop)]
 pub struct LayerMarks {
     pub(crate) marks: Vec<u64>,
+    pub(crate) hints: PlaceHints,
 }
 
 impl LayerMarks {
@@ -36,9 +42,10 @@ impl LayerMarks {
         marks_of(alloc, layers_of(document))
     }
 
-    /// The places of the layers that an edit of a document names.
+    /// The places of the layers that an edit of a document without findings names.
     pub(crate) fn places(&self, document: &Json, command: &Command) -> EditPlaces
-        requires { AreMarks self.now (layer_list (tree_of document.now)) }
+        requires marks { AreMarks self.now (layer_list (tree_of document.now)) }
+        requires sound { findings (tree_of document.now) ≡ [] }
         ensures { result ≡ places_of (tree_of document.now) (command_seen command.now) }
     {
         EditPlaces {
@@ -49,7 +56,8 @@ impl LayerMarks {
     }
 
     fn place_if(&self, document: &Json, id: Option<&Text>) -> Option<usize>
-        requires { AreMarks self.now (layer_list (tree_of document.now)) }
+        requires marks { AreMarks self.now (layer_list (tree_of document.now)) }
+        requires sound { findings (tree_of document.now) ≡ [] }
         ensures { result ≡ option_and_then (layer_place (layer_list (tree_of document.now))) (option_map (λ id. id.now) id.entry) }
     {
         match id {
@@ -58,18 +66,29 @@ impl LayerMarks {
         }
     }
 
-    // The place of the first layer that has an id. Where another layer has its mark, each is looked at.
+    // The place of the layer that has an id, of which a document without findings has one at most.
     fn place(&self, document: &Json, id: &str) -> Option<usize>
-        requires { AreMarks self.now (layer_list (tree_of document.now)) }
+        requires marks { AreMarks self.now (layer_list (tree_of document.now)) }
+        requires sound { findings (tree_of document.now) ≡ [] }
         ensures { result ≡ layer_place (layer_list (tree_of document.now)) id.now }
     {
-        match self.first_marked(mark_of(id)) {
-            Some(place) => {
-                if has_id(layers_of(document), place, id) {
-                    return Some(place);
-                }
-                layer_place(document, id)
-            }
+        let mark = mark_of(id);
+        let near = self.hints.place_near(self.marks.as_slice(), mark);
+        match own_place(document, near, id) {
+            Some(place) => Some(place),
+            None => self.place_by_marks(document, id, mark),
+        }
+    }
+
+    // The same by a look at all marks. Where another layer has its mark, each layer is looked at.
+    fn place_by_marks(&self, document: &Json, id: &str, mark: u64) -> Option<usize>
+        requires marks { AreMarks self.now (layer_list (tree_of document.now)) }
+        requires sound { findings (tree_of document.now) ≡ [] }
+        requires mark { mark ≡ mark_of id.now }
+        ensures { result ≡ layer_place (layer_list (tree_of document.now)) id.now }
+    {
+        match self.first_marked(mark) {
+            Some(first) => place_or_first(document, first, id),
             None => None,
         }
     }
@@ -90,13 +109,22 @@ impl LayerMarks {
         match undo {
             Undo::Nothing => Ok(()),
             Undo::Changed(place, _) => {
-                self.marks[*place] = layer_mark(&layers[*place]);
+                let layer = &layers[*place];
+                documents_have_distinct_members(layer);
+                let mark = layer_mark(layer);
+                self.marks[*place] = mark;
+                self.hints.note(mark, *place);
                 Ok(())
             }
             Undo::Added(place) => {
-                let Ok(()) = self.marks.insert(*place, layer_mark(&layers[*place])) else {
+                let layer = &layers[*place];
+                documents_have_distinct_members(layer);
+                let mark = layer_mark(layer);
+                let Ok(()) = self.marks.insert(*place, mark) else {
                     return Err(AllocError);
                 };
+                self.hints.note(mark, *place);
+                self.hints.make_room(self.marks.as_slice())?;
                 Ok(())
             }
             Undo::Removed(place, _) => {
@@ -105,6 +133,7 @@ impl LayerMarks {
             }
             Undo::Moved(from, to) => {
                 move_element(self.marks.as_mut_slice(), *from, *to);
+                self.hints.note(self.marks[*to], *to);
                 Ok(())
             }
         }
@@ -114,11 +143,38 @@ impl LayerMarks {
 fn marks_of(alloc: Global, layers: &[Json]) -> Result<LayerMarks, AllocError>
     ensures { IfOk result (λ made. AreMarks made (items_view layers.now)) }
 {
+    layers_have_distinct_members(layers);
     let mut marks = Vec::new(alloc);
     for layer in layers {
         marks.push(layer_mark(layer))?;
     }
-    Ok(LayerMarks { marks })
+    let mut hints = PlaceHints::new(alloc);
+    hints.make_room(marks.as_slice())?;
+    Ok(LayerMarks { marks, hints })
+}
+
+// The place of the layer that has an id: this one, or where a look at each finds it.
+fn place_or_first(document: &Json, place: usize, id: &str) -> Option<usize>
+    requires { findings (tree_of document.now) ≡ [] }
+    ensures { result ≡ layer_place (layer_list (tree_of document.now)) id.now }
+{
+    match own_place(document, Some(place), id) {
+        Some(place) => Some(place),
+        None => layer_place(document, id),
+    }
+}
+
+// A place, where the layer there has an id.
+fn own_place(document: &Json, place: Option<usize>, id: &str) -> Option<usize>
+    requires { findings (tree_of document.now) ≡ [] }
+    ensures { IfSome result (λ place. Some place ≡ layer_place (layer_list (tree_of document.now)) id.now) }
+{
+    documents_have_distinct_members(document);
+    let place = place?;
+    if has_id(layers_of(document), place, id) {
+        return Some(place);
+    }
+    None
 }
 
 // Whether the layer at a place has an id.

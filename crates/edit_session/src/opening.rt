@@ -1,4 +1,4 @@
-//! Why a session cannot be opened.
+//! What a session over a style begins with, or why it cannot be opened.
 
 ghost use Rattle.std.specs.Prelude.{◌≡◌, ◌≤◌, ℕ, ◌-◌, ◌^◌, [], map, min, option_map, true, IfOk};
 ghost use Rattle.std.specs.Result.{result_err};
@@ -79,6 +79,7 @@ pub(crate) fn open_layers<'a>(
     Ok(Ok(OpenedLayers { globals, layers }))
 }
 
+/// The source of the first tile whose source is none of the style's.
 pub(crate) fn first_unknown<'a>(style: &Json, tiles: &[SourceTile<'a>]) -> Option<&'a str>
     ensures { option_map (λ source. source.now) result ≡ first_failing (has_source (tree_of style.now)) (map tile_seen tiles.now) }
 {
@@ -90,6 +91,7 @@ pub(crate) fn first_unknown<'a>(style: &Json, tiles: &[SourceTile<'a>]) -> Optio
     None
 }
 
+/// The source of the first tile whose source is not of type `vector`.
 pub(crate) fn first_of_no_vector<'a>(style: &Json, tiles: &[SourceTile<'a>]) -> Option<&'a str>
     ensures { option_map (λ source. source.now) result ≡ first_failing (is_vector (tree_of style.now)) (map tile_seen tiles.now) }
 {

@@ -75,35 +75,15 @@ impl<'a> Session<'a> {
             → IfOk result (λ made. IfOk made (λ session. IsSoundSession session has_image scripts)) }
         ensures memory { IfOk result (λ made. IfOk made (λ session. lacks_memory session ≡ false)) }
     {
-        Session::open_with(alloc, style, tiles, zoom, CELL_LIMIT)
-    }
-
-    /// As `open`, where the style may have so many cells, which are no more than those of a session that is alone.
-    pub fn open_with(
-        alloc: Global,
-        style: Json,
-        tiles: Vec<SourceTile<'a>>,
-        zoom: Fixed,
-        limit: u64,
-    ) -> Result<Result<Session<'a>, OpenFault<'a>>, AllocError>
-        requires { limit ≤ cell_limit }
-        ensures fault { IfOk result (λ made. option_map fault_seen (result_err made)
-            ≡ open_fault limit (tree_of style) (map tile_seen tiles.entry.items) zoom) }
-        ensures opened { IfOk result (λ made. IfOk made (λ session. (has_image : List ℕ → Bool)
-            → session_state session has_image ≡ opened limit (tree_of style) zoom has_image)) }
-        ensures tiles { IfOk result (λ made. IfOk made (λ session. tiles_of session ≡ map tile_seen tiles.entry.items)) }
-        ensures sound { (has_image scripts : List ℕ → Bool)
-            → IfOk result (λ made. IfOk made (λ session. IsSoundSession session has_image scripts)) }
-        ensures memory { IfOk result (λ made. IfOk made (λ session. lacks_memory session ≡ false)) }
-    {
         let found = findings(alloc, &style)?;
         if !found.as_slice().is_empty() {
             return Ok(Err(OpenFault::Findings));
         }
-        Session::open_sound(alloc, style, tiles, zoom, limit)
+        Session::open_sound(alloc, style, tiles, zoom, CELL_LIMIT)
     }
 
-    /// As `open_with`, over a style without findings, whose rules are not asked again.
+    /// As `open`, over a style without findings, whose rules are not asked again. It may have so many cells, which are no
+    /// more than those of a session that is alone.
     pub fn open_sound(
         alloc: Global,
         style: Json,
@@ -171,8 +151,8 @@ impl<'a> Session<'a> {
     }
 
     /// Does what a command says, and answers. A refused command changes nothing, and neither do `stats` and `style`. A
-    /// listing evaluates the cells that it asks and that are not kept, and keeps them. Once allocation fails every
-    /// later call answers so too.
+    /// listing evaluates the cells that it asks and that are not kept, and keeps them; `steps` rises by no other command.
+    /// Once allocation fails every later call answers so too.
     pub fn apply<L: Ledger>(
         &mut self,
         command: &Command,
@@ -206,8 +186,8 @@ impl<'a> Session<'a> {
         answer
     }
 
-    /// The listing of a session that ends with it: what `apply` answers to `list`, with no more cells in memory at once
-    /// than those of one layer.
+    /// The listing of a session that ends with it: what `apply` answers to `list`. A session that kept no cell keeps
+    /// none for it. Fails where an allocation does, or did in an earlier call.
     pub fn into_listing<L: Ledger>(
         self,
         images: &dyn HostOp,
@@ -251,7 +231,8 @@ impl<'a> Session<'a> {
 
     // ---- several views
 
-    /// Opens a view of the style, at a zoom, in which no feature has a state, and of which nothing is kept.
+    /// Opens a view of the style, at a zoom, in which no feature has a state, and of which nothing is kept. Whether the zoom
+    /// is from 0 to 24 is not looked at. Takes time and memory linear in the style.
     pub fn open_view(&self, name: Text, zoom: Fixed) -> Result<View, AllocError>
         requires { IsUsable self.now }
         ensures view { (has_image : List ℕ → Bool) → IfOk result (λ view. view_seen view
@@ -281,7 +262,8 @@ impl<'a> Session<'a> {
         })
     }
 
-    /// As `apply`, with what is of a view in the place of the session's own, which stays. The command is one of a view.
+    /// As `apply`, with what is of a view in the place of the session's own, which stays. The command is one of a view. What is
+    /// exchanged takes constant time.
     pub fn apply_in<L: Ledger>(
         &mut self,
         view: &mut View,
@@ -300,6 +282,9 @@ impl<'a> Session<'a> {
         ensures name { view.new.name ≡ view.old.name }
         ensures tiles { tiles_of self.new ≡ tiles_of self.old }
         ensures changes { changes images.new ≡ changes images.old }
+        ensures count { lacks_memory self.old ≡ false → tell_count images.new
+            ≡ tell_count_after (changes images.old) (command_seen command.now) (tell_count images.old) }
+        ensures silent { lacks_memory self.old ≡ true → tell_count images.new ≡ tell_count images.old }
         ensures lent { OnErr result (IsSameTest (test images.old) (test images.new)) }
         ensures sound { IsSoundSession self.new (test images.new) (test scripts.now) }
         ensures sound_view { IsSoundView self.new (test images.new) (test scripts.now) view.new }
@@ -327,7 +312,8 @@ impl<'a> Session<'a> {
         mem::swap(&mut self.last, &mut view.last);
     }
 
-    /// As `apply`, of a command of the style, which is done in each of these views of it. It is checked and refused once.
+    /// As `apply`, of a command of the style, which is done in each of these views of it. It is checked and refused once, and
+    /// what is kept of each view follows it. No step is counted.
     pub fn apply_to_all<L: Ledger>(
         &mut self,
         views: &mut [View],
@@ -347,6 +333,9 @@ impl<'a> Session<'a> {
             (map view_seen views.old)) }
         ensures tiles { tiles_of self.new ≡ tiles_of self.old }
         ensures changes { changes images.new ≡ changes images.old }
+        ensures count { lacks_memory self.old ≡ false → tell_count images.new
+            ≡ tell_count_after (changes images.old) (command_seen command.now) (tell_count images.old) }
+        ensures silent { lacks_memory self.old ≡ true → tell_count images.new ≡ tell_count images.old }
         ensures lent { OnErr result (IsSameTest (test images.old) (test images.new)) }
         ensures sound { IsSoundSession self.new (test images.new) (test scripts.now) }
         ensures sound_views { AreSoundViews self.new (test images.new) (test scripts.now) views.new }

@@ -1,4 +1,4 @@
-//! By what a view shows the style of a session.
+//! What is of one view of a session's style.
 
 ghost use Rattle.std.specs.Prelude.{◌≡◌};
 
@@ -7,8 +7,8 @@ use feature_states::States;
 use kept_layers::KeptLayers;
 use style_layout::Zoom;
 
-/// One of several views of the style of a session, by its name: the zoom and the states of features by which it is
-/// shown, and the cells of its layers that are kept. `Session::open_view` makes one.
+/// One of several views of the style of a session: its name, the zoom and the states of features by which it is shown, the
+/// cells of its layers that are kept, and the number of its last listing. `Session::open_view` makes one.
 #[derive(Drop)]
 pub struct View {
     pub(crate) name: Text,
@@ -20,6 +20,7 @@ pub struct View {
 }
 
 impl View {
+    /// The name by which it was opened.
     pub fn name(&self) -> &str
         ensures { result.now ≡ self.now.name }
     {

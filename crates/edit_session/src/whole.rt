@@ -3,6 +3,7 @@
 ghost use Rattle.std.specs.Prelude.{◌≡◌, [], None, IfOk};
 ghost use Rattle.decimal_json.specs.View.{tree_of};
 ghost use Rattle.edit_script.specs.View.{command_seen};
+ghost use Rattle.edit_findings.specs.FoundAfter.{AreKeyed};
 ghost use Rattle.edit_session.specs.Applied.{first_finding};
 ghost use Rattle.kept_layers.specs.View.{AreTyped};
 ghost use Rattle.style_edits.specs.Edited.{edited};
@@ -21,7 +22,7 @@ use style_edits::EditPlaces;
 use style_rules::documents_have_distinct_members;
 
 /// The refusal of an edit of a document without findings, where the edited document breaks a rule.
-#[tactic(auto, using(crate::proofs::AppliedLaws::first_refused))]
+#[tactic(auto, using(crate::proofs::AppliedLaws::first_refused, edit_findings::proofs::AfterLaws::keys_for))]
 pub(crate) fn finding_refusal(
     alloc: Global,
     document: &Json,
@@ -31,6 +32,7 @@ pub(crate) fn finding_refusal(
     requires sound { findings (tree_of document.now) ≡ [] }
     requires possible { edit_fault (tree_of document.now) (command_seen command.now) ≡ None }
     requires places { places ≡ places_of (tree_of document.now) (command_seen command.now) }
+    requires keyed { AreKeyed (layer_list (tree_of document.now)) }
     ensures { IfOk result (λ refusal. refusal ≡ first_finding (findings (edited (tree_of document.now) (command_seen command.now)))) }
 {
     match findings_at(alloc, document, places, command)?.into_first() {

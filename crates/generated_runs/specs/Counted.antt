@@ -21,8 +21,10 @@ abbrev pub counted_after : (features lines bytes : ℕ) → Run → Run
 counted_after features lines bytes (ends made) = ends (counted_outcome features lines bytes made)
 counted_after features lines bytes (says text next) = counted_after features (lines + line_count text) (bytes + length text) next
 counted_after features lines bytes (counts least most next) = counts least most (counted_after features lines bytes next)
-counted_after features lines bytes (reads longer name limit after) = reads longer name limit (λ content. counted_after features lines bytes (after content))
-counted_after features lines bytes (may_read name limit after) = may_read name limit (λ content. counted_after features lines bytes (after content))
+counted_after features lines bytes (reads longer name limit after) =
+    reads longer name limit (λ content. counted_after features lines bytes (after content))
+counted_after features lines bytes (may_read name limit after) =
+    may_read name limit (λ content. counted_after features lines bytes (after content))
 counted_after features lines bytes (parses what text after) = parses what text (λ t. counted_after features lines bytes (after t))
 counted_after features lines bytes (may_parse text after) = may_parse text (λ t. counted_after features lines bytes (after t))
 counted_after features lines bytes (explains text after) = explains text (λ parsed. counted_after features lines bytes (after parsed))

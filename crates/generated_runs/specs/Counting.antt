@@ -10,7 +10,8 @@ use Rattle.generated_runs.specs.Counted.{counted_after}
 use Rattle.generated_runs.specs.declared.counting.Counting.{Counting}
 
 -- the run of the lines that are left, over so many features, with the counts of those before
-abbrev pub lines_left : (features : ℕ) (scripts : List ℕ → Bool) (can_change : Bool) (has_image : List ℕ → Bool) → Session → Counting → List (List ℕ) → Run
+abbrev pub lines_left : (features : ℕ) (scripts : List ℕ → Bool) (can_change : Bool) (has_image : List ℕ → Bool)
+    → Session → Counting → List (List ℕ) → Run
 lines_left features scripts can_change has_image session counting lines =
     counted_after features counting.lines counting.bytes
     (lines_run (tiles_of session) scripts can_change counting.number (session_state session has_image) counting.any lines)

@@ -126,7 +126,8 @@ impl Counting {
         ensures on { (features : ℕ) (rest : List (List ℕ)) → OnOk result (EndsAs steps.old steps.new
             (lines_left features (test scripts.now) (changes images.old) (test images.old) session.old self.old (line.now ∷ rest))
             (lines_left features (test scripts.now) (changes images.old) (test images.new) session.new self.new rest)) }
-        ensures due { (features : ℕ) (rest : List (List ℕ)) (files : List ℕ → Option (List ℕ)) (asked : List (List ℕ)) → OnErr result (StepsAreDue files
+        ensures due { (features : ℕ) (rest : List (List ℕ)) (files : List ℕ → Option (List ℕ)) (asked : List (List ℕ))
+            → OnErr result (StepsAreDue files
             (lines_left features (test scripts.now) (changes images.old) (test images.old) session.old self.old (line.now ∷ rest))
             asked asked steps.old steps.new) }
     {
@@ -144,7 +145,8 @@ impl Counting {
 
     // The line of counts, in the place of what was answered.
     fn finish(&self, features: u32) -> Result<RunOutput, AllocError>
-        ensures { IfOk result (λ answer. outcome_of answer ≡ said (counts_line features self.now.lines self.now.bytes) (ending_by self.now.any)) }
+        ensures { IfOk result (λ answer. outcome_of answer
+            ≡ said (counts_line features self.now.lines self.now.bytes) (ending_by self.now.any)) }
     {
         let mut out = Vec::new(self.alloc);
         write_count(b"features ", features as u128, &mut out)?;

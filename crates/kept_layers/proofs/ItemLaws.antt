@@ -288,23 +288,6 @@ module _ (globals : List (List ℕ × Data)) (place : Place) (name : List ℕ) (
     all Filter = filter_stays
     all (Property n) = property_stays n (λ row is. no_row (n, row) (sym none ∙ is))
 
--- ---- as the edits say it
-
-module _ (globals : List (List ℕ × Data)) (name : List ℕ) (value t : Tree) where
-  pub paint_item : (r : ℕ × RowData) → row_of (type_of t) Paint name ≡ Some r
-      → ChangesItem globals (Property r.0) t (with_property (codes "paint") name value t)
-  paint_item = property_item globals Paint name value t
-
-  pub paint_of_none : row_of (type_of t) Paint name ≡ None → ChangesNoItem globals t (with_property (codes "paint") name value t)
-  paint_of_none = property_of_none globals Paint name value t
-
-  pub layout_item : (r : ℕ × RowData) → row_of (type_of t) Layout name ≡ Some r
-      → ChangesItem globals (Property r.0) t (with_property (codes "layout") name value t)
-  layout_item = property_item globals Layout name value t
-
-  pub layout_of_none : row_of (type_of t) Layout name ≡ None → ChangesNoItem globals t (with_property (codes "layout") name value t)
-  layout_of_none = property_of_none globals Layout name value t
-
 -- ---- the filter
 
 module _ (globals : List (List ℕ × Data)) (filter t : Tree) where

@@ -1,8 +1,7 @@
 -- One layer after another is asked and listed.
-use Rattle.std.proofs.Common.{◌≡◌, ℕ, suc, ◌+◌, ◌<◌, ◌≤◌, List, [], ◌∷◌, ◌++◌, length, map, take, drop, get_or, Bool, true, false, ◌||◌, nat_eq, Option, Some, None, is_some, Result, Ok, Err, refl, sym, ap, ◌∙◌, subst, arith, if◌then◌else◌}
+use Rattle.std.proofs.Common.{◌≡◌, ℕ, suc, ◌+◌, ◌<◌, ◌≤◌, List, [], ◌∷◌, ◌++◌, length, map, take, drop, get_or, Bool, true, false, ◌||◌, Option, Some, None, is_some, Result, Ok, Err, refl, sym, ap, ◌∙◌, subst, arith, if◌then◌else◌}
 use Rattle.std.specs.Prelude.{IfOk, flat_map, slice_set}
 use Rattle.std.specs.Result.{IsErr}
-use Rattle.std.proofs.lemmas.Bool.{ne_eqb}
 use Rattle.std.proofs.lemmas.Option.{slice_get_within}
 use Rattle.std.proofs.lemmas.List.{append_assoc, append-nil, drop_all, drop_more, get_or-map, length-map, set-get_or}
 use Rattle.decimal_json.specs.Tree.{Tree, null}
@@ -29,13 +28,17 @@ use Rattle.cell_sources.specs.CellLaws.{AreReadBy, FiltersAreDecided, Properties
 use Rattle.cell_sources.specs.Sourced.{IsLonger}
 use Rattle.cell_sources.proofs.SourcedLaws.{longer_itself}
 use Rattle.cell_listing.specs.Listable.{AllReadAsListed, IsListable, ReadsAsListed}
-use Rattle.kept_layers.proofs.DropLaws.{held_still}
-use Rattle.kept_layers.proofs.HoldingLaws.{Leaves, bare_left, kept_left, nat_itself, no_value, none_is_not, right_left, there_all}
+use Rattle.bare_listing.specs.BareListing.{EvaluatesCells, EvaluatesLayer, IsBareListable}
+use Rattle.bare_listing.proofs.Counting.{bare_evaluations, bare_nodes}
+use Rattle.bare_listing.proofs.LayerCells.{AreOthers, layer_pairs}
+use Rattle.bare_listing.proofs.Pairs.{PairsByRecursion}
+use Rattle.bare_listing.proofs.RowNumbers.{properties_rise}
+use Rattle.kept_layers.proofs.HoldingLaws.{Leaves, bare_left, kept_left, none_is_not, right_left}
 use Rattle.kept_layers.proofs.Lists.{map_at, pairs_at, pairs_change, pairs_lengths, pairs_same}
 use Rattle.kept_layers.proofs.OneLayers.{few_at, prepared_at}
 use Rattle.kept_layers.proofs.Stepping.{of_end, of_next, sum_end, sum_next}
 use Rattle.kept_layers.specs.Changes.{Counts, IsCounted}
-use Rattle.kept_layers.specs.Holding.{AbsentAreBare, AreApart, AreHeld, AreRightIn, AreThere, HasLayer, IsRight, Still, kept_of, style_kept}
+use Rattle.kept_layers.specs.Holding.{AbsentAreBare, AreApart, AreHeld, AreRightIn, HasLayer, IsRight, kept_of, style_kept}
 use Rattle.kept_layers.specs.KeptLayers.{LayerKept, StyleKept, asked_of, evaluations_in, evaluations_of, kept_after, kept_with, layer_expressions, none_kept, nodes_in, nodes_of, prepared_layer, prepared_layers, sum_of_each, type_of}
 use Rattle.kept_layers.specs.LayerListing.{IsKeptLayer}
 
@@ -88,12 +91,18 @@ module _ {E : Type 0} (slots : E → List Sized) (n : ℕ) (old new : Buckets E)
     layer_right right = right_after (meaning scene tiles (prepared_layer globals t) (layer_expressions globals t)) (asked_of scene tiles globals t)
         (kept_in old n) (kept_in new n) have.kept right
 
+-- the same buckets
+pub leaves_same : {E : Type 0} (n : ℕ) (old new : Buckets E) → new ≡ old → LeavesSources n old new
+leaves_same n old new same = record {
+  evaluator = ap evaluator_of same;
+  source = λ l item. ap (λ b. source_of b l item) same;
+  features = λ l. ap (λ b. features_of b l) same;
+  kept = λ cell other. ap (λ b. kept_at b cell) same;
+}
+
 -- ---- a layer that is there stays so
 
 module _ {E : Type 0} (n : ℕ) (old new : Buckets E) (leaves : LeavesSources n old new) where
-  pub asked_there : (ns : List ℕ) → AreThere old ns → AreThere new ns
-  asked_there ns there = there_all old new leaves.features ns there
-
   pub asked_bare : (slots : E → List Sized) → is_some (features_of old n) ≡ true → AbsentAreBare old → AbsentAreBare new
   asked_bare slots there bare = bare_left slots n old new (asked_leaves slots n old new leaves) bare
       (λ none. absurd (none_is_not (features_of new n) none (ap is_some (leaves.features n) ∙ there)))
@@ -128,23 +137,6 @@ listable_after slots n old new scene tiles globals t number before after decided
   kept = asked_kept (meaning scene tiles (prepared_layer globals t) (layer_expressions globals t)) (asked_of scene tiles globals t)
       (kept_in old n) (kept_in new n) number before after have;
 }
-
--- ---- the cells of a layer are dropped
-
-module _ {E : Type 0} (slots : E → List Sized) (n : ℕ) (a b : Buckets E) where
-  module _ (still : Still a b) (drops : (cell : Cell) → kept_at b cell ≡ (if nat_eq n cell.layer then None else kept_at a cell)) where
-    pub dropped_leaves : (old : Buckets E) → Leaves slots n old a → Leaves slots n old b
-    dropped_leaves old left = record {
-      features = λ l other. still.features l ∙ left.features l other;
-      source = λ l item other. still.source l item ∙ left.source l item other;
-      kept = λ l c other. drops (cell_in l c) ∙ (ap (λ t. if t then None else kept_in a l c) (ne_eqb n l other) ∙ left.kept l c other);
-      longer = subst (λ ev. IsLonger (slots (evaluator_of old)) (slots ev)) (sym still.evaluator) left.longer;
-    }
-
-  pub dropped_right : ((cell : Cell) → kept_at b cell ≡ (if nat_eq n cell.layer then None else kept_at a cell))
-      → (scene : Scene) (tiles : List SourceTile) (globals : List (List ℕ × Data)) (t : Tree) → IsRight slots tiles globals b scene n t
-  dropped_right drops scene tiles globals t c value is =
-      absurd (no_value value (sym (drops (cell_in n c) ∙ ap (λ y. if y then None else kept_in a n c) (nat_itself n)) ∙ is))
 
 -- ---- sums
 
@@ -333,7 +325,7 @@ module _ {E : Type 0} {slots : E → List Sized} {scene : Scene} {tiles : List S
       subst (λ ls. k < length ls) (sym prepared) (subst (λ m. k < m) (sym (length-map ts (prepared_layer globals))) within_trees)
 
   module _ (layer : StyleLayer) (found : layer ≡ prepared_layer globals (get_or ts k null)) where
-    this_few : cell_count tiles (prepared_layers globals ts) < 4294967295 → length (layer_features tiles layer) < 4294967296
+    pub this_few : cell_count tiles (prepared_layers globals ts) < 4294967295 → length (layer_features tiles layer) < 4294967296
     this_few few = one_more (length (layer_features tiles layer))
         (subst (λ l. length (layer_features tiles l) < 4294967295) (get_or-map (prepared_layer globals) ts k null layer within_trees ∙ sym found)
         (few_at tiles (prepared_layers globals ts) k 4294967295 layer within_prepared few)) where
@@ -349,6 +341,70 @@ module _ {E : Type 0} {slots : E → List Sized} {scene : Scene} {tiles : List S
       right = this_right;
       few = this_few few;
     }
+
+    pub this_listable : FiltersAreDecided → PropertiesAreGiven → PropertiesAreReadByExpressions → IsBareListable slots x scene layer old
+    this_listable law given read = subst (λ l. IsBareListable slots x scene l old) (sym found) (record {
+      expressions = layer_expressions globals this;
+      sourced = this_held.sources;
+      decided = decided_of law scene globals this;
+      given = given globals (type_of this) this;
+      reads = all_read_as_listed (layer_expressions globals this) (prepared_layer globals this).properties (read globals (type_of this) this);
+    })
+
+    -- It is listed, and none of its cells is kept.
+    module _ (none : (cell : Cell) → kept_at old cell ≡ None) (after : ℕ) where
+      none_of : (c : LayerCell) → kept_of old x c ≡ false
+      none_of c = ap is_some (none (cell_in x c))
+
+      apart_cells : PairsByRecursion AreOthers asked
+      apart_cells = layer_pairs (layer_expressions globals this) scene (prepared_layer globals this)
+          (properties_rise globals (type_of this) this) tiles
+
+      evaluates_this : {X : Type 0} (result : Result ℕ X) → EvaluatesLayer slots x scene tiles layer old result mid after
+          → EvaluatesCells asked result mid after
+      evaluates_this result evaluates = subst (λ l. EvaluatesLayer slots x scene tiles l old result mid after) found evaluates
+          (layer_expressions globals this) this_held.sources
+
+      left_sum : (amount : Tree → LayerKept → ℕ)
+          → amount this (kept_of old x) + sum_of_each amount (drop (k + 1) ts) (drop (k + 1) (style_kept old ns))
+          ≡ sum_of_each amount (drop k ts) (drop k (style_kept old ns))
+      left_sum amount =
+          ap (λ kept. amount this kept + sum_of_each amount (drop (k + 1) ts) (drop (k + 1) (style_kept old ns))) (sym this_kept)
+          ∙ sym (ap (λ us. sum_of_each amount us (drop k (style_kept old ns))) (drop_more ts k null within_trees)
+          ∙ ap (λ ks. sum_of_each amount (this ∷ drop (k + 1) ts) ks) (drop_more (style_kept old ns) k none_kept within_kept))
+
+      bare_most : {X : Type 0} (result : Result ℕ X) → EvaluatesLayer slots x scene tiles layer old result mid after
+          → after ≤ mid + nodes_in scene tiles globals this (kept_of old x)
+      bare_most result evaluates = subst (λ m. after ≤ mid + m) (sym (bare_nodes (kept_of old x) none_of asked apart_cells))
+          (evaluates_this result evaluates).most
+
+      -- An allocation fails.
+      pub bare_stops : {X : Type 0} (result : Result ℕ X) → EvaluatesLayer slots x scene tiles layer old result mid after
+          → after ≤ before + nodes_of scene tiles globals ts first
+      bare_stops result evaluates =
+          let rest = sum_of_each (nodes_in scene tiles globals) (drop (k + 1) ts) (drop (k + 1) (style_kept old ns)) in
+          let total = nodes_of scene tiles globals ts first in
+          no_more after rest (before + total)
+          (sum_stays (nodes_in scene tiles globals this (kept_of old x)) rest (nodes_of scene tiles globals (drop k ts) (drop k (style_kept old ns)))
+          mid after before total (left_sum (nodes_in scene tiles globals)) (bare_most result evaluates) counts.most)
+
+      pub bare_counts : {X : Type 0} (m : ℕ) → EvaluatesLayer {X = X} slots x scene tiles layer old (Ok m) mid after
+          → (both : ℕ) → both ≡ n + m → CountsFirst slots scene tiles globals ns ts first (k + 1) old both before after
+      bare_counts m evaluates both sum = record {
+        counted = sum_counts n m both (evaluations_in scene tiles globals this (kept_of old x))
+            (evaluations_of scene tiles globals (drop (k + 1) ts) (drop (k + 1) (style_kept old ns)))
+            (evaluations_of scene tiles globals (drop k ts) (drop k (style_kept old ns)))
+            (evaluations_of scene tiles globals ts first) sum
+            ((evaluates_this (Ok m) evaluates).number ∙ sym (bare_evaluations (kept_of old x) none_of asked apart_cells))
+            (left_sum (evaluations_in scene tiles globals)) counts.counted;
+        least = sum_takes n m both before mid after sum counts.least (evaluates_this (Ok m) evaluates).least;
+        most = sum_stays (nodes_in scene tiles globals this (kept_of old x))
+            (nodes_of scene tiles globals (drop (k + 1) ts) (drop (k + 1) (style_kept old ns)))
+            (nodes_of scene tiles globals (drop k ts) (drop k (style_kept old ns)))
+            mid after before (nodes_of scene tiles globals ts first) (left_sum (nodes_in scene tiles globals)) (bare_most (Ok m) evaluates) counts.most;
+        holds = counts.holds;
+        right = counts.right;
+      }
 
     module _ (law : FiltersAreDecided) (asked_new : Buckets E) (after : ℕ) where
       asks_this : {X : Type 0} (result : Result ℕ X) → AsksLayer slots x scene tiles layer old asked_new result mid after
@@ -437,13 +493,6 @@ module _ {E : Type 0} {slots : E → List Sized} {scene : Scene} {tiles : List S
               ≡ kept_after scene tiles globals ts first) (suc_more k)
               (ap (λ ks. take (suc k) ks ++ kept_after scene tiles globals (drop (suc k) ts) (drop (suc k) ks)) asked_kept_now
               ∙ (of_next (kept_with scene tiles globals) null none_kept k ts (style_kept old ns) within_kept same ∙ keeps))
-
-          -- Its cells are dropped.
-          pub dropped_counts : (new : Buckets E) → Still asked_new new → ((cell : Cell) → kept_at new cell ≡ (if nat_eq x cell.layer then None else kept_at asked_new cell))
-              → (both : ℕ) → both ≡ n + m → CountsFirst slots scene tiles globals ns ts first (k + 1) new both before after
-          dropped_counts new still drops = next_counts new (dropped_leaves slots x asked_new new still drops old (asked_leaves slots x old asked_new leaves))
-              (λ l t held. held_still slots tiles globals asked_new new still l t (asked_held slots x old asked_new leaves tiles globals l t held))
-              (dropped_right slots x asked_new new drops scene tiles globals this)
 
 -- ---- lines of layers
 

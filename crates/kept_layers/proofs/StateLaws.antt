@@ -84,10 +84,6 @@ pub left_none : (here reads : Bool) (o : Option Evaluated) → left_by here fals
 left_none true reads o = refl
 left_none false reads o = refl
 
--- a feature with another id is passed over
-pub passed_over : (id : ℕ) (nf : ℕ × Feature) (nfs : List (ℕ × Feature)) (f : Option ℕ) → is_id id nf.1.id ≡ false → hits id (nf ∷ nfs) f ≡ hits id nfs f
-passed_over id nf nfs f e = ap (λ b. (b && feature_eq (Some nf.0) f) || hits id nfs f) e
-
 pub hit_first : (id : ℕ) (nf : ℕ × Feature) (nfs : List (ℕ × Feature)) (f : Option ℕ) → is_id id nf.1.id ≡ true
     → hits id (nf ∷ nfs) f ≡ (feature_eq (Some nf.0) f || hits id nfs f)
 hit_first id nf nfs f e = ap (λ b. (b && feature_eq (Some nf.0) f) || hits id nfs f) e

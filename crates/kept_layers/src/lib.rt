@@ -25,11 +25,11 @@
 //!   The cells of an edited property or filter go, and no others; a range of zooms changes nothing. An edit that concerns
 //!   no layers, as of the zoom or of a state, is followed by nothing, since each has a call above.
 //! - What is kept is what the cells mean in the scene that is shown (`IsRightIn`), before each call, and after each but
-//!   `list_last`.
+//!   `list_last`. Where an allocation fails, nothing is said of what is kept, and no further call is made.
 //!
 //! Layers have numbers in the buckets (`layer_buckets`) that stay theirs while they move; a number is used again once
 //! its layer is gone. Expressions of items that were edited stay in the pool of nodes until the view goes. `list_last`
-//! drops the cells of each layer once its lines are written. `turn_globals` takes constant time as long as no
+//! keeps no cell where none was kept before (`bare_listing`). `turn_globals` takes constant time as long as no
 //! expression has used the global state. `turn_state` looks only at the layers of which an expression reads a state,
 //! however many others there are.
 //!

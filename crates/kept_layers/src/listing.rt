@@ -1,7 +1,8 @@
-//! The listing of a style, by what is kept of its cells.
+//! The listing of a style: by what is kept of its cells, and without keeping any.
 
-ghost use Rattle.std.specs.Prelude.{◌≡◌, ◌++◌, flat_map, map, OnOk};
-ghost use Rattle.layer_buckets.specs.Seen.{IsSound};
+ghost use Rattle.std.specs.Prelude.{◌≡◌, ◌++◌, None, flat_map, map, OnOk};
+ghost use Rattle.layer_buckets.specs.Seen.{IsSound, kept_at};
+ghost use Rattle.layer_buckets.specs.declared.cell.Cell.{Cell};
 ghost use Rattle.listing_text.specs.Listing.{layer_lines, listing};
 ghost use Rattle.style_layout.specs.CodeView.{layers_seen, scene_seen, tile_seen};
 ghost use Rattle.style_layout.specs.StyleLayout.{layer_out, layers_layout};
@@ -14,11 +15,11 @@ ghost use Rattle.kept_layers.specs.View.{AreNumbered, HoldsLayers, IsPrepared, I
 use crate::kept_layers::KeptLayers;
 use crate::style_layers::StyleLayers;
 use asked_cells::{LayerAt, sum_of};
+use bare_listing::write_bare_layer;
 use cell_listing::write_layer;
 use cell_sources::{filters_are_decided, properties_are_given, properties_are_read_by_expressions};
 use expr_nodes::CountedEvaluator;
 use form_pool::FormPool;
-use layer_buckets::Stale;
 use listing_text::{write_end, write_zoom};
 use outside_io::Steps;
 use std::alloc::{AllocError, Global};
@@ -27,8 +28,7 @@ use style_layout::{Scene, SourceTile, TextTests};
 
 impl KeptLayers {
     /// Appends the listing of a style, and gives how many cells were evaluated for it: those that it asks and that
-    /// are not kept, which are kept afterwards. Where an allocation fails, out may have a part of it, and what was
-    /// kept is kept.
+    /// are not kept, which are kept afterwards. Where an allocation fails, out may have a part of it.
     #[tactic(auto, unfolding(listing_text::specs::Listing::listing, style_layout::specs::CodeView::scene_seen))]
     pub fn list<'a, V: TextTests, L: Ledger>(
         &mut self,
@@ -59,8 +59,8 @@ impl KeptLayers {
         Ok(number)
     }
 
-    /// As `list`, where nothing is listed afterwards: the cells of each layer are dropped once its lines are written,
-    /// so that those of one layer at a time are in memory.
+    /// As `list`, where nothing is listed afterwards: where nothing is kept, each cell is evaluated where it is listed, and
+    /// none is kept.
     #[tactic(auto, unfolding(listing_text::specs::Listing::listing, style_layout::specs::CodeView::scene_seen))]
     pub fn list_last<'a, V: TextTests, L: Ledger>(
         &mut self,
@@ -84,7 +84,7 @@ impl KeptLayers {
             (layers_seen style.now.style.now))) }
     {
         write_zoom(scene.zoom.exact(), out)?;
-        let number = self.list_and_drop(alloc, style, scene, steps, out)?;
+        let number = self.list_layers_last(alloc, style, scene, steps, out)?;
         write_end(out)?;
         Ok(number)
     }
@@ -125,8 +125,8 @@ impl KeptLayers {
         Ok(number)
     }
 
-    // Drops the cells of each layer once it is listed.
-    fn list_and_drop<'a, V: TextTests, L: Ledger>(
+    // Keeps nothing where nothing is kept.
+    fn list_layers_last<'a, V: TextTests, L: Ledger>(
         &mut self,
         alloc: Global,
         style: &'a StyleLayers<'a>,
@@ -146,7 +146,37 @@ impl KeptLayers {
         ensures text { OnOk result (out.new.items ≡ out.old.items ++ flat_map layer_lines
             (map (layer_out (scene_seen V.tests scene.now) (tiles_in style.now)) (layers_seen style.now.style.now))) }
     {
+        if self.cells.buckets.is_bare() {
+            return self.list_bare(alloc, style, scene, steps, out);
+        }
+        self.list_layers(alloc, style, scene, steps, out)
+    }
+
+    // Evaluates each cell where it is listed, and keeps none.
+    fn list_bare<'a, V: TextTests, L: Ledger>(
+        &mut self,
+        alloc: Global,
+        style: &'a StyleLayers<'a>,
+        scene: &'a Scene<'a, V>,
+        steps: &mut Steps<L>,
+        out: &mut Vec<u8>,
+    ) -> Result<u64, AllocError>
+        requires numbered { AreNumbered self.old }
+        requires prepared { IsPrepared style.now }
+        requires holds { HoldsLayers ⟦<FormPool as CountedEvaluator>⟧.slots (tiles_in style.now)
+            (globals_in style.now) (trees_in style.now) self.old }
+        requires right { IsRightIn ⟦<FormPool as CountedEvaluator>⟧.slots (tiles_in style.now) (globals_in style.now)
+            (scene_seen V.tests scene.now) (trees_in style.now) self.old }
+        requires bare { (cell : Cell) → kept_at self.old.cells.buckets cell ≡ None }
+        ensures numbered { AreNumbered self.new }
+        ensures counts { Counts (scene_seen V.tests scene.now) (tiles_in style.now) (globals_in style.now)
+            (trees_in style.now) (kept_seen self.old) result steps.old steps.new }
+        ensures text { OnOk result (out.new.items ≡ out.old.items ++ flat_map layer_lines
+            (map (layer_out (scene_seen V.tests scene.now) (tiles_in style.now)) (layers_seen style.now.style.now))) }
+    {
         filters_are_decided();
+        properties_are_given();
+        properties_are_read_by_expressions();
         let mut evaluated = 0;
         for place in 0..self.numbers.len() {
             let at = LayerAt {
@@ -154,8 +184,7 @@ impl KeptLayers {
                 layer: style.style.layer(place),
                 scene,
             };
-            let more = self.list_layer(alloc, &at, style.tiles, steps, out)?;
-            self.cells.buckets.drop_cells(&Stale::Layer(at.number));
+            let more = write_bare_layer(alloc, &mut self.cells, &at, style.tiles, steps, out)?;
             evaluated = sum_of(evaluated, more)?;
         }
         Ok(evaluated)

@@ -23,7 +23,7 @@ pub struct StyleLayers<'a> {
 }
 
 impl<'a> StyleLayers<'a> {
-    /// The layer at a place.
+    /// The layer at a place. Takes constant time.
     pub fn one(&self, place: usize) -> OneLayer<'a>
         requires prepared { IsPrepared self.now }
         requires within { place < length (trees_in self.now) }

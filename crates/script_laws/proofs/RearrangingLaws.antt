@@ -19,18 +19,13 @@ use Rattle.style_layout.specs.Shown.{SourceTile}
 use Rattle.style_layout.specs.StyleLayout.{cell_count}
 use Rattle.style_rules.specs.Findings.{findings}
 use Rattle.style_rules.specs.declared.lists.Finding.{Finding as Found}
-use Rattle.edit_findings.specs.FoundAfter.{AreKeyed, HasKeysFor, found_by_edit}
-use Rattle.edit_findings.proofs.AfterLaws.{after_edit}
+use Rattle.edit_findings.specs.FoundAfter.{found_by_edit}
+use Rattle.edit_findings.proofs.AfterLaws.{after_edit, keys_for}
 use Rattle.edit_session.specs.Applied.{done, refused, presented_after, first_finding, refusal_of, applied}
 use Rattle.edit_session.specs.SessionState.{SessionState}
 use Rattle.edit_session.specs.declared.answer.Refusal.TheVariants.{Finding, CellLimit}
 use Rattle.script_laws.specs.ScriptLaw.{HasNamesOnce, rearranges, RearrangingBreaksNoRule, PossibleRearrangingIsAccepted}
 use Rattle.script_laws.proofs.EditLaws.{possible, is_accepted, refused_by, few_cells}
-
-keys_for : (e : Edit) (ts : List Tree) → AreKeyed ts → HasKeysFor e ts
-keys_for (edits.add_layer layer before) ts h = h
-keys_for (edits.move_layer id before) ts h = h
-keys_for _ ts h = tt
 
 finds_nothing : (d : Tree) (places : EditPlaces) (e : Edit) → rearranges e ≡ true → found_by_edit d places e ≡ []
 finds_nothing d places (edits.remove_layer id) h = refl

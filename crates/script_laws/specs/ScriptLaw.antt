@@ -86,9 +86,6 @@ rearranges edit = false
 
 -- over tiles, with the test on texts that can be shown; `can_change` says whether the test of images can change
 module _ (tiles : List SourceTile) (scripts : List ℕ → Bool) (can_change : Bool) where
-  abbrev pub apply : SessionState → Edit → SessionState × Reply
-  apply p edit = applied tiles scripts can_change p edit
-
   abbrev pub line : ℕ → SessionState → Line → LineOut
   line number p l = line_out tiles scripts can_change number p l
 

@@ -43,11 +43,13 @@ pub fn answer_script<O: Sink, L: Ledger>(
 ) -> Result<Ending, WriteStop>
     requires { IsSoundSession session (test images.old) (test scripts.now) }
     ensures written { (files : List ℕ → Option (List ℕ)) (asked : List (List ℕ)) → IfOk result (IsWritten files
-        (script_run (tiles_of session.entry) (test scripts.now) (changes images.old) (session_state session.entry (test images.old)) script.now) asked
+        (script_run (tiles_of session.entry) (test scripts.now) (changes images.old)
+        (session_state session.entry (test images.old)) script.now) asked
         (O.held out.old) (O.held out.new) steps.old steps.new) }
     ensures none_failed { OnOk result (O.faults out.new ≡ O.faults out.old) }
     ensures stop { (files : List ℕ → Option (List ℕ)) (asked : List (List ℕ)) → IfErr result (IsCut files
-        (script_run (tiles_of session.entry) (test scripts.now) (changes images.old) (session_state session.entry (test images.old)) script.now) asked
+        (script_run (tiles_of session.entry) (test scripts.now) (changes images.old)
+        (session_state session.entry (test images.old)) script.now) asked
         (O.held out.old) (O.held out.new) steps.old steps.new (O.faults out.old) (O.faults out.new)) }
 {
     let mut session = session;

@@ -15,10 +15,14 @@ use Rattle.style_rules.specs.Findings.{findings}
 module _ (features : ℕ) (images scripts : List ℕ → Bool) (can_change : Bool) where
   -- the style, opened over the tile at zoom 0, answers the script
   abbrev pub answered_run : Tree → Run
-  answered_run document = lines_run (generated_tiles features) scripts can_change 1 (opened cell_limit document (pos 0) images) false (generated_lines features)
+  answered_run document =
+      lines_run (generated_tiles features) scripts can_change 1 (opened cell_limit document (pos 0) images)
+      false (generated_lines features)
 
   abbrev pub opened_run : Tree → Run
-  opened_run document = opened_or_refused (tiles_fault cell_limit document (generated_tiles features) (pos 0)) (counted features (answered_run document))
+  opened_run document =
+      opened_or_refused (tiles_fault cell_limit document (generated_tiles features) (pos 0))
+      (counted features (answered_run document))
 
   -- As `replay`, with the counts of what is written in the place of it. No file is read.
   abbrev pub generate_run : Run

@@ -20,9 +20,11 @@ module _ (images scripts : List ℕ → Bool) (can_change : Bool) where
   -- The run has this outcome, and the steps rose as it says; or it comes to the run of this script, and none were counted.
   abbrev pub IsPrepared : (files : List ℕ → Option (List ℕ)) (run : Run) (asked_old asked_new : List (List ℕ)) (steps_old steps_new : ℕ)
       → PreparedRun → Type 0
-  IsPrepared files run asked_old asked_new steps_old steps_new (Ended answer) = IsAnswered files run asked_old asked_new steps_old steps_new answer
+  IsPrepared files run asked_old asked_new steps_old steps_new (Ended answer) =
+      IsAnswered files run asked_old asked_new steps_old steps_new answer
   IsPrepared files run asked_old asked_new steps_old steps_new (Script opened) =
-      IsSoundSession opened.session images scripts × ComesTo files run (opened_script_run opened) asked_old asked_new × (steps_new ≡ steps_old)
+      IsSoundSession opened.session images scripts × ComesTo files run (opened_script_run opened) asked_old asked_new
+      × (steps_new ≡ steps_old)
 
 -- what comes to a script lists cells
 abbrev pub MayList : Asked → PreparedRun → Type 0

@@ -38,7 +38,8 @@ outside failed_reads unread asked out failed_outs err failed_errs steps = record
 
 -- `files` gives the known contents of files, and `FilesStay` says that the value through which they are read
 -- is as it was.
-pub record KeepsPromises (files : List ℕ → Option (List ℕ)) (run : Run) (status : Status) (before after : Outside) (FilesStay : Type 0) : Type 0 where
+pub record KeepsPromises (files : List ℕ → Option (List ℕ)) (run : Run) (status : Status)
+    (before after : Outside) (FilesStay : Type 0) : Type 0 where
   -- Where memory suffices and nothing outside fails, the run is its outcome.
   pub exact :
       status ≢ NoMemory → Still before.failed_reads after.failed_reads → Still before.failed_outs after.failed_outs
@@ -53,7 +54,8 @@ pub record KeepsPromises (files : List ℕ → Option (List ℕ)) (run : Run) (s
   pub err_front : ErrFront files run before.asked after.asked before.failed_reads after.failed_reads after.unread before.err after.err
   -- A read fault has its cause and its line, and a write fault has its cause.
   pub read_fault :
-      status ≡ ReadFault → (name : List ℕ) × ReadFails files run before.failed_reads after.failed_reads after.unread before.asked after.asked name
+      status ≡ ReadFault →
+      (name : List ℕ) × ReadFails files run before.failed_reads after.failed_reads after.unread before.asked after.asked name
       × Gains before.out after.out [] × Gains before.err after.err (unread_line name)
   pub write_fault :
       status ≡ WriteFault → WriteFails files run before.asked after.asked before.failed_reads after.failed_reads after.unread

@@ -98,7 +98,8 @@ if_allowed None = None
 
 -- a style at a zoom, which is a decimal within the bound, over tiles
 abbrev pub shown_words : List ℕ → Result ℤ NumFault → List (List ℕ) → Option EvalWords
-shown_words style (Ok zoom) words = option_map (λ tiles. record { style = style; zoom = zoom; tiles = tiles }) (if_allowed (tiles_named words))
+shown_words style (Ok zoom) words =
+    option_map (λ tiles. record { style = style; zoom = zoom; tiles = tiles }) (if_allowed (tiles_named words))
 shown_words style (Err fault) words = None
 
 abbrev pub asked_eval : Option EvalWords → Asked

@@ -20,6 +20,8 @@ use program_runs::{Ending, RunHalt, RunOutput, answer_out};
 use std::alloc::{AllocError, Global};
 use std::sync::ledger::Ledger;
 
+/// The listing of a style over tiles, or why it is refused. Files are read in the order of the words; the steps of its
+/// evaluations are counted.
 pub fn answer_eval<'a, F: Files, L: Ledger>(
     alloc: Global,
     request: &EvalRequest<'a>,
@@ -54,9 +56,11 @@ fn answer_shown<'a, L: Ledger>(
 ) -> Result<RunOutput, AllocError>
     requires { findings (tree_of shown.style) ≡ [] }
     ensures answer { (files : List ℕ → Option (List ℕ)) (asked : List (List ℕ)) → IfOk result (IsAnswered files
-        (listed_run (eval_words request.now) (test images.now) (test scripts.now) (shown_seen shown.entry)) asked asked steps.old steps.new) }
+        (listed_run (eval_words request.now) (test images.now) (test scripts.now) (shown_seen shown.entry))
+        asked asked steps.old steps.new) }
     ensures due { (files : List ℕ → Option (List ℕ)) (asked : List (List ℕ)) → OnErr result (StepsAreDue files
-        (listed_run (eval_words request.now) (test images.now) (test scripts.now) (shown_seen shown.entry)) asked asked steps.old steps.new) }
+        (listed_run (eval_words request.now) (test images.now) (test scripts.now) (shown_seen shown.entry))
+        asked asked steps.old steps.new) }
 {
     match Session::open_sound(alloc, shown.style, shown.tiles, request.zoom, CELL_LIMIT)? {
         Ok(session) => {

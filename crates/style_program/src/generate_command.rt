@@ -22,7 +22,8 @@ use std::alloc::{AllocError, Global};
 use std::sync::ledger::Ledger;
 use style_layout::SourceTile;
 
-/// The answer to `generate`.
+/// The counts of what `replay` writes of the style, the tile and the script of so many features. No file is read; the steps
+/// of its evaluations are counted.
 pub fn answer_generate<'a, L: Ledger>(
     alloc: Global,
     features: u32,
@@ -32,7 +33,8 @@ pub fn answer_generate<'a, L: Ledger>(
 ) -> Result<RunOutput, RunHalt<'a>>
     ensures answer { (files : List ℕ → Option (List ℕ)) (asked : List (List ℕ)) → IfOk result (IsAnswered files
         (generate_run features (test images.old) (test scripts.now) (changes images.old)) asked asked steps.old steps.new) }
-    ensures halt { (files : List ℕ → Option (List ℕ)) (count : ℕ) (failed : Option (List ℕ)) (asked : List (List ℕ)) → IfErr result (λ halt. HaltsAt files
+    ensures halt { (files : List ℕ → Option (List ℕ)) (count : ℕ) (failed : Option (List ℕ)) (asked : List (List ℕ))
+        → IfErr result (λ halt. HaltsAt files
         (generate_run features (test images.old) (test scripts.now) (changes images.old)) count count failed failed asked asked halt) }
     ensures steps { (files : List ℕ → Option (List ℕ)) (asked : List (List ℕ)) → IfErr result (HaltSteps files
         (generate_run features (test images.old) (test scripts.now) (changes images.old)) asked asked steps.old steps.new) }

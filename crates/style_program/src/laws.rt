@@ -1,3 +1,5 @@
+//! The law of runs, on a function that does nothing.
+
 ghost use Rattle.style_program.specs.OneOutcome.{EachHasOneOutcome};
 
 /// No words have two outcomes, so that what `run_style` promises of an outcome it promises of the one.

@@ -61,7 +61,8 @@ pub fn read_shown<'a, F: Files>(
 /// Halts the run where the style has findings.
 pub(crate) fn refuse_broken<'a>(alloc: Global, style: &Json) -> Result<(), RunHalt<'a>>
     ensures sound { OnOk result (findings (tree_of style.now) ≡ []) }
-    ensures halt { (files : List ℕ → Option (List ℕ)) (count : ℕ) (failed : Option (List ℕ)) (asked : List (List ℕ)) (next : Run) → IfErr result (λ halt. HaltsAt files
+    ensures halt { (files : List ℕ → Option (List ℕ)) (count : ℕ) (failed : Option (List ℕ)) (asked : List (List ℕ))
+        (next : Run) → IfErr result (λ halt. HaltsAt files
         (sound_or_broken (findings (tree_of style.now)) next) count count failed failed asked asked halt) }
 {
     let found = findings(alloc, style)?;
@@ -70,7 +71,8 @@ pub(crate) fn refuse_broken<'a>(alloc: Global, style: &Json) -> Result<(), RunHa
 
 fn refuse_found<'a>(alloc: Global, found: &[Finding]) -> Result<(), RunHalt<'a>>
     ensures sound { OnOk result (map finding_seen found.now ≡ []) }
-    ensures halt { (files : List ℕ → Option (List ℕ)) (count : ℕ) (failed : Option (List ℕ)) (asked : List (List ℕ)) (next : Run) → IfErr result (λ halt. HaltsAt files
+    ensures halt { (files : List ℕ → Option (List ℕ)) (count : ℕ) (failed : Option (List ℕ)) (asked : List (List ℕ))
+        (next : Run) → IfErr result (λ halt. HaltsAt files
         (sound_or_broken (map finding_seen found.now) next) count count failed failed asked asked halt) }
 {
     match found {
@@ -113,7 +115,8 @@ fn read_next<'a, F: Files>(
     ensures told { F.told files.new ≡ F.told files.old }
     ensures failed { OnOk result (NoneFailed (F.faults files.old) (F.faults files.new) (F.failed files.old) (F.failed files.new)) }
     ensures on { IfOk result (λ rest. (after : List shown.SourceTile → Run) → ComesTo (F.told files.old)
-        (tiles_from i words.now (map tile_seen tiles.old.items) left after) (tiles_from (i + 1) words.now (map tile_seen tiles.new.items) rest after)
+        (tiles_from i words.now (map tile_seen tiles.old.items) left after)
+        (tiles_from (i + 1) words.now (map tile_seen tiles.new.items) rest after)
         (F.asked files.old) (F.asked files.new)) }
     ensures halt { IfErr result (λ halt. Halts (F.told files.old) (tiles_from i words.now (map tile_seen tiles.old.items) left)
         (F.faults files.old) (F.faults files.new) (F.failed files.old) (F.failed files.new) (F.asked files.old) (F.asked files.new) halt) }
@@ -158,7 +161,8 @@ fn tile_in<'a>(
 ) -> Result<(usize, Tile), RunHalt<'a>>
     ensures on { (files : List ℕ → Option (List ℕ)) (asked : List (List ℕ)) → IfOk result (λ read. GoesOn files
         (tile_from number source.now bytes.now) asked asked (read.0, read.1)) }
-    ensures halt { (files : List ℕ → Option (List ℕ)) (count : ℕ) (failed : Option (List ℕ)) (asked : List (List ℕ)) → IfErr result (λ halt. Halts files
+    ensures halt { (files : List ℕ → Option (List ℕ)) (count : ℕ) (failed : Option (List ℕ)) (asked : List (List ℕ))
+        → IfErr result (λ halt. Halts files
         (tile_from number source.now bytes.now) count count failed failed asked asked halt) }
 {
     match read_tile(alloc, bytes)? {

@@ -20,6 +20,7 @@ use std::alloc::{AllocError, Global};
 use style_migrate::migrate;
 use style_rules::{Finding, findings};
 
+/// A style with each legacy form as its expression, or the rules that it breaks. The style is of `STYLE_LIMIT` bytes at most.
 pub fn answer_migrate<'a, F: Files>(
     alloc: Global,
     name: &'a str,

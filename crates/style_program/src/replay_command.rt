@@ -49,7 +49,8 @@ pub fn open_script<'a, F: Files>(
     ensures failed { OnOk result (NoneFailed (F.faults files.old) (F.faults files.new) (F.failed files.old) (F.failed files.new)) }
     ensures sound { (images scripts : List ℕ → Bool) → IfOk result (λ opened. IsSoundSession opened.session images scripts) }
     ensures on { (images scripts : List ℕ → Bool) (can_change : Bool) → IfOk result (λ opened. ComesTo (F.told files.old)
-        (script_kind_run request.now.kind (script_words request.now) images scripts can_change) (opened_script_run images scripts can_change opened)
+        (script_kind_run request.now.kind (script_words request.now) images scripts can_change)
+        (opened_script_run images scripts can_change opened)
         (F.asked files.old) (F.asked files.new)) }
     ensures halt { (images scripts : List ℕ → Bool) (can_change : Bool) → IfErr result (λ halt. HaltsAt (F.told files.old)
         (script_kind_run request.now.kind (script_words request.now) images scripts can_change)
@@ -124,8 +125,10 @@ fn open_shown<'a>(
     ensures opened { IfOk result (λ session. (has_image : List ℕ → Bool)
         → session_state session has_image ≡ opened limit (shown_seen shown.entry).0 zoom has_image) }
     ensures none { OnOk result (None ≡ tiles_fault limit (shown_seen shown.entry).0 (shown_seen shown.entry).1 zoom) }
-    ensures halt { (files : List ℕ → Option (List ℕ)) (count : ℕ) (failed : Option (List ℕ)) (asked : List (List ℕ)) (next : Run) → IfErr result (λ halt. HaltsAt files
-        (opened_or_refused (tiles_fault limit (shown_seen shown.entry).0 (shown_seen shown.entry).1 zoom) next) count count failed failed asked asked halt) }
+    ensures halt { (files : List ℕ → Option (List ℕ)) (count : ℕ) (failed : Option (List ℕ)) (asked : List (List ℕ))
+        (next : Run) → IfErr result (λ halt. HaltsAt files
+        (opened_or_refused (tiles_fault limit (shown_seen shown.entry).0 (shown_seen shown.entry).1 zoom) next)
+        count count failed failed asked asked halt) }
 {
     match Session::open_sound(alloc, shown.style, shown.tiles, zoom, limit)? {
         Ok(session) => Ok(session),

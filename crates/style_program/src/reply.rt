@@ -1,3 +1,5 @@
+//! The run that is asked for, up to the texts that are to be written or the script that is to be answered.
+
 ghost use Rattle.std.specs.Prelude.{◌≡◌, ℕ, List, Bool, false, OnErr, OnOk, IfOk, IfErr};
 ghost use Rattle.program_runs.specs.FailedReads.{NoneFailed};
 ghost use Rattle.program_runs.specs.Progress.{outcome_of, HaltSteps, HaltsAt, IsAnswered, IsStop};
@@ -85,7 +87,8 @@ pub enum PreparedRun<'a> {
     Script(OpenedScript<'a>),
 }
 
-/// The run that is asked for, be it refused.
+/// The run that is asked for, be it refused, once all its reading is done. Only a listing counts steps here; a script counts
+/// them when its lines are answered.
 pub fn prepare_run<'a, F: Files, L: Ledger>(
     alloc: Global,
     request: &Request<'a>,
@@ -96,7 +99,9 @@ pub fn prepare_run<'a, F: Files, L: Ledger>(
 ) -> Result<PreparedRun<'a>, RunStop<'a>>
     ensures told { F.told files.new ≡ F.told files.old }
     ensures failed { OnOk result (NoneFailed (F.faults files.old) (F.faults files.new) (F.failed files.old) (F.failed files.new)) }
-    ensures fileless { IsFileless (asked_run (test images.old) (test scripts.now) (changes images.old) (asked_by request.now)) → files.new ≡ files.old }
+    ensures fileless { IsFileless
+        (asked_run (test images.old) (test scripts.now) (changes images.old) (asked_by request.now))
+        → files.new ≡ files.old }
     ensures run { IfOk result (IsPrepared (test images.new) (test scripts.now) (changes images.new) (F.told files.old)
         (asked_run (test images.old) (test scripts.now) (changes images.old) (asked_by request.now))
         (F.asked files.old) (F.asked files.new) steps.old steps.new) }
@@ -127,8 +132,11 @@ fn prepare_answer<'a, F: Files>(
 ) -> Result<PreparedRun<'a>, RunStop<'a>>
     ensures told { F.told files.new ≡ F.told files.old }
     ensures failed { OnOk result (NoneFailed (F.faults files.old) (F.faults files.new) (F.failed files.old) (F.failed files.new)) }
-    ensures fileless { IsFileless (asked_run (test images.old) (test scripts.now) (changes images.old) (answer_asked request.now)) → files.new ≡ files.old }
-    ensures run { (then_images : List ℕ → Bool) (then_changes : Bool) (steps : ℕ) → IfOk result (IsPrepared then_images (test scripts.now) then_changes
+    ensures fileless { IsFileless
+        (asked_run (test images.old) (test scripts.now) (changes images.old) (answer_asked request.now))
+        → files.new ≡ files.old }
+    ensures run { (then_images : List ℕ → Bool) (then_changes : Bool) (steps : ℕ)
+        → IfOk result (IsPrepared then_images (test scripts.now) then_changes
         (F.told files.old) (asked_run (test images.old) (test scripts.now) (changes images.old) (answer_asked request.now))
         (F.asked files.old) (F.asked files.new) steps steps) }
     ensures script { IfOk result (MayList (answer_asked request.now)) }
@@ -153,7 +161,9 @@ fn answer_to<'a, F: Files>(
 ) -> Result<RunOutput, RunHalt<'a>>
     ensures told { F.told files.new ≡ F.told files.old }
     ensures failed { OnOk result (NoneFailed (F.faults files.old) (F.faults files.new) (F.failed files.old) (F.failed files.new)) }
-    ensures fileless { IsFileless (asked_run (test images.old) (test scripts.now) (changes images.old) (answer_asked request.now)) → files.new ≡ files.old }
+    ensures fileless { IsFileless
+        (asked_run (test images.old) (test scripts.now) (changes images.old) (answer_asked request.now))
+        → files.new ≡ files.old }
     ensures answer { IfOk result (λ answer.
         HasOutcome (F.told files.old) (asked_run (test images.old) (test scripts.now) (changes images.old) (answer_asked request.now))
         (F.asked files.old) (F.asked files.new) (outcome_of answer)) }
@@ -184,7 +194,9 @@ fn prepare_listing<'a, F: Files, L: Ledger>(
 ) -> Result<PreparedRun<'a>, RunStop<'a>>
     ensures told { F.told files.new ≡ F.told files.old }
     ensures failed { OnOk result (NoneFailed (F.faults files.old) (F.faults files.new) (F.failed files.old) (F.failed files.new)) }
-    ensures fileless { IsFileless (asked_run (test images.old) (test scripts.now) (changes images.old) (listing_asked request.now)) → files.new ≡ files.old }
+    ensures fileless { IsFileless
+        (asked_run (test images.old) (test scripts.now) (changes images.old) (listing_asked request.now))
+        → files.new ≡ files.old }
     ensures run { (then_images : List ℕ → Bool) (then_changes : Bool) → IfOk result (IsPrepared then_images (test scripts.now) then_changes
         (F.told files.old) (asked_run (test images.old) (test scripts.now) (changes images.old) (listing_asked request.now))
         (F.asked files.old) (F.asked files.new) steps.old steps.new) }
@@ -213,7 +225,9 @@ fn answer_listing<'a, F: Files, L: Ledger>(
 ) -> Result<RunOutput, RunHalt<'a>>
     ensures told { F.told files.new ≡ F.told files.old }
     ensures failed { OnOk result (NoneFailed (F.faults files.old) (F.faults files.new) (F.failed files.old) (F.failed files.new)) }
-    ensures fileless { IsFileless (asked_run (test images.old) (test scripts.now) (changes images.old) (listing_asked request.now)) → files.new ≡ files.old }
+    ensures fileless { IsFileless
+        (asked_run (test images.old) (test scripts.now) (changes images.old) (listing_asked request.now))
+        → files.new ≡ files.old }
     ensures answer { IfOk result (IsAnswered (F.told files.old)
         (asked_run (test images.old) (test scripts.now) (changes images.old) (listing_asked request.now))
         (F.asked files.old) (F.asked files.new) steps.old steps.new) }
@@ -239,8 +253,10 @@ fn prepare_script<'a, F: Files>(
 ) -> Result<PreparedRun<'a>, RunStop<'a>>
     ensures told { F.told files.new ≡ F.told files.old }
     ensures failed { OnOk result (NoneFailed (F.faults files.old) (F.faults files.new) (F.failed files.old) (F.failed files.new)) }
-    ensures run { (images scripts : List ℕ → Bool) (can_change : Bool) (steps : ℕ) → IfOk result (IsPrepared images scripts can_change (F.told files.old)
-        (script_kind_run request.now.kind (script_words request.now) images scripts can_change) (F.asked files.old) (F.asked files.new) steps steps) }
+    ensures run { (images scripts : List ℕ → Bool) (can_change : Bool) (steps : ℕ)
+        → IfOk result (IsPrepared images scripts can_change (F.told files.old)
+        (script_kind_run request.now.kind (script_words request.now) images scripts can_change)
+        (F.asked files.old) (F.asked files.new) steps steps) }
     ensures script { IfOk result (MayList (Script request.now.kind (script_words request.now))) }
     ensures stop { (images scripts : List ℕ → Bool) (can_change : Bool) → IfErr result (λ stop. IsStop (F.told files.old)
         (script_kind_run request.now.kind (script_words request.now) images scripts can_change)

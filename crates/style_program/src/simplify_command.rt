@@ -19,6 +19,8 @@ use std::alloc::{AllocError, Global};
 use style_rules::{Finding, findings};
 use style_simplify::simplify;
 
+/// A simplified style and the filters that no feature passes, or the rules that it breaks. The style is of `STYLE_LIMIT` bytes
+/// at most.
 pub fn answer_simplify<'a, F: Files>(
     alloc: Global,
     name: &'a str,
@@ -53,7 +55,8 @@ fn answer_found(alloc: Global, style: &Json, found: &[Finding]) -> Result<RunOut
 
 fn answer_simplified(alloc: Global, style: &Json) -> Result<RunOutput, AllocError>
     ensures { IfOk result (λ answer. outcome_of answer
-        ≡ said (simplified_text (simplified (tree_of style.now)) (never_passed (tree_of style.now) (simplified (tree_of style.now)))) Ending.Fine) }
+        ≡ said (simplified_text (simplified (tree_of style.now))
+        (never_passed (tree_of style.now) (simplified (tree_of style.now)))) Ending.Fine) }
 {
     let simplified = simplify(alloc, style)?;
     let mut out = Vec::new(alloc);

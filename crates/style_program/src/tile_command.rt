@@ -14,6 +14,7 @@ use std::alloc::{AllocError, Global};
 use tile_listing::write_tile;
 use tile_reader::read_tile;
 
+/// The layers of a tile with their features and properties, or why it is refused. The tile is of `TILE_LIMIT` bytes at most.
 pub fn answer_tile<'a, F: Files>(
     alloc: Global,
     name: &'a str,

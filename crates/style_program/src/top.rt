@@ -1,3 +1,5 @@
+//! The call that does a whole run.
+
 ghost use Rattle.std.specs.Prelude.{◌≡◌, false, map, string_bytes, OnErr, OnOk, IfOk, IfErr};
 ghost use Rattle.program_runs.specs.FailedReads.{NoneFailed};
 ghost use Rattle.program_runs.specs.Progress.{IsStop};
@@ -83,7 +85,8 @@ fn run_words<F: Files, O: Sink, E: Sink, L: Ledger>(
         (outside (F.faults files.new) (F.failed files.new) (F.asked files.new) (O.held out.new) (O.faults out.new)
         (E.held err.new) (E.faults err.new) steps.new)
         (files.new ≡ files.old) }
-    ensures listed { result ≡ Status.Found → ListsItsFault (test images.old) (test call.entry.scripts.now) (asked (map string_bytes call.entry.words.now)) }
+    ensures listed { result ≡ Status.Found
+        → ListsItsFault (test images.old) (test call.entry.scripts.now) (asked (map string_bytes call.entry.words.now)) }
     ensures told { F.told files.new ≡ F.told files.old }
     ensures steps { lists_cells (asked (map string_bytes call.entry.words.now)) ≡ false → steps.new ≡ steps.old }
 {
@@ -121,7 +124,9 @@ fn prepared<'a, F: Files, L: Ledger>(
 ) -> Result<PreparedRun<'a>, RunStop<'a>>
     ensures told { F.told files.new ≡ F.told files.old }
     ensures failed { OnOk result (NoneFailed (F.faults files.old) (F.faults files.new) (F.failed files.old) (F.failed files.new)) }
-    ensures fileless { IsFileless (run_of (test images.old) (test scripts.now) (changes images.old) (map string_bytes words.now)) → files.new ≡ files.old }
+    ensures fileless { IsFileless
+        (run_of (test images.old) (test scripts.now) (changes images.old) (map string_bytes words.now))
+        → files.new ≡ files.old }
     ensures run { IfOk result (IsPrepared (test images.new) (test scripts.now) (changes images.new) (F.told files.old)
         (run_of (test images.old) (test scripts.now) (changes images.old) (map string_bytes words.now))
         (F.asked files.old) (F.asked files.new) steps.old steps.new) }

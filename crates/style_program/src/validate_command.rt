@@ -18,6 +18,8 @@ use prop_values::{EvalFault, FaultSet};
 use std::alloc::{AllocError, Global};
 use style_rules::{Finding, MayLine, Report, examined};
 
+/// The rules that a style breaks; or, where it breaks none, what is not evaluated and what may fail. The style is of
+/// `STYLE_LIMIT` bytes at most.
 pub fn answer_validate<'a, F: Files>(
     alloc: Global,
     name: &'a str,
@@ -51,6 +53,7 @@ fn answer_report(alloc: Global, report: &Report) -> Result<RunOutput, AllocError
     }
 }
 
+/// The lines of findings, and `invalid`.
 pub(crate) fn answer_broken(alloc: Global, findings: &[Finding]) -> Result<RunOutput, AllocError>
     ensures { IfOk result (λ answer. outcome_of answer ≡ said (broken_text (map finding_seen findings.now)) Ending.Found) }
 {

@@ -63,7 +63,8 @@ fn answer_checked<'a>(
     images: &dyn HostOp,
     scripts: &dyn HostOp,
 ) -> Result<RunOutput, AllocError>
-    ensures { IfOk result (λ answer. outcome_of answer ≡ judged_outcome (test images.now) (test scripts.now) (term_of expression.now) checked.entry) }
+    ensures { IfOk result (λ answer. outcome_of answer
+        ≡ judged_outcome (test images.now) (test scripts.now) (term_of expression.now) checked.entry) }
 {
     match checked {
         Ok(_) => {

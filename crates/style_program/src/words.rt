@@ -1,3 +1,5 @@
+//! What the words after the program's name ask for.
+
 ghost use Rattle.std.specs.Prelude.{◌≡◌, ◌≤◌, length, map, string_bytes, option_map, Ok, IfOk, nat_eq, if◌then◌else◌};
 ghost use Rattle.fixed_num.specs.Decimal.{read_text};
 ghost use Rattle.style_program.specs.Words.{asked, asked_alone, asked_command, asked_lint, asked_of_one, asked_of_more, asked_styles, asked_with, asked_with_script, features_named, shown_words, source_and_tile, tiles_named, are_allowed, count_of};

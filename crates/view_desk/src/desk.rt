@@ -71,8 +71,9 @@ impl<'a> Desk<'a> {
         self.session.alloc()
     }
 
-    /// Does what the bytes of a line say, without a line feed, and answers. Once allocation fails every later call answers so
-    /// too.
+    /// Does what the bytes of a line say, without a line feed, and answers. A line with a fault and one that is refused change
+    /// nothing. A line of the style is done in each view; `steps` rises by listings alone. Once allocation fails every later
+    /// call answers so too.
     pub fn line<L: Ledger>(
         &mut self,
         line: &[u8],

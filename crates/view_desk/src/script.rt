@@ -38,11 +38,13 @@ pub fn answer_desk<O: Sink, L: Ledger>(
 ) -> Result<Ending, WriteStop>
     requires { IsSoundDesk desk (test images.old) (test scripts.now) }
     ensures written { (files : List ℕ → Option (List ℕ)) (asked : List (List ℕ)) → IfOk result (IsWritten files
-        (desk_script_run (desk_tiles desk.entry) (test scripts.now) (changes images.old) (desk_state desk.entry (test images.old)) script.now)
+        (desk_script_run (desk_tiles desk.entry) (test scripts.now) (changes images.old)
+        (desk_state desk.entry (test images.old)) script.now)
         asked (O.held out.old) (O.held out.new) steps.old steps.new) }
     ensures none_failed { OnOk result (O.faults out.new ≡ O.faults out.old) }
     ensures stop { (files : List ℕ → Option (List ℕ)) (asked : List (List ℕ)) → IfErr result (IsCut files
-        (desk_script_run (desk_tiles desk.entry) (test scripts.now) (changes images.old) (desk_state desk.entry (test images.old)) script.now)
+        (desk_script_run (desk_tiles desk.entry) (test scripts.now) (changes images.old)
+        (desk_state desk.entry (test images.old)) script.now)
         asked (O.held out.old) (O.held out.new) steps.old steps.new (O.faults out.old) (O.faults out.new)) }
 {
     let mut desk = desk;

@@ -24,4 +24,4 @@ found_by_edit-requires-clause-same c = ap (λ (places : EditPlaces). places.same
 pub returns : goal.returns
 returns c =
     IfOk-weaker c.found_by_edit.result _ _ (λ found is. is ∙ after_edit (tree_of c.args.document.now) (command_seen c.args.command.now) c.args.places
-    c.documents_have_distinct_members.ensures c.note_keys.ensures c.requires.sound c.requires.possible c.requires.places) c.found_by_edit.ensures
+    c.documents_have_distinct_members.ensures c.requires.keys c.requires.sound c.requires.possible c.requires.places) c.found_by_edit.ensures

@@ -1,4 +1,4 @@
-use Rattle.std.proofs.Common.{map, sym, subst, Some}
+use Rattle.std.proofs.Common.{sym, subst, Some}
 use Rattle.std.proofs.lemmas.Result.{on_ok_weaker}
 use Rattle.layer_buckets.specs.declared.cell.CellItem.TheVariants.{Filter}
 use Rattle.form_pool.specs.PoolSlots.{pool_slots}

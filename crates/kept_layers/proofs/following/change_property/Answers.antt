@@ -1,4 +1,4 @@
-use Rattle.std.proofs.Common.{◌≡◌, ap, map, sym, subst, Some, ◌∙◌}
+use Rattle.std.proofs.Common.{◌≡◌, ap, sym, subst, Some, ◌∙◌}
 use Rattle.std.specs.Prelude.{option_map}
 use Rattle.std.proofs.lemmas.Result.{on_ok_weaker}
 use Rattle.property_tables.specs.Rows.{row_of}

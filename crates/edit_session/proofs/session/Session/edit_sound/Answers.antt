@@ -8,7 +8,7 @@ use Rattle.style_layout.specs.CodeView.{tile_seen}
 use Rattle.style_layout.specs.Shown.{SourceTile}
 use Rattle.style_rules.specs.Findings.{findings}
 use Rattle.edit_session.specs.Applied.{done, refused}
-use Rattle.edit_session.specs.LayerMarks.{layer_mark}
+use Rattle.edit_session.specs.LayerMarks.{AreMarks}
 use Rattle.edit_session.specs.PreparedLayers.{ArePrepared, Follows}
 use Rattle.kept_layers.specs.View.{AreTyped}
 use Rattle.edit_session.specs.View.{session_state, tiles_of}
@@ -76,7 +76,8 @@ returns-then-is_done-clause-ready c =
     (ap (map tile_seen) c.as_slice.ensures.value) c.in_ok-is_done.ensures in (
       is_whole (tiles_of s) s.globals s.layers.limit after none c.note_types-2.ensures.typed us is c.follow.new.self follows.same_limit c.requires.ready.0.is_limited
           (sym c.if-is_done.true ∙ follows.limit) (follows.prepared c.if-is_done.true),
-      c.in_ok-follow.ensures ∙ ap (map layer_mark) (layers_listed after c.layers_of-then-is_done.result.now c.layers_of-then-is_done.ensures),
+      subst (AreMarks c.follow-then-is_done.new.self) (layers_listed after c.layers_of-then-is_done.result.now c.layers_of-then-is_done.ensures)
+          c.in_ok-follow.ensures,
     )
 
 pub returns-clause-answer : goal.returns-clause-answer
@@ -100,8 +101,8 @@ follow-requires-then-is_done-clause-before c =
     let after = tree_of c.edit_at.new.style in
     let us = items_view c.layers_of-then-is_done.result.now in
     let is : us ≡ layer_list after = layers_listed after c.layers_of-then-is_done.result.now c.layers_of-then-is_done.ensures in
+    subst (AreMarks s.marks) (before_edit c.in_ok-undo.undo (tree_of s.document) after us c.in_ok-undo.ensures.undo c.note_types-2.ensures.there is)
     c.requires.ready.1
-    ∙ ap (map layer_mark) (before_edit c.in_ok-undo.undo (tree_of s.document) after us c.in_ok-undo.ensures.undo c.note_types-2.ensures.there is)
 
 pub follow-requires-then-is_done-clause-within : goal.follow-requires-then-is_done-clause-within
 follow-requires-then-is_done-clause-within c =

@@ -1,4 +1,4 @@
-use Rattle.std.proofs.Common.{◌≡◌, length, map, refl, sym, ap, subst, ◌∙◌, arith}
+use Rattle.std.proofs.Common.{◌≡◌, length, refl, sym, ap, subst, ◌∙◌, arith}
 use Rattle.std.specs.Prelude.{insert, is_some, Some, None}
 use Rattle.decimal_json.specs.Tree.{object, fields_of}
 use Rattle.decimal_json.specs.View.{tree_of}

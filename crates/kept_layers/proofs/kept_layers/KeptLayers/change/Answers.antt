@@ -1,4 +1,4 @@
-use Rattle.std.proofs.Common.{◌≡◌, map, get_or, sym, ap, subst, ◌∙◌}
+use Rattle.std.proofs.Common.{◌≡◌, get_or, sym, ap, subst, ◌∙◌}
 use Rattle.std.specs.Prelude.{is_some, true, None, if◌then◌else◌}
 use Rattle.decimal_json.specs.View.{tree_of}
 use Rattle.layer_buckets.specs.Cells.{is_item, reads_globals, reads_state}

@@ -1,4 +1,4 @@
-use Rattle.std.proofs.Common.{◌≡◌, ◌++◌, drop, map}
+use Rattle.std.proofs.Common.{◌≡◌, ◌++◌, drop}
 use Rattle.style_layout.specs.CodeView.{layers_seen, scene_seen}
 use Rattle.form_pool.specs.PoolSlots.{pool_slots}
 use Rattle.kept_layers.proofs.ListLaws.{CountsFirst, KeepsFirst, lines_of}

@@ -1,4 +1,4 @@
-use Rattle.std.proofs.Common.{◌≡◌, map}
+use Rattle.std.proofs.Common.{◌≡◌}
 use Rattle.layer_buckets.specs.Seen.{IsSound}
 use Rattle.form_pool.specs.PoolSlots.{pool_slots}
 use Rattle.kept_layers.specs.Holding.{AbsentAreBare}

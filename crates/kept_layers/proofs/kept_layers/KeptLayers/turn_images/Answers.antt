@@ -1,5 +1,4 @@
 use Rattle.std.proofs.Common.{ℕ, ◌∙◌, None, refl, ap, if◌then◌else◌}
-use Rattle.std.specs.Prelude.{map}
 use Rattle.layer_buckets.specs.Seen.{source_of}
 use Rattle.layer_buckets.specs.declared.cell.Stale.TheVariants.{Images}
 use Rattle.asked_cells.specs.Asked.{cell_in}

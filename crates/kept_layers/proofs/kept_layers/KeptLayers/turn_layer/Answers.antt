@@ -1,4 +1,4 @@
-use Rattle.std.proofs.Common.{◌≡◌, map, ap, subst, arith, ◌∙◌}
+use Rattle.std.proofs.Common.{◌≡◌, ap, subst, arith, ◌∙◌}
 use Rattle.std.specs.Prelude.{option_and_then}
 use Rattle.std.proofs.lemmas.Option.{slice_get_past}
 use Rattle.decimal_json.specs.Tree.{object, fields_of}

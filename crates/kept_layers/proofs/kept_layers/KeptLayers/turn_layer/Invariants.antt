@@ -1,4 +1,4 @@
-use Rattle.std.proofs.Common.{◌≡◌, map}
+use Rattle.std.proofs.Common.{◌≡◌}
 use Rattle.decimal_json.specs.Tree.{object, fields_of}
 use Rattle.layer_buckets.specs.Seen.{IsSound}
 use Rattle.cell_sources.specs.CellExpressions.{item_expression}

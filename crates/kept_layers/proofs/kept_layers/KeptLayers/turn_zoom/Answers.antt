@@ -1,7 +1,6 @@
 use Rattle.std.proofs.Common.{◌≡◌, ℕ, ◌∙◌, None, true, false, refl, ap, sym, not, if◌then◌else◌}
 use Rattle.std.specs.Ordering.{int_eq}
 use Rattle.fixed_num.specs.Number.{floor_of}
-use Rattle.std.specs.Prelude.{map}
 use Rattle.layer_buckets.specs.Cells.{is_zoomed}
 use Rattle.layer_buckets.specs.Seen.{source_of}
 use Rattle.layer_buckets.specs.declared.cell.Stale.TheVariants.{Zoom}

@@ -1,12 +1,11 @@
-use Rattle.std.proofs.Common.{◌≡◌, ◌+◌, ◌<◌, ◌≤◌, length, map, get_or, refl, ap, ◌∙◌, arith, vec_len}
-use Rattle.layer_buckets.specs.declared.cell.Stale.TheVariants.{Layer}
-use Rattle.style_layout.specs.CodeView.{layer_seen, layers_seen, scene_seen}
+use Rattle.std.proofs.Common.{◌≡◌, ◌+◌, ◌<◌, ◌≤◌, length, get_or, refl, ap, sym, subst, ◌∙◌, arith, vec_len}
 use Rattle.form_pool.specs.PoolSlots.{pool_slots}
-use Rattle.kept_layers.proofs.ListLaws.{all_counts, dropped_counts, failed_counts, layers_length, lines_end, lines_first, lines_next, most_taken, none_counted, stops_here, this_kept_layer, this_layer, this_there, this_within}
-use Rattle.kept_layers.proofs.NumberedLaws.{asked_numbered, dropped_numbered}
-use Rattle.kept_layers.specs.Holding.{Still}
+use Rattle.layer_buckets.specs.Seen.{IsSound, kept_at}
+use Rattle.style_layout.specs.CodeView.{layer_seen, layers_seen, scene_seen}
+use Rattle.kept_layers.proofs.ListLaws.{CountsFirst, all_counts, bare_counts, bare_stops, failed_counts, layers_length, leaves_same, lines_end, lines_first, lines_next, none_counted, this_few, this_layer, this_listable, this_there, this_within}
+use Rattle.kept_layers.proofs.NumberedLaws.{asked_numbered}
 use Rattle.kept_layers.specs.View.{globals_in, kept_seen, tiles_in, trees_in}
-use Rattle.kept_layers.proofs.kept_layers.KeptLayers.list_and_drop.Goals as goal
+use Rattle.kept_layers.proofs.kept_layers.KeptLayers.list_bare.Goals as goal
 
 pub loop-place-init : goal.loop-place-init
 loop-place-init g c =
@@ -15,6 +14,7 @@ loop-place-init g c =
     record {
       numbered = c.requires.numbered;
       numbers = refl;
+      buckets = refl;
       counts = none_counted pool_slots scene (tiles_in style) (globals_in style) c.args.self.now.numbers.items (trees_in style)
           c.args.self.now.cells.buckets c.args.steps.now c.requires.holds c.requires.right;
       text = lines_first scene (tiles_in style) c.args.out.now.items (layers_seen style.style.now);
@@ -35,12 +35,8 @@ layer-requires g c =
     let is : x ≡ get_or ns k x = c.index.ensures ∙ ap (λ v. get_or v.items k x) i.numbers in
     this_within i.counts x within is (layers_seen c.args.style.now.style.now) c.requires.prepared.prepared
 
-pub list_layer-requires-clause-sound : goal.list_layer-requires-clause-sound
-list_layer-requires-clause-sound g c =
-    c.loop-place.invariant.numbered.sound
-
-pub list_layer-requires-clause-layer : goal.list_layer-requires-clause-layer
-list_layer-requires-clause-layer g c =
+pub write_bare_layer-requires-clause-few : goal.write_bare_layer-requires-clause-few
+write_bare_layer-requires-clause-few g c =
     let ns = c.args.self.now.numbers.items in
     let i = c.loop-place.invariant in
     let k = c.loop-place.place in
@@ -49,7 +45,20 @@ list_layer-requires-clause-layer g c =
     let is : x ≡ get_or ns k x = c.index.ensures ∙ ap (λ v. get_or v.items k x) i.numbers in
     let layer = layer_seen c.layer.result.now in
     let found = this_layer i.counts x within is (layers_seen c.args.style.now.style.now) layer c.requires.prepared.prepared c.layer.ensures in
-    this_kept_layer i.counts x within is layer found c.requires.prepared.few
+    this_few i.counts x within is layer found c.requires.prepared.few
+
+pub write_bare_layer-requires-clause-listable : goal.write_bare_layer-requires-clause-listable
+write_bare_layer-requires-clause-listable g c =
+    let ns = c.args.self.now.numbers.items in
+    let i = c.loop-place.invariant in
+    let k = c.loop-place.place in
+    let x = c.index.result.now in
+    let within : k < length ns = omega (arith, c.loop-place-test.true, c.len-place-end.ensures, c.args.self.now.numbers.ok.0) in
+    let is : x ≡ get_or ns k x = c.index.ensures ∙ ap (λ v. get_or v.items k x) i.numbers in
+    let layer = layer_seen c.layer.result.now in
+    let found = this_layer i.counts x within is (layers_seen c.args.style.now.style.now) layer c.requires.prepared.prepared c.layer.ensures in
+    this_listable i.counts x within is layer found c.filters_are_decided.ensures c.properties_are_given.ensures
+    c.properties_are_read_by_expressions.ensures
 
 pub returns-in_err-more-clause-numbered : goal.returns-in_err-more-clause-numbered
 returns-in_err-more-clause-numbered g c =
@@ -59,9 +68,9 @@ returns-in_err-more-clause-numbered g c =
     let x = c.index.result.now in
     let within : k < length ns = omega (arith, c.loop-place-test.true, c.len-place-end.ensures, c.args.self.now.numbers.ok.0) in
     let is : x ≡ get_or ns k x = c.index.ensures ∙ ap (λ v. get_or v.items k x) i.numbers in
-    let leaves = c.list_layer.ensures.sources in
-    asked_numbered c.loop-place.self c.list_layer.new.self c.list_layer.ensures.numbers c.list_layer.ensures.reads c.list_layer.ensures.states c.list_layer.ensures.sound
-    x leaves (this_there i.counts x within is) i.numbered
+    let same = c.write_bare_layer.ensures.stays in
+    asked_numbered c.loop-place.self _ refl refl refl (subst IsSound (sym same) i.numbered.sound)
+    x (leaves_same x c.loop-place.self.cells.buckets c.write_bare_layer.new.cells.buckets same) (this_there i.counts x within is) i.numbered
 
 pub returns-in_err-more-clause-counts : goal.returns-in_err-more-clause-counts
 returns-in_err-more-clause-counts g c =
@@ -75,14 +84,10 @@ returns-in_err-more-clause-counts g c =
     let is : x ≡ get_or ns k x = c.index.ensures ∙ ap (λ v. get_or v.items k x) i.numbers in
     let layer = layer_seen c.layer.result.now in
     let found = this_layer i.counts x within is (layers_seen c.args.style.now.style.now) layer c.requires.prepared.prepared c.layer.ensures in
-    failed_counts scene (tiles_in style) (globals_in style) (trees_in style) (kept_seen c.args.self.now) c.args.steps.now c.list_layer.new.steps
+    failed_counts scene (tiles_in style) (globals_in style) (trees_in style) (kept_seen c.args.self.now) c.args.steps.now c.write_bare_layer.new.steps
     c.from_residual.result c.from_residual.ensures.0
-    (stops_here i.counts x within is layer found c.filters_are_decided.ensures c.list_layer.new.self.cells.buckets c.list_layer.new.steps
-    c.list_layer.result c.list_layer.ensures.asks)
-
-pub drop_cells-requires : goal.drop_cells-requires
-drop_cells-requires g c =
-    c.list_layer.ensures.sound
+    (bare_stops i.counts x within is layer found (λ cell. ap (λ b. kept_at b cell) i.buckets ∙ c.requires.bare cell) c.write_bare_layer.new.steps
+    c.write_bare_layer.result c.write_bare_layer.ensures.evaluates)
 
 pub returns-in_err-evaluated-clause-numbered : goal.returns-in_err-evaluated-clause-numbered
 returns-in_err-evaluated-clause-numbered g c =
@@ -92,17 +97,9 @@ returns-in_err-evaluated-clause-numbered g c =
     let x = c.index.result.now in
     let within : k < length ns = omega (arith, c.loop-place-test.true, c.len-place-end.ensures, c.args.self.now.numbers.ok.0) in
     let is : x ≡ get_or ns k x = c.index.ensures ∙ ap (λ v. get_or v.items k x) i.numbers in
-    let leaves = c.list_layer.ensures.sources in
-    let asked = c.list_layer.new.self.cells.buckets in
-    let new = c.drop_cells.new.self in
-    let still : Still asked new = record {
-      evaluator = c.drop_cells.ensures.evaluator;
-      source = c.drop_cells.ensures.sources;
-      features = c.drop_cells.ensures.features;
-    } in
-    dropped_numbered c.list_layer.new.self _ refl refl refl c.drop_cells.ensures.sound (Layer x) still c.drop_cells.ensures.kept
-    (asked_numbered c.loop-place.self c.list_layer.new.self c.list_layer.ensures.numbers c.list_layer.ensures.reads c.list_layer.ensures.states c.list_layer.ensures.sound
-    x leaves (this_there i.counts x within is) i.numbered)
+    let same = c.write_bare_layer.ensures.stays in
+    asked_numbered c.loop-place.self _ refl refl refl (subst IsSound (sym same) i.numbered.sound)
+    x (leaves_same x c.loop-place.self.cells.buckets c.write_bare_layer.new.cells.buckets same) (this_there i.counts x within is) i.numbered
 
 pub returns-in_err-evaluated-clause-counts : goal.returns-in_err-evaluated-clause-counts
 returns-in_err-evaluated-clause-counts g c =
@@ -116,20 +113,10 @@ returns-in_err-evaluated-clause-counts g c =
     let is : x ≡ get_or ns k x = c.index.ensures ∙ ap (λ v. get_or v.items k x) i.numbers in
     let layer = layer_seen c.layer.result.now in
     let found = this_layer i.counts x within is (layers_seen c.args.style.now.style.now) layer c.requires.prepared.prepared c.layer.ensures in
-    let law = c.filters_are_decided.ensures in
-    let asked = c.list_layer.new.self.cells.buckets in
-    let leaves = c.list_layer.ensures.sources in
-    let new = c.drop_cells.new.self in
-    let still : Still asked new = record {
-      evaluator = c.drop_cells.ensures.evaluator;
-      source = c.drop_cells.ensures.sources;
-      features = c.drop_cells.ensures.features;
-    } in
-    failed_counts scene (tiles_in style) (globals_in style) (trees_in style) (kept_seen c.args.self.now) c.args.steps.now c.list_layer.new.steps
+    failed_counts scene (tiles_in style) (globals_in style) (trees_in style) (kept_seen c.args.self.now) c.args.steps.now c.write_bare_layer.new.steps
     c.from_residual-in_err-evaluated.result c.from_residual-in_err-evaluated.ensures.0
-    (most_taken (dropped_counts i.counts x within is layer found law asked c.list_layer.new.steps c.requires.numbered.apart c.in_ok-more.more c.in_ok-more.ensures.asks leaves
-    new still c.drop_cells.ensures.kept
-    (c.loop-place.evaluated + c.in_ok-more.more) refl))
+    (bare_stops i.counts x within is layer found (λ cell. ap (λ b. kept_at b cell) i.buckets ∙ c.requires.bare cell) c.write_bare_layer.new.steps
+    c.write_bare_layer.result c.write_bare_layer.ensures.evaluates)
 
 pub loop-place-preserved : goal.loop-place-preserved
 loop-place-preserved g c =
@@ -142,24 +129,17 @@ loop-place-preserved g c =
     let is : x ≡ get_or ns k x = c.index.ensures ∙ ap (λ v. get_or v.items k x) i.numbers in
     let layer = layer_seen c.layer.result.now in
     let found = this_layer i.counts x within is (layers_seen c.args.style.now.style.now) layer c.requires.prepared.prepared c.layer.ensures in
-    let law = c.filters_are_decided.ensures in
-    let asked = c.list_layer.new.self.cells.buckets in
-    let leaves = c.list_layer.ensures.sources in
-    let new = c.drop_cells.new.self in
-    let still : Still asked new = record {
-      evaluator = c.drop_cells.ensures.evaluator;
-      source = c.drop_cells.ensures.sources;
-      features = c.drop_cells.ensures.features;
-    } in
+    let same = c.write_bare_layer.ensures.stays in
     record {
-      numbered = dropped_numbered c.list_layer.new.self _ refl refl refl c.drop_cells.ensures.sound (Layer x) still c.drop_cells.ensures.kept
-          (asked_numbered c.loop-place.self c.list_layer.new.self c.list_layer.ensures.numbers c.list_layer.ensures.reads c.list_layer.ensures.states c.list_layer.ensures.sound
-          x leaves (this_there i.counts x within is) i.numbered);
-      numbers = c.list_layer.ensures.numbers ∙ i.numbers;
-      counts = dropped_counts i.counts x within is layer found law asked c.list_layer.new.steps c.requires.numbered.apart c.in_ok-more.more c.in_ok-more.ensures.asks leaves
-          new still c.drop_cells.ensures.kept
-          c.in_ok-evaluated.evaluated c.in_ok-evaluated.ensures;
-      text = lines_next scene (tiles_in c.args.style.now) c.args.out.now.items c.loop-place.out.items c.list_layer.new.out.items
+      numbered = asked_numbered c.loop-place.self _ refl refl refl (subst IsSound (sym same) i.numbered.sound)
+          x (leaves_same x c.loop-place.self.cells.buckets c.write_bare_layer.new.cells.buckets same) (this_there i.counts x within is) i.numbered;
+      numbers = i.numbers;
+      buckets = same ∙ i.buckets;
+      counts = subst (λ b. CountsFirst pool_slots scene (tiles_in c.args.style.now) (globals_in c.args.style.now) ns (trees_in c.args.style.now)
+          (kept_seen c.args.self.now) (k + 1) b c.in_ok-evaluated.evaluated c.args.steps.now c.write_bare_layer.new.steps) (sym same)
+          (bare_counts i.counts x within is layer found (λ cell. ap (λ b. kept_at b cell) i.buckets ∙ c.requires.bare cell)
+          c.write_bare_layer.new.steps c.in_ok-more.more c.in_ok-more.ensures.evaluates c.in_ok-evaluated.evaluated c.in_ok-evaluated.ensures);
+      text = lines_next scene (tiles_in c.args.style.now) c.args.out.now.items c.loop-place.out.items c.write_bare_layer.new.out.items
           (layers_seen c.args.style.now.style.now) k layer (this_within i.counts x within is (layers_seen c.args.style.now.style.now) c.requires.prepared.prepared)
           c.layer.ensures i.text c.in_ok-more.ensures.lines;
     }

@@ -1,5 +1,5 @@
 use Rattle.edit_findings.proofs.KeyedLaws.{keyed_next, keyed_all}
-use Rattle.edit_findings.proofs.after.note_each.Goals as goal
+use Rattle.edit_findings.proofs.after.layers_have_distinct_members.Goals as goal
 
 pub loop-layer-preserved : goal.loop-layer-preserved
 loop-layer-preserved c =

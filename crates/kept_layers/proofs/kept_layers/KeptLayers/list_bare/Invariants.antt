@@ -1,9 +1,9 @@
-use Rattle.std.proofs.Common.{◌≡◌, ◌++◌, drop, map}
-use Rattle.style_layout.specs.CodeView.{layers_seen, scene_seen}
+use Rattle.std.proofs.Common.{◌≡◌, ◌++◌, drop}
 use Rattle.form_pool.specs.PoolSlots.{pool_slots}
+use Rattle.style_layout.specs.CodeView.{layers_seen, scene_seen}
 use Rattle.kept_layers.proofs.ListLaws.{CountsFirst, lines_of}
 use Rattle.kept_layers.specs.View.{AreNumbered, globals_in, kept_seen, tiles_in, trees_in}
-use Rattle.kept_layers.proofs.kept_layers.KeptLayers.list_and_drop.Given as goal
+use Rattle.kept_layers.proofs.kept_layers.KeptLayers.list_bare.Given as goal
 
 abbrev pub invariant-loop-place : goal.invariant-loop-place
 invariant-loop-place g l =
@@ -13,6 +13,7 @@ invariant-loop-place g l =
     record {
       numbered : AreNumbered l.self;
       numbers : l.self.numbers ≡ l.fn.self.numbers;
+      buckets : l.self.cells.buckets ≡ l.fn.self.cells.buckets;
       counts : CountsFirst pool_slots scene (tiles_in l.style) (globals_in l.style) l.fn.self.numbers.items (trees_in l.style)
           (kept_seen l.fn.self) l.place l.self.cells.buckets l.evaluated l.fn.steps l.steps;
       text : l.out.items ++ lines (drop l.place layers) ≡ l.fn.out.items ++ lines layers;

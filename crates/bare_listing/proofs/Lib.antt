@@ -1,0 +1,10 @@
+pub mod GivenLaws
+pub mod CountLaws
+pub mod OrderLaws
+pub mod CostLaws
+pub mod ValueLaws
+pub mod ListingLaws
+pub mod Pairs
+pub mod RowNumbers
+pub mod LayerCells
+pub mod Counting
