@@ -87,6 +87,14 @@ two_evaluate {bs = bs} {world} {r} {v} {w} op n want l i h j g =
     (subst (GivesValue r) (two_given op (known_arguments n bs world) want [] world (data_of v) (data_of w) (count_known n bs world 2 l) (sym (argument_known op os 0 want [] world) ∙ h.gives) (sym (argument_known op os 1 want [] world) ∙ j.gives)) g)
     (j.stands ∙ h.stands)
 
+-- both are numbers that are known: each is counted, and none is evaluated
+pub two_known : {limit : ℕ} {bs : List Node} {world : World} {r : Result Value (Halt EvalFault)} {x : Workspace} {s t u : ℕ} (op : Operator) (n left right : Node) (want : Want) (v w : Value) → ((k : ℕ) → is_sequence (row (operator_name op)).sequence k ≡ false) → length (children n) ≡ 2 → IsReady limit bs world x → slice_get (children n) 0 ≡ Some left → slice_get (children n) 1 ≡ Some right → t ≡ s + 1 → u ≡ t + 1 → outcome left (promises bs world) world ≡ Ok (data_of v) → outcome right (promises bs world) world ≡ Ok (data_of w) → GivesValue r (made_of op want world (data_of v ∷ data_of w ∷ [])) → EvaluatesNode limit bs world r (each_of op (known_arguments n bs world) want [] world) (total_size (children n)) x x s u
+two_known op n left right want v w plain len i d e p q f g made =
+    two_evaluate op n want len i
+    (plain_evaluates op n left 0 (plain 0) d (given {r = Ok v} 1 (size left) i (ticked i p) (size_pos left) f refl))
+    (plain_evaluates op n right 1 (plain 1) e (given {r = Ok w} 1 (size right) i (ticked i q) (size_pos right) g refl))
+    made
+
 pub first_halts : {limit : ℕ} {bs : List Node} {world : World} {r : Result Value (Halt EvalFault)} {h : Halt EvalFault} {x y : Workspace} {s t : ℕ} (op : Operator) (n : Node) (want : Want) → length (children n) ≡ 2 → IsReady limit bs world x → EvaluatesNode limit bs world (Err h) (argument_in op (arguments_of n bs world) 0) (size_in (children n) 0) x y s t → IsErrAnd r (λ k. k ≡ h) → EvaluatesNode limit bs world r (each_of op (known_arguments n bs world) want [] world) (total_size (children n)) x y s t
 first_halts {bs = bs} {world} {r} {h} op n want l i e k =
     let w = size_total (children n) 0 in

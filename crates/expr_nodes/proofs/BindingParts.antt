@@ -1,7 +1,7 @@
 -- What is given of a binding that is asked for.
-use Rattle.std.proofs.Common.{◌≡◌, ◌∙◌, ℕ, ◌+◌, ◌<◌, ◌≤◌, Result, Ok, Err, Some, None, IsErrAnd, List, length, set, arith, refl, subst, sym, ap}
+use Rattle.std.proofs.Common.{◌≡◌, ◌∙◌, ℕ, ℤ, ◌+◌, ◌<◌, ◌≤◌, Result, Ok, Err, Some, None, IsErrAnd, List, length, set, arith, refl, subst, sym, ap}
 use Rattle.std.specs.List.{slice_get}
-use Rattle.prop_values.specs.Data.{Data}
+use Rattle.prop_values.specs.Data.{Data, number}
 use Rattle.prop_values.specs.View.{data_of}
 use Rattle.prop_values.specs.declared.fault.EvalFault.{EvalFault}
 use Rattle.prop_values.specs.declared.kinds.Want.{Want}
@@ -12,7 +12,7 @@ use Rattle.halts.specs.declared.halt.Halt.TheVariants.{NoMemory}
 use Rattle.operator_values.specs.Evaluated.{Evaluated, GivesValue, then_value}
 use Rattle.operator_rules.proofs.Halts.{then_halted}
 use Rattle.eval_face.specs.World.{World}
-use Rattle.expr_nodes.specs.Node.{Node, size}
+use Rattle.expr_nodes.specs.Node.{Node, asked, size}
 use Rattle.expr_nodes.specs.Outcome.{outcome, promised, promises}
 use Rattle.expr_nodes.specs.Slots.{HoldPromises, pending, done_in}
 use Rattle.expr_nodes.specs.EvaluatesNode.{IsReady, HasProgressed, EvaluatesNode, outcome_at}
@@ -43,6 +43,25 @@ asked_before {bs = bs} {world} {r} {x} slot want d i e g =
     given 0 0 i (begun i) (omega arith)
     (subst (GivesValue r) (sym (ap (λ o. then_value o (fit want)) (kept_done (promises bs world) x.slots.items slot d i.kept (sym e)))) g)
     refl
+
+-- a constant needs no evaluation, and is not kept
+pub asked_constant : {limit : ℕ} {bs : List Node} {world : World} {r : Result Value (Halt EvalFault)} {x : Workspace} {s : ℕ} (slot : ℕ) (want : Want) (b : Node) (d : Data) → slice_get bs slot ≡ Some b → IsReady limit bs world x → outcome b (promises bs world) world ≡ Ok d → GivesValue r (fit want d) → EvaluatesNode limit bs world r (then_value (outcome_at (promises bs world) slot) (fit want)) 0 x x s s
+asked_constant {r = r} slot want b d e i m g =
+    given 0 0 i (begun i) (omega arith)
+    (subst (GivesValue r) (sym (ap (λ o. then_value o (fit want)) (binding_outcome slot b e i ∙ m))) g)
+    refl
+
+-- a number that was asked for before
+pub asked_number : {limit : ℕ} {bs : List Node} {world : World} {x : Workspace} (n : Node) (slot : ℕ) (want : Want) (z : ℤ) → n ≡ asked slot want → IsReady limit bs world x → Some (number z) ≡ done_in (slice_get x.slots.items slot) → fit want (number z) ≡ Ok (number z) → outcome n (promises bs world) world ≡ Ok (number z)
+asked_number {bs = bs} {world} {x} n slot want z q i e f =
+    ap (λ o. outcome o (promises bs world) world) q
+    ∙ (ap (λ o. then_value o (fit want)) (kept_done (promises bs world) x.slots.items slot (number z) i.kept (sym e)) ∙ f)
+
+-- a number that is a constant
+pub constant_asked : {limit : ℕ} {bs : List Node} {world : World} {x : Workspace} (n b : Node) (slot : ℕ) (want : Want) (z : ℤ) → n ≡ asked slot want → slice_get bs slot ≡ Some b → IsReady limit bs world x → outcome b (promises bs world) world ≡ Ok (number z) → fit want (number z) ≡ Ok (number z) → outcome n (promises bs world) world ≡ Ok (number z)
+constant_asked {bs = bs} {world} n b slot want z q e i m f =
+    ap (λ o. outcome o (promises bs world) world) q
+    ∙ (ap (λ o. then_value o (fit want)) (binding_outcome slot b e i ∙ m) ∙ f)
 
 -- it waits, and costs what it is
 waits : {limit : ℕ} {bs : List Node} {world : World} {x : Workspace} (slot : ℕ) (b : Node) → slot < limit → slice_get bs slot ≡ Some b → IsReady limit bs world x → done_in (slice_get x.slots.items slot) ≡ None → pending slot bs x.slots.items + size b ≤ pending limit bs x.slots.items

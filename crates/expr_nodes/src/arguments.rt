@@ -23,7 +23,7 @@ use std::sync::ledger::Ledger;
 
 impl Workspace {
     /// A node whose operator evaluates all its arguments. The values of up to two take no memory, where none has to be a text or
-    /// a list.
+    /// a list, and two numbers that are known no evaluation.
     #[tactic(auto, using(crate::proofs::NodeLaws::below_at, crate::proofs::NodeLaws::child_size))]
     #[cycle(nodes)]
     pub(crate) fn evaluate_each<N: NodeHandle, B: Bindings<N>, W: WorldView, L: Ledger>(
@@ -57,6 +57,18 @@ impl Workspace {
             2 => {
                 let left = tree.child(0);
                 let right = tree.child(1);
+                if let Some(known) = self.numbers_known(&left, &right, around) {
+                    steps.tick();
+                    steps.tick();
+                    return pair_value(
+                        self.alloc,
+                        op,
+                        Value::Num(known.0),
+                        Value::Num(known.1),
+                        want,
+                        around.world,
+                    );
+                }
                 let first = self.evaluate_node(left, around, steps)?;
                 let second = self.evaluate_node(right, around, steps)?;
                 pair_value(self.alloc, op, first, second, want, around.world)

@@ -49,8 +49,8 @@ pub(crate) fn number_there<N: NodeHandle, W: WorldView>(
     }
 }
 
-// Whether a number is wanted, or anything.
-fn takes_numbers(want: &Want) -> bool
+/// Whether a number is wanted, or anything.
+pub(crate) fn takes_numbers(want: &Want) -> bool
     ensures { result ≡ true → (z : ℤ) → fit want.now (number z) ≡ Ok (number z) }
 {
     matches!(want, Want::Any | Want::Number)

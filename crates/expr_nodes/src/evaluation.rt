@@ -11,7 +11,7 @@ ghost use Rattle.expr_nodes.specs.Limits.{AsksBelow, EachAsksBelow, AskEarlier, 
 ghost use Rattle.expr_nodes.specs.EvaluatesNode.{IsReady, EvaluatesNode, known_arguments, outcome_at};
 
 use crate::access::{Bindings, NodeForm, NodeHandle};
-use crate::borrowed::number_there;
+use crate::borrowed::{constant_in, number_there};
 use crate::leaves::property_value;
 use crate::workspace::Workspace;
 use expr_syntax::Operator;
@@ -107,7 +107,8 @@ impl Workspace {
         }
     }
 
-    // What a binding gives, fitted. What it gave when it was first asked for is kept.
+    // What a binding gives, fitted. What it gave when it was first asked for is kept; a constant needs neither an evaluation
+    // nor a copy that is kept.
     #[tactic(auto, using(crate::proofs::NodeLaws::below_at, crate::proofs::NodeLaws::child_size))]
     #[cycle(nodes)]
     fn evaluate_asked<N: NodeHandle, B: Bindings<N>, W: WorldView, L: Ledger>(
@@ -129,6 +130,10 @@ impl Workspace {
         if let Some(value) = self.kept(slot) {
             return fitted_copy(self.alloc, value, want);
         }
+        let binding = around.bindings.binding(slot);
+        if let Some(value) = constant_in(&binding) {
+            return fitted_copy(self.alloc, value, want);
+        }
         if around.open_left == 0 {
             return Err(Halt::NoMemory);
         }
@@ -138,7 +143,7 @@ impl Workspace {
             limit: slot,
             open_left: around.open_left - 1,
         };
-        let value = self.evaluate_node(around.bindings.binding(slot), &inner, steps)?;
+        let value = self.evaluate_node(binding, &inner, steps)?;
         self.keep(slot, &value)?;
         fitted(self.alloc, value, want)
     }

@@ -46,6 +46,7 @@ mod boxed_node;
 mod branches;
 mod evaluation;
 mod evaluator;
+mod known_numbers;
 mod laws;
 mod leaves;
 mod workspace;

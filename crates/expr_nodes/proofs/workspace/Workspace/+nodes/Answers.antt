@@ -5,6 +5,7 @@ use Rattle.std.specs.declared.alloc.Global.{Global}
 use Rattle.prop_values.specs.Data.{pairs_of}
 use Rattle.prop_values.specs.View.{data_of}
 use Rattle.prop_values.specs.declared.value.Value.{Value}
+use Rattle.prop_values.specs.declared.value.Value.TheVariants.{Num}
 use Rattle.prop_values.specs.declared.kinds.Want.TheVariants.{Any}
 use Rattle.property_tables.specs.Fitting.{fit}
 use Rattle.expr_syntax.specs.Chosen.{output_of}
@@ -30,8 +31,8 @@ use Rattle.expr_nodes.specs.EvaluatesNode.{IsReady, arguments_of, known_argument
 use Rattle.expr_nodes.proofs.NodeLaws.{inner_outcome, inner_size, inner_below, asked_below, size_pos, below_at, child_size, size_at, outcomes_length, outcome_here, outcome_none, argument_is, argument_known, take_within}
 use Rattle.expr_nodes.proofs.SlotLaws.{reach_at}
 use Rattle.expr_nodes.proofs.Composing.{begun, ticked, cheaper, given, halts, ended}
-use Rattle.expr_nodes.proofs.BindingParts.{slot_within, binding_ready, asked_before, asked_halts, asked_fails, asked_evaluates}
-use Rattle.expr_nodes.proofs.ArgumentParts.{plain_evaluates, none_evaluates, one_evaluates, one_halts, two_evaluate, first_halts, second_halts, values_begin, values_halt, values_fail, one_further, many_halts, many_evaluates, deciding_borrows, deciding_halts, deciding_evaluates, decides_later, none_decides}
+use Rattle.expr_nodes.proofs.BindingParts.{slot_within, binding_ready, asked_before, asked_constant, asked_halts, asked_fails, asked_evaluates}
+use Rattle.expr_nodes.proofs.ArgumentParts.{plain_evaluates, none_evaluates, one_evaluates, one_halts, two_evaluate, two_known, first_halts, second_halts, values_begin, values_halt, values_fail, one_further, many_halts, many_evaluates, deciding_borrows, deciding_halts, deciding_evaluates, decides_later, none_decides}
 use Rattle.expr_nodes.proofs.BranchParts.{count_here, no_match, no_step, no_ramp, case_any, match_any, step_any, case_halts, case_faults, case_chooses, case_later, case_further, case_ends, case_fails, input_halts, input_fails, output_follows, output_alone, input_gives, match_halted, match_with, step_halted, step_with, ramp_halted, ramp_with, ramp_halts, ramp_evaluates, stop_alone, lower_halts, upper_halts, both_evaluate, both_there}
 use Rattle.expr_nodes.proofs.workspace.Workspace.+nodes.Goals as goal
 
@@ -151,18 +152,18 @@ pub evaluate_asked-evaluate_node-requires : goal.evaluate_asked-evaluate_node-re
 evaluate_asked-evaluate_node-requires g t c =
     let bs = g.B.Bindings.listed c.args.around.now.bindings.now in
     let world = g.W.WorldView.world c.args.around.now.world.now in
-    let b = g.N.NodeHandle.node c.binding.result in
+    let b = g.N.NodeHandle.node c.binding-binding.result in
     let slot = c.args.slot in
     let d = c.decreases in
-    let r = reach_at c.args.around.now.limit slot bs b c.requires.below c.binding.ensures in
+    let r = reach_at c.args.around.now.limit slot bs b c.requires.below c.binding-binding.ensures in
     let smaller : 6 * size b + reach slot bs < t = omega arith in
-    search (rules, smaller, c.requires.ready.earlier slot b c.binding.ensures, binding_ready slot c.requires.below c.requires.ready)
+    search (rules, smaller, c.requires.ready.earlier slot b c.binding-binding.ensures, binding_ready slot c.requires.below c.requires.ready)
 
 pub evaluate_asked-returns-in_err-value : goal.evaluate_asked-returns-in_err-value
 evaluate_asked-returns-in_err-value g t c =
     let bs = g.B.Bindings.listed c.args.around.now.bindings.now in
     let world = g.W.WorldView.world c.args.around.now.world.now in
-    asked_halts c.args.slot c.args.want.now (g.N.NodeHandle.node c.binding.result) c.requires.below c.binding.ensures c.requires.ready (sym c.in_default.ensures) c.in_err-value.ensures.all c.from_residual.ensures.1
+    asked_halts c.args.slot c.args.want.now (g.N.NodeHandle.node c.binding-binding.result) c.requires.below c.binding-binding.ensures c.requires.ready (sym c.in_default.ensures) c.in_err-value.ensures.all c.from_residual.ensures.1
 
 pub evaluate_asked-keep-requires : goal.evaluate_asked-keep-requires
 evaluate_asked-keep-requires g t c =
@@ -175,13 +176,19 @@ pub evaluate_asked-returns-in_err-keep : goal.evaluate_asked-returns-in_err-keep
 evaluate_asked-returns-in_err-keep g t c =
     let bs = g.B.Bindings.listed c.args.around.now.bindings.now in
     let world = g.W.WorldView.world c.args.around.now.world.now in
-    asked_fails c.args.slot c.args.want.now (g.N.NodeHandle.node c.binding.result) c.requires.below c.binding.ensures c.requires.ready (sym c.in_default.ensures) c.in_ok-value.ensures.all c.from_residual-in_err-keep.ensures.1
+    asked_fails c.args.slot c.args.want.now (g.N.NodeHandle.node c.binding-binding.result) c.requires.below c.binding-binding.ensures c.requires.ready (sym c.in_default.ensures) c.in_ok-value.ensures.all c.from_residual-in_err-keep.ensures.1
 
 pub evaluate_asked-returns : goal.evaluate_asked-returns
 evaluate_asked-returns g t c =
     let bs = g.B.Bindings.listed c.args.around.now.bindings.now in
     let world = g.W.WorldView.world c.args.around.now.world.now in
-    asked_evaluates c.args.slot c.args.want.now (g.N.NodeHandle.node c.binding.result) c.requires.below c.binding.ensures c.requires.ready (sym c.in_default.ensures) c.in_ok-value.ensures.all c.in_ok-keep.ensures.slots (ap (λ (x : Vec Value Global). x.items) c.in_ok-keep.ensures.values) c.fitted.ensures
+    asked_evaluates c.args.slot c.args.want.now (g.N.NodeHandle.node c.binding-binding.result) c.requires.below c.binding-binding.ensures c.requires.ready (sym c.in_default.ensures) c.in_ok-value.ensures.all c.in_ok-keep.ensures.slots (ap (λ (x : Vec Value Global). x.items) c.in_ok-keep.ensures.values) c.fitted.ensures
+
+pub evaluate_asked-returns-in-Some-constant_in : goal.evaluate_asked-returns-in-Some-constant_in
+evaluate_asked-returns-in-Some-constant_in g t c =
+    let bs = g.B.Bindings.listed c.args.around.now.bindings.now in
+    let world = g.W.WorldView.world c.args.around.now.world.now in
+    asked_constant c.args.slot c.args.want.now (g.N.NodeHandle.node c.binding-binding.result) (data_of c.in-Some-constant_in.value.now) c.binding-binding.ensures c.requires.ready (c.in-Some-constant_in.ensures (promises bs world) world) c.fitted_copy-in-Some-constant_in.ensures
 
 -- A node by the rule of its operator.
 
@@ -294,6 +301,16 @@ evaluate_each-returns-in_ok-value-in-1 g t c =
     let only = plain_evaluates op n (g.N.NodeHandle.node c.child-argument.result) 0 (plain 0) c.child-argument.ensures c.in_ok-value-in-1.ensures.all in
     one_evaluates op n c.args.want.now len c.requires.ready only c.node_value-in-1.ensures
 
+pub evaluate_each-returns-in-Some : goal.evaluate_each-returns-in-Some
+evaluate_each-returns-in-Some g t c =
+    let n = g.N.NodeHandle.node c.args.tree in
+    let bs = g.B.Bindings.listed c.args.around.now.bindings.now in
+    let world = g.W.WorldView.world c.args.around.now.world.now in
+    let plain = c.has_sequence.ensures c.if-has_sequence.false in
+    let len = sym c.count.ensures ∙ c.in-2.is in
+    two_known c.args.op.now n (g.N.NodeHandle.node c.child-left.result) (g.N.NodeHandle.node c.child-right.result) c.args.want.now (Num c.in-Some.known.0) (Num c.in-Some.known.1) plain len c.requires.ready
+    c.child-left.ensures c.child-right.ensures c.tick.ensures c.tick-in-Some.ensures c.in-Some.ensures.left c.in-Some.ensures.right c.pair_value.ensures
+
 pub evaluate_each-returns-in_err-first-in-2 : goal.evaluate_each-returns-in_err-first-in-2
 evaluate_each-returns-in_err-first-in-2 g t c =
     let n = g.N.NodeHandle.node c.args.tree in
@@ -327,7 +344,7 @@ evaluate_each-returns-in_ok-second-in-2 g t c =
     let len = sym c.count.ensures ∙ c.in-2.is in
     let before = plain_evaluates op n (g.N.NodeHandle.node c.child-left.result) 0 (plain 0) c.child-left.ensures c.in_ok-first-in-2.ensures.all in
     let later = plain_evaluates op n (g.N.NodeHandle.node c.child-right.result) 1 (plain 1) c.child-right.ensures c.in_ok-second-in-2.ensures.all in
-    two_evaluate op n c.args.want.now len c.requires.ready before later c.pair_value.ensures
+    two_evaluate op n c.args.want.now len c.requires.ready before later c.pair_value-in-2.ensures
 
 pub evaluate_many-returns-in_err-evaluate_values : goal.evaluate_many-returns-in_err-evaluate_values
 evaluate_many-returns-in_err-evaluate_values g t c =
