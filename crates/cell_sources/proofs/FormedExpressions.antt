@@ -3,12 +3,10 @@ use Rattle.std.proofs.Common.{◌≡◌, ℕ, List, refl, ap, sym, subst, ◌∙
 use Rattle.std.specs.Prelude.{IfSome, Ok, Option, Some, None, option_map, unwrap_or}
 use Rattle.decimal_json.specs.Tree.{Tree}
 use Rattle.prop_values.specs.Data.{Data}
-use Rattle.prop_values.specs.declared.kinds.Want.TheVariants as wants
 use Rattle.property_tables.specs.Rows.{RowData}
 use Rattle.expr_syntax.specs.Reading.{reading_with}
 use Rattle.expr_syntax.specs.ReadView.{uses_globals}
 use Rattle.expr_syntax.specs.Term.{Term}
-use Rattle.legacy_filters.specs.Form as filters
 use Rattle.legacy_filters.specs.View.{filter_of}
 use Rattle.legacy_filters.specs.declared.filter.LegacyFilter.{LegacyFilter}
 use Rattle.legacy_functions.specs.Tokens.{token_expression}
@@ -21,7 +19,7 @@ use Rattle.form_pool.specs.declared.legacy_form.LegacyForm.{LegacyForm}
 use Rattle.form_pool.specs.declared.legacy_form.LegacyForm.TheVariants.{Filter, Function, Tokens}
 use Rattle.asked_cells.specs.Expressions.{CellExpression}
 use Rattle.cell_sources.specs.CellExpressions.{expression_of_filter, expression_of_value, filter_read, term_read, value_read}
-use Rattle.cell_sources.specs.Views.{IsFormAs, IsFormOf, expression_seen}
+use Rattle.cell_sources.specs.Views.{IsFormOf, expression_seen}
 use Rattle.cell_sources.specs.declared.expressions.ItemExpression.{ItemExpression}
 
 same_some : {A : Type 0} (a b : A) → Some a ≡ Some b → a ≡ b

@@ -1,4 +1,5 @@
 pub mod SourcedLaws
+pub mod RenewLaws
 pub mod ValueExpressions
 pub mod FilterExpressions
 pub mod LayerProperties

@@ -24,18 +24,18 @@ get_front [] ys i h = absurd (omega (arith, h))
 get_front (x ∷ xs) ys zero h = refl
 get_front (x ∷ xs) ys (suc i) h = get_front xs ys i (omega (arith, h))
 
-get_new : {A : Type 0} (xs : List A) (y : A) → slice_get (xs ++ y ∷ []) (length xs) ≡ Some y
+pub get_new : {A : Type 0} (xs : List A) (y : A) → slice_get (xs ++ y ∷ []) (length xs) ≡ Some y
 get_new [] y = refl
 get_new (x ∷ xs) y = get_new xs y
 
-abbrev number_of : ℕ → CellItem → ℕ
+abbrev pub number_of : ℕ → CellItem → ℕ
 number_of other items.Filter = other
 number_of other (items.Property n) = n
 
-property_number : (m n : ℕ) → items.Property m ≡ items.Property n → m ≡ n
+pub property_number : (m n : ℕ) → items.Property m ≡ items.Property n → m ≡ n
 property_number m n same = ap (number_of m) same
 
-below_or_past : (n count : ℕ) → (n < count) ⊎ (count ≤ n)
+pub below_or_past : (n count : ℕ) → (n < count) ⊎ (count ≤ n)
 below_or_past n zero = inr (omega arith)
 below_or_past zero (suc count) = inl (omega arith)
 below_or_past (suc n) (suc count) = step (below_or_past n count) where
@@ -43,7 +43,7 @@ below_or_past (suc n) (suc count) = step (below_or_past n count) where
   step (inl h) = inl (omega (arith, h))
   step (inr h) = inr (omega (arith, h))
 
-below_or_last : (n count : ℕ) → n < count + 1 → (n ≡ count) ⊎ (n < count)
+pub below_or_last : (n count : ℕ) → n < count + 1 → (n ≡ count) ⊎ (n < count)
 below_or_last n count h = step (below_or_past n count) where
   step : (n < count) ⊎ (count ≤ n) → (n ≡ count) ⊎ (n < count)
   step (inl less) = inr less

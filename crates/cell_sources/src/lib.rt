@@ -16,6 +16,9 @@
 //!   its sources, and all other layers are as they were.
 //! - `set_item` drops the values of one item, whatever source it had, and gives it the source of its expression, or
 //!   none. All other items and layers stay. Where an allocation fails, the item has no source and no kept value.
+//! - `clear_expressions` empties the evaluator, and `renew_sources` puts the expressions of a layer into it anew, so that
+//!   those of items that were edited do not stay in it. No value is kept or dropped by them, and no source says another thing
+//!   of its expression; only numbers change.
 //! - An item's expression gives what the layout lists for it, a value or its fault (`expressions_give_values`,
 //!   `properties_are_given`), and reads the feature or its state exactly where the value is listed with each feature
 //!   (`properties_are_read_by_expressions`). That of a filter says which features pass (`expressions_decide_filters`):
@@ -29,10 +32,12 @@
 
 mod expressions;
 mod laws;
+mod renewing;
 mod sources;
 
 pub use laws::{
     cells_mean_the_same, expressions_decide_filters, expressions_give_values, filters_are_decided,
     globals_change_no_other, properties_are_given, properties_are_read_by_expressions,
 };
+pub use renewing::{clear_expressions, renew_sources};
 pub use sources::{LayerValues, add_sources, set_item};

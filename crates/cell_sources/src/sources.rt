@@ -135,7 +135,7 @@ fn add_property(
 
 // The expression of the property of a row's number.
 #[tactic(auto, using(crate::proofs::LayerProperties::table_row))]
-fn property_expression(
+pub(crate) fn property_expression(
     alloc: Global,
     layer: &LayerValues<'_>,
     row: u16,
@@ -178,7 +178,7 @@ fn row_expression(
     }
 }
 
-fn layer_filter(
+pub(crate) fn layer_filter(
     alloc: Global,
     layer: &LayerValues<'_>,
 ) -> Result<Option<ItemExpression>, AllocError>
@@ -269,7 +269,7 @@ fn add_source(
 
 // Puts what gives the values of an item after what the evaluator has: a legacy form, and an expression where there is none.
 #[tactic(auto, using(form_pool::proofs::FormLaws::sized_as))]
-fn put_item(
+pub(crate) fn put_item(
     alloc: Global,
     expression: Expr,
     want: Want,

@@ -1,12 +1,13 @@
 //! The findings of an edited document.
 
-ghost use Rattle.std.specs.Prelude.{◌≡◌, ◌<◌, [], length, map, None, IfOk, IfSome};
+ghost use Rattle.std.specs.Prelude.{◌≡◌, ◌<◌, [], length, map, false, None, IfOk, IfSome, IsOk};
 ghost use Rattle.std.specs.Option.{option_and_then};
 ghost use Rattle.decimal_json.specs.View.{items_view, tree_of};
 ghost use Rattle.edit_script.specs.View.{command_seen};
 ghost use Rattle.style_edits.specs.Edited.{edited};
 ghost use Rattle.style_edits.specs.Faults.{edit_fault};
 ghost use Rattle.style_edits.specs.Layers.{layer_list};
+ghost use Rattle.style_edits.specs.Needs.{takes_memory};
 ghost use Rattle.style_edits.specs.Places.{added_id, layer_place, places_of};
 ghost use Rattle.style_rules.specs.CodeView.{finding_seen};
 ghost use Rattle.style_rules.specs.Findings.{findings};
@@ -21,7 +22,8 @@ use std::alloc::{AllocError, Global};
 use style_edits::{EditPlaces, edit_places};
 use style_rules::{Findings, documents_have_distinct_members};
 
-/// The findings that a document without findings has after an edit without fault. The document is not edited.
+/// The findings that a document without findings has after an edit without fault. The document is not edited. Only an edit that
+/// puts something into it takes memory.
 pub fn findings_after(
     alloc: Global,
     document: &Json,
@@ -29,7 +31,8 @@ pub fn findings_after(
 ) -> Result<Findings, AllocError>
     requires sound { findings (tree_of document.now) ≡ [] }
     requires possible { edit_fault (tree_of document.now) (command_seen command.now) ≡ None }
-    ensures { IfOk result (λ found. map finding_seen found ≡ findings (edited (tree_of document.now) (command_seen command.now))) }
+    ensures found { IfOk result (λ found. map finding_seen found ≡ findings (edited (tree_of document.now) (command_seen command.now))) }
+    ensures memory { takes_memory (command_seen command.now) ≡ false → IsOk result }
 {
     note_keys(document, command);
     let places = edit_places(document, command);
@@ -48,7 +51,8 @@ pub fn findings_at(
     requires possible { edit_fault (tree_of document.now) (command_seen command.now) ≡ None }
     requires places { places ≡ places_of (tree_of document.now) (command_seen command.now) }
     requires keys { HasKeysFor (command_seen command.now) (layer_list (tree_of document.now)) }
-    ensures { IfOk result (λ found. map finding_seen found ≡ findings (edited (tree_of document.now) (command_seen command.now))) }
+    ensures found { IfOk result (λ found. map finding_seen found ≡ findings (edited (tree_of document.now) (command_seen command.now))) }
+    ensures memory { takes_memory (command_seen command.now) ≡ false → IsOk result }
 {
     documents_have_distinct_members(document);
     found_by_edit(alloc, document, places, command)
@@ -63,7 +67,8 @@ fn found_by_edit(
     requires layer { IfSome places.layer (λ i. i < length (layer_list (tree_of document.now))) }
     requires before { IfSome places.before (λ i. i < length (layer_list (tree_of document.now))) }
     requires same { places.same ≡ option_and_then (layer_place (layer_list (tree_of document.now))) (added_id (command_seen command.now)) }
-    ensures { IfOk result (λ found. map finding_seen found ≡ found_by_edit (tree_of document.now) places (command_seen command.now)) }
+    ensures found { IfOk result (λ found. map finding_seen found ≡ found_by_edit (tree_of document.now) places (command_seen command.now)) }
+    ensures memory { takes_memory (command_seen command.now) ≡ false → IsOk result }
 {
     match command {
         Command::SetPaint(_, name, value) => {

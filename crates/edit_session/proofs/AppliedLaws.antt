@@ -1,5 +1,5 @@
 -- What an edit of layers or of states gives.
-use Rattle.std.proofs.Common.{◌≡◌, ℕ, List, [], ◌∷◌, map, refl, ap, sym, ◌∙◌, Bool, true}
+use Rattle.std.proofs.Common.{◌≡◌, ℕ, List, [], ◌∷◌, map, refl, ap, sym, ◌∙◌, Bool, true, false}
 use Rattle.std.specs.Prelude.{slice_get, Option, Some, None, option_map, if◌then◌else◌}
 use Rattle.std.specs.Option.{option_or}
 use Rattle.decimal_json.specs.Tree.{Tree}
@@ -12,6 +12,7 @@ use Rattle.prop_values.specs.Data.{Data, pairs_of}
 use Rattle.prop_values.proofs.ViewLaws.{entries_of-pairs_of}
 use Rattle.style_edits.specs.Edited.{edited}
 use Rattle.style_edits.specs.Faults.{edit_fault}
+use Rattle.style_edits.specs.Needs.{takes_memory}
 use Rattle.style_edits.specs.declared.faults.EditFault.{EditFault}
 use Rattle.style_layout.specs.Layers.{style_layers}
 use Rattle.style_layout.specs.Shown.{SourceTile}
@@ -20,7 +21,7 @@ use Rattle.style_rules.specs.CodeView.{finding_seen}
 use Rattle.style_rules.specs.Findings.{findings}
 use Rattle.style_rules.specs.declared.lists.Finding.{Finding}
 use Rattle.edit_session.proofs.GlobalCells.{values_change_no_cell}
-use Rattle.edit_session.specs.Applied.{FeatureStates, first_finding, limit_refusal, done, refused, refusal_of, whole_refusal, edits_layers, unless_refused, tell_count_after}
+use Rattle.edit_session.specs.Applied.{FeatureStates, first_finding, limit_refusal, done, refused, refusal_of, whole_refusal, edits_layers, unless_refused, needs_no_memory, tell_count_after}
 use Rattle.edit_session.specs.Answering.{unfollowed}
 use Rattle.edit_session.specs.SessionState.{SessionState}
 use Rattle.edit_session.specs.declared.answer.Refusal.{Refusal}
@@ -162,3 +163,22 @@ module _ (tiles : List SourceTile) (scripts : List ℕ → Bool) (can_change : B
       (λ k. (record p { states = λ a b i. made a b i k }, done))
       ∙ ((λ k. (record p { states = λ a b i. if same_feature (es k) (el k) id a b i then merged (p.states a b i) (same k) else p.states a b i }, done))
       ∙ accepted _ None p _ h refl)
+
+-- a command that takes no memory puts nothing into the document
+pub none_taken : (e : Edit) → needs_no_memory e ≡ true → takes_memory e ≡ false
+none_taken edits.stats h = refl
+none_taken (edits.set_zoom zoom) h = refl
+none_taken (edits.remove_state source layer id key) h = refl
+none_taken (edits.remove_layer id) h = refl
+none_taken (edits.move_layer id before) h = refl
+none_taken edits.list h = refl
+none_taken edits.style h = refl
+none_taken (edits.set_state source layer id members) h = refl
+none_taken (edits.add_image name) h = refl
+none_taken (edits.remove_image name) h = refl
+none_taken (edits.set_global name value) h = refl
+none_taken (edits.set_paint layer name value) h = cc
+none_taken (edits.set_layout layer name value) h = cc
+none_taken (edits.set_filter layer filter) h = cc
+none_taken (edits.set_range layer min max) h = cc
+none_taken (edits.add_layer layer before) h = cc

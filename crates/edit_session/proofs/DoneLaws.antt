@@ -59,7 +59,7 @@ module _ (s mid : Session) (images₀ images₁ scripts : List ℕ → Bool) (ca
       right = subst (λ (x : List SourceTile × KeptLayers). IsKept x.0 scripts before x.1) (λ i. (sym tiles i, sym kept i)) k;
     }
 
-    module _ (new : Session) (others : new ≡ record mid { kept = new.kept })
+    module _ (new : Session) (others : new ≡ record mid { indexes = new.indexes; kept = new.kept })
         (seen : kept_seen new.kept ≡ kept_left (tiles_of mid) (session_state s images₀) e) where
       pub done_answered : (session_state new images₁, r) ≡ applied (tiles_of s) scripts can_change (session_state s images₀) e
       done_answered =

@@ -192,6 +192,16 @@ edits_layers (edits.remove_layer id) = true
 edits_layers (edits.move_layer id before) = true
 edits_layers _ = false
 
+-- A command in which no allocation has to succeed: layers go or move, the zoom changes, a state is removed, the number of
+-- evaluations is asked. Source: own.
+abbrev pub needs_no_memory : Edit → Bool
+needs_no_memory edits.stats = true
+needs_no_memory (edits.set_zoom zoom) = true
+needs_no_memory (edits.remove_state source layer id key) = true
+needs_no_memory (edits.remove_layer id) = true
+needs_no_memory (edits.move_layer id before) = true
+needs_no_memory _ = false
+
 -- The document that an edit makes is refused. Every other edit leaves the document, and as many cells as there were:
 -- so no value of the global state is refused.
 abbrev pub document_refusal : List SourceTile → SessionState → Edit → Option Refusal

@@ -3,6 +3,7 @@ use Rattle.std.specs.Prelude.{◌≡◌, ◌≤◌, ℕ, List, [], ◌∷◌, ma
 use Rattle.decimal_json.specs.Tree.{Tree}
 use Rattle.decimal_json.specs.View.{tree_of}
 use Rattle.expr_nodes.specs.Evaluators.{Sized}
+use Rattle.feature_index.specs.Indexes.{AreIndexed}
 use Rattle.feature_states.specs.Members.{members_at}
 use Rattle.global_laws.specs.GlobalLaw.{items_name_globals}
 use Rattle.kept_layers.specs.View.{AreNumbered, HoldsLayers, IsRightIn, kept_seen}
@@ -96,11 +97,11 @@ pub record IsWholeDocument (tiles : List SourceTile) (globals : List (List ℕ �
   pub is_counted : layers.cells ≡ cell_count tiles (style_layers globals document)
   pub is_noted : layers.reads_globals ≡ false → reads_globals document ≡ false
 
--- so it is with a session's document, whose layers have marks
+-- so it is with a session's document; and its marks are those of the layers, and its indexes those of the features of its tiles
 abbrev pub IsReady : Session → Type 0
 IsReady session =
     IsWholeDocument (tiles_of session) session.globals (tree_of session.document) session.layers
-    × AreMarks session.marks (layer_list (tree_of session.document))
+    × (AreMarks session.marks (layer_list (tree_of session.document)) × AreIndexed (tiles_of session) session.indexes)
 
 -- ---- what is kept
 

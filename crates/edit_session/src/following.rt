@@ -1,12 +1,13 @@
 //! How what is kept follows a command that was done.
 
-ghost use Rattle.std.specs.Prelude.{◌≡◌, ℕ, List, Bool, map, false, true, OnErr, OnOk};
+ghost use Rattle.std.specs.Prelude.{◌≡◌, ℕ, List, Bool, map, false, true, IsOk, OnErr, OnOk};
 ghost use Rattle.decimal_json.specs.View.{tree_of};
 ghost use Rattle.edit_script.specs.View.{command_seen};
-ghost use Rattle.edit_session.specs.Applied.{tells_image};
+ghost use Rattle.edit_session.specs.Applied.{needs_no_memory, tells_image};
 ghost use Rattle.edit_session.specs.Answering.{FollowsEdit, IsAccepted, IsOfAccepted, is_of_document};
 ghost use Rattle.edit_session.specs.SessionState.{SessionState};
 ghost use Rattle.edit_session.specs.View.{IsWholeDocument};
+ghost use Rattle.feature_index.specs.Indexes.{AreIndexed};
 ghost use Rattle.kept_layers.specs.View.{IsPrepared, globals_in, tiles_in, trees_in};
 ghost use Rattle.style_edits.specs.Layers.{layer_list};
 ghost use Rattle.style_layout.specs.CodeView.{layers_seen, tile_seen};
@@ -16,6 +17,7 @@ use crate::layers::PreparedLayers;
 use crate::whole::note_types;
 use decimal_json::Json;
 use edit_script::Command;
+use feature_index::FeatureIndexes;
 use kept_layers::{KeptLayers, StyleLayers, follow};
 use prop_values::Entries;
 use std::alloc::{AllocError, Global};
@@ -60,16 +62,20 @@ pub(crate) fn follow_command(
     kept: &mut KeptLayers,
     command: &Command,
     before: &BeforeEdit,
+    indexes: &mut FeatureIndexes,
     style: &StyleLayers<'_>,
 ) -> Result<(), AllocError>
     requires prepared { IsPrepared style.now }
+    requires indexed { AreIndexed (tiles_in style.now) indexes.old }
     requires accepted { IsOfAccepted (tiles_in style.now) (globals_in style.now) (trees_in style.now)
         (command_seen command.now) before.now kept.old }
     ensures followed { (scripts : List ℕ → Bool) (p : SessionState)
         → IsAccepted (tiles_in style.now) (globals_in style.now) (trees_in style.now)
         scripts p (command_seen command.now) before.now kept.old
         → OnOk result (FollowsEdit (tiles_in style.now) scripts p (command_seen command.now) kept.new) }
+    ensures indexed { AreIndexed (tiles_in style.now) indexes.new }
     ensures images { OnErr result (tells_image (command_seen command.now) ≡ false) }
+    ensures memory { needs_no_memory (command_seen command.now) ≡ true → IsOk result }
 {
     match command {
         Command::SetZoom(zoom) => {
@@ -77,11 +83,11 @@ pub(crate) fn follow_command(
             Ok(())
         }
         Command::SetState(source, layer, id, _) => {
-            kept.turn_state(source.as_str(), layer.as_str(), *id, style);
+            kept.turn_state(source.as_str(), layer.as_str(), *id, indexes, style);
             Ok(())
         }
         Command::RemoveState(source, layer, id, _) => {
-            kept.turn_state(source.as_str(), layer.as_str(), *id, style);
+            kept.turn_state(source.as_str(), layer.as_str(), *id, indexes, style);
             Ok(())
         }
         Command::AddImage(_) => {
@@ -98,6 +104,7 @@ pub(crate) fn follow_command(
 }
 
 // The same of a command whose document may be another.
+#[tactic(auto, using(crate::proofs::AppliedLaws::none_taken))]
 fn follow_document(
     alloc: Global,
     kept: &mut KeptLayers,
@@ -114,6 +121,7 @@ fn follow_document(
         scripts p (command_seen command.now) before.now kept.old
         → OnOk result (FollowsEdit (tiles_in style.now) scripts p (command_seen command.now) kept.new) }
     ensures images { tells_image (command_seen command.now) ≡ false }
+    ensures memory { needs_no_memory (command_seen command.now) ≡ true → IsOk result }
 {
     follow(alloc, kept, command, before.places, style)
 }

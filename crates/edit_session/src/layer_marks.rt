@@ -1,6 +1,6 @@
 //! Marks of layers by their ids, by which a layer is found without a look at each.
 
-ghost use Rattle.std.specs.Prelude.{◌≡◌, [], nat_eq, slice_index_or, true, IfOk, IfSome, OnOk, Some, option_map};
+ghost use Rattle.std.specs.Prelude.{◌≡◌, [], nat_eq, slice_index_or, true, IfOk, IfSome, OnOk, Some, option_map, IsOk};
 ghost use Rattle.std.specs.List.{position};
 ghost use Rattle.std.specs.Option.{option_and_then};
 ghost use Rattle.decimal_json.specs.Tree.{null};
@@ -9,7 +9,7 @@ ghost use Rattle.edit_script.specs.View.{command_seen};
 ghost use Rattle.edit_session.specs.LayerMarks.{AreMarks, layer_mark, mark_of};
 ghost use Rattle.style_edits.specs.Layers.{layer_list};
 ghost use Rattle.style_edits.specs.Places.{layer_place, places_of};
-ghost use Rattle.style_edits.specs.Undone.{IsWithin, undone_layers};
+ghost use Rattle.style_edits.specs.Undone.{IsWithin, adds_nothing, undone_layers};
 ghost use Rattle.style_parts.specs.Parts.{is_id_of};
 ghost use Rattle.style_rules.specs.Findings.{findings};
 
@@ -100,11 +100,12 @@ impl LayerMarks {
     }
 
     /// Follows an edit, after which a document has these layers. Takes time linear in them; for a move, in how many
-    /// layers are in between, and then no memory.
+    /// layers are in between. Takes memory only where a layer came.
     pub(crate) fn follow(&mut self, layers: &[Json], undo: &Undo) -> Result<(), AllocError>
         requires before { AreMarks self.old (undone_layers undo.now (items_view layers.now)) }
         requires within { IsWithin undo.now (items_view layers.now) }
-        ensures { OnOk result (AreMarks self.new (items_view layers.now)) }
+        ensures marks { OnOk result (AreMarks self.new (items_view layers.now)) }
+        ensures memory { adds_nothing undo.now ≡ true → IsOk result }
     {
         match undo {
             Undo::Nothing => Ok(()),

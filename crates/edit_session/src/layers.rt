@@ -1,6 +1,6 @@
 //! The layers of a session's document, each prepared once, and how many cells they have.
 
-ghost use Rattle.std.specs.Prelude.{◌≡◌, ◌-◌, ◌<◌, ◌≤◌, ◌^◌, insert, length, map, min, remove, slice_set, true, ◌||◌, IfOk};
+ghost use Rattle.std.specs.Prelude.{◌≡◌, ◌-◌, ◌<◌, ◌≤◌, ◌^◌, insert, length, map, min, remove, slice_set, true, ◌||◌, IfOk, IsOkAnd};
 ghost use Rattle.decimal_json.specs.View.{items_view, tree_of};
 ghost use Rattle.edit_session.specs.Opening.{within_limit};
 ghost use Rattle.edit_session.specs.PreparedLayers.{ArePrepared, Becomes, Follows};
@@ -8,7 +8,7 @@ ghost use Rattle.kept_layers.specs.KeptLayers.{prepared_layer};
 ghost use Rattle.kept_layers.specs.View.{AreTyped, IsTyped};
 ghost use Rattle.edit_session.specs.View.{reads_globals};
 ghost use Rattle.global_laws.specs.GlobalLaw.{names_globals};
-ghost use Rattle.style_edits.specs.Undone.{IsWithin, undone_layers};
+ghost use Rattle.style_edits.specs.Undone.{IsWithin, adds_nothing, undone_layers};
 ghost use Rattle.style_layout.specs.CodeView.{layer_seen, layers_seen, tile_seen};
 ghost use Rattle.style_layout.specs.Layers.{style_layers};
 ghost use Rattle.style_layout.specs.StyleLayout.{cell_count};
@@ -81,8 +81,9 @@ impl PreparedLayers {
         requires few { within_limit self.old.limit self.old.cells ≡ true }
         requires within { IsWithin undo.now (items_view layers.now) }
         requires typed { AreTyped (items_view layers.now) }
-        ensures { IfOk result (λ is_done.
+        ensures follows { IfOk result (λ is_done.
             Follows (map tile_seen tiles.now) globals.now (items_view layers.now) is_done self.old self.new) }
+        ensures memory { adds_nothing undo.now ≡ true → IsOkAnd result (λ is_done. is_done ≡ true) }
     {
         match undo {
             Undo::Nothing => Ok(true),

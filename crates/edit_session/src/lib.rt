@@ -24,7 +24,8 @@
 //!   session had its zoom, its states, its kept cells and the number of its last listing, and leaves the session's own.
 //!   `apply_to_all` does a command of the style, which is one in every view (`in_each`).
 //! - Once allocation fails in `apply`, `apply_in` or `apply_to_all`, every later call answers so, and the test of images that
-//!   was borrowed lets the texts pass that it let pass.
+//!   was borrowed lets the texts pass that it let pass. `stats`, `set-zoom`, `remove-state`, `remove-layer` and `move-layer`
+//!   are not what it fails in (`needs_no_memory`).
 //!
 //! Of an edit of layers only the part that it changes is checked against the rules, and only the layer that it changes is prepared anew
 //! and its cells counted. A layer is found by a mark of its id, eight bytes for each (`layer_marks.rt`), and looked for first near the
@@ -35,6 +36,7 @@
 #![tactic(auto)]
 
 mod answer;
+mod answering;
 mod commands;
 mod following;
 mod globals;

@@ -1,12 +1,12 @@
 //! A session: a style over tiles, under edit.
 
-ghost use Rattle.std.specs.Prelude.{◌≡◌, ◌≤◌, ◌+◌, ℕ, List, [], Bool, map, false, true, option_map, is_err, IfOk, IsErr, OnErr, OnOk};
+ghost use Rattle.std.specs.Prelude.{◌≡◌, ◌≤◌, ◌+◌, ℕ, List, [], Bool, map, false, true, option_map, is_err, IfOk, IsErr, IsOk, OnErr, OnOk};
 ghost use Rattle.std.specs.Result.{result_err};
 ghost use Rattle.decimal_json.specs.View.{tree_of};
 ghost use Rattle.edit_script.specs.Edit as edits;
 ghost use Rattle.edit_script.specs.View.{command_seen};
 ghost use Rattle.edit_session.specs.Answering.{through, with_own};
-ghost use Rattle.edit_session.specs.Applied.{applied, is_of_view, least_steps, listing_of, most_steps, tell_count_after};
+ghost use Rattle.edit_session.specs.Applied.{applied, is_of_view, least_steps, listing_of, most_steps, needs_no_memory, tell_count_after};
 ghost use Rattle.edit_session.specs.OpenViews.{fresh_view, in_each};
 ghost use Rattle.edit_session.specs.Opening.{cell_limit, open_fault, tiles_fault};
 ghost use Rattle.edit_session.specs.SessionState.{opened};
@@ -25,6 +25,7 @@ use crate::opening::{CELL_LIMIT, OpenFault, OpenedLayers, open_layers};
 use crate::view::View;
 use decimal_json::{Json, Text};
 use edit_script::Command;
+use feature_index::FeatureIndexes;
 use feature_states::States;
 use fixed_num::Fixed;
 use host_ops::HostOp;
@@ -51,6 +52,8 @@ pub struct Session<'a> {
     /// The layers of the document, by the values of the global state.
     pub(crate) layers: PreparedLayers,
     pub(crate) marks: LayerMarks,
+    /// The features of the tiles by their ids, for all views.
+    pub(crate) indexes: FeatureIndexes,
     pub(crate) kept: KeptLayers,
     /// How many cells the last listing evaluated.
     pub(crate) last: u64,
@@ -139,6 +142,7 @@ impl<'a> Session<'a> {
             globals: first.globals,
             layers: first.layers,
             marks,
+            indexes: FeatureIndexes::new(alloc),
             kept,
             last: 0,
             lacks_memory: false,
@@ -152,7 +156,8 @@ impl<'a> Session<'a> {
 
     /// Does what a command says, and answers. A refused command changes nothing, and neither do `stats` and `style`. A
     /// listing evaluates the cells that it asks and that are not kept, and keeps them; `steps` rises by no other command.
-    /// Once allocation fails every later call answers so too.
+    /// Once allocation fails every later call answers so too. A command that puts nothing in never comes to it: `stats`,
+    /// `set-zoom`, `remove-state`, `remove-layer`, `move-layer`.
     pub fn apply<L: Ledger>(
         &mut self,
         command: &Command,
@@ -173,6 +178,7 @@ impl<'a> Session<'a> {
         ensures sound { IsSoundSession self.new (test images.new) (test scripts.now) }
         ensures lacks { lacks_memory self.new ≡ is_err result }
         ensures memory { lacks_memory self.old ≡ true → IsErr result }
+        ensures spare { lacks_memory self.old ≡ false → needs_no_memory (command_seen command.now) ≡ true → IsOk result }
         ensures least { OnOk result (steps.old + least_steps (tiles_of self.old) (test scripts.now)
             (session_state self.old (test images.old)) (command_seen command.now) ≤ steps.new) }
         ensures most { steps.new ≤ steps.old + most_steps (tiles_of self.old) (test scripts.now)
@@ -290,6 +296,7 @@ impl<'a> Session<'a> {
         ensures sound_view { IsSoundView self.new (test images.new) (test scripts.now) view.new }
         ensures lacks { lacks_memory self.new ≡ is_err result }
         ensures memory { lacks_memory self.old ≡ true → IsErr result }
+        ensures spare { lacks_memory self.old ≡ false → needs_no_memory (command_seen command.now) ≡ true → IsOk result }
         ensures least { OnOk result (steps.old + least_steps (tiles_of self.old) (test scripts.now)
             (state_in self.old view.old (test images.old)) (command_seen command.now) ≤ steps.new) }
         ensures most { steps.new ≤ steps.old + most_steps (tiles_of self.old) (test scripts.now)
@@ -341,6 +348,7 @@ impl<'a> Session<'a> {
         ensures sound_views { AreSoundViews self.new (test images.new) (test scripts.now) views.new }
         ensures lacks { lacks_memory self.new ≡ is_err result }
         ensures memory { lacks_memory self.old ≡ true → IsErr result }
+        ensures spare { lacks_memory self.old ≡ false → needs_no_memory (command_seen command.now) ≡ true → IsOk result }
         ensures least { OnOk result (steps.old ≤ steps.new) }
         ensures most { steps.new ≤ steps.old }
     {

@@ -1,6 +1,6 @@
 //! What is known of a document that breaks no rule, and of the one that an edit makes.
 
-ghost use Rattle.std.specs.Prelude.{◌≡◌, [], None, IfOk};
+ghost use Rattle.std.specs.Prelude.{◌≡◌, [], false, None, IfOk, IsOk};
 ghost use Rattle.decimal_json.specs.View.{tree_of};
 ghost use Rattle.edit_script.specs.View.{command_seen};
 ghost use Rattle.edit_findings.specs.FoundAfter.{AreKeyed};
@@ -9,6 +9,7 @@ ghost use Rattle.kept_layers.specs.View.{AreTyped};
 ghost use Rattle.style_edits.specs.Edited.{edited};
 ghost use Rattle.style_edits.specs.Faults.{edit_fault};
 ghost use Rattle.style_edits.specs.Layers.{layer_list};
+ghost use Rattle.style_edits.specs.Needs.{takes_memory};
 ghost use Rattle.style_edits.specs.Places.{places_of};
 ghost use Rattle.style_edits.specs.Taking.{HasLayers};
 ghost use Rattle.style_rules.specs.Findings.{findings};
@@ -33,7 +34,8 @@ pub(crate) fn finding_refusal(
     requires possible { edit_fault (tree_of document.now) (command_seen command.now) ≡ None }
     requires places { places ≡ places_of (tree_of document.now) (command_seen command.now) }
     requires keyed { AreKeyed (layer_list (tree_of document.now)) }
-    ensures { IfOk result (λ refusal. refusal ≡ first_finding (findings (edited (tree_of document.now) (command_seen command.now)))) }
+    ensures finding { IfOk result (λ refusal. refusal ≡ first_finding (findings (edited (tree_of document.now) (command_seen command.now)))) }
+    ensures memory { takes_memory (command_seen command.now) ≡ false → IsOk result }
 {
     match findings_at(alloc, document, places, command)?.into_first() {
         Some(first) => Ok(Some(Refusal::Finding(first))),

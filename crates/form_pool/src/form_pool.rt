@@ -93,6 +93,13 @@ impl FormPool {
         Ok(slot)
     }
 
+    /// How many expressions and legacy forms there are.
+    pub fn count(&self) -> usize
+        ensures { result ≡ length (⟦<FormPool as CountedEvaluator>⟧.slots self.now) }
+    {
+        self.slots.len()
+    }
+
     // The number of what is added next, for which room is made.
     fn next_slot(&mut self) -> Result<u32, AllocError>
         ensures nodes { self.new.nodes ≡ self.old.nodes }

@@ -11,6 +11,7 @@ pub mod StateLaws
 pub mod StateNotes
 pub mod Stepping
 pub mod TurnLaws
+pub mod TidyLaws
 pub mod ItemLaws
 pub mod PlaceLaws
 pub mod EditedItems

@@ -1,5 +1,5 @@
 -- The cells of a layer's features that have an id.
-use Rattle.std.proofs.Common.{◌≡◌, ◌≢◌, ℕ, zero, suc, ◌+◌, ◌<◌, List, [], ◌∷◌, Bool, true, false, ◌&&◌, ◌||◌, nat_eq, Option, Some, None, refl, sym, ap, ◌∙◌, arith, if◌then◌else◌}
+use Rattle.std.proofs.Common.{◌≡◌, ◌≢◌, ℕ, zero, suc, ◌+◌, ◌<◌, List, [], ◌∷◌, Bool, true, false, ◌&&◌, ◌||◌, nat_eq, get_or, Option, Some, None, refl, sym, ap, ◌∙◌, arith, if◌then◌else◌}
 use Rattle.std.specs.List.{slice_get}
 use Rattle.std.specs.Option.{option_and_then, option_eq}
 use Rattle.std.proofs.lemmas.Bool.Decides.{nat_tests}
@@ -9,7 +9,12 @@ use Rattle.operator_values.specs.Evaluated.{Evaluated}
 use Rattle.layer_buckets.specs.Cells.{feature_eq}
 use Rattle.style_layout.specs.Layers.{StyleLayer}
 use Rattle.style_layout.specs.Shown.{SourceTile, layer_features, numbered}
-use Rattle.kept_layers.specs.KeptLayers.{id_at, is_feature, is_id}
+use Rattle.kept_layers.specs.KeptLayers.{id_at, is_feature}
+use Rattle.kept_layers.specs.Turning.{is_listed}
+use Rattle.feature_index.specs.Ids.{IsIndexed, is_among, is_id, numbers_of}
+use Rattle.feature_index.specs.Indexes.{ids_of}
+use Rattle.feature_index.specs.declared.ids.IdIndex.{IdIndex}
+use Rattle.feature_index.proofs.ChainLaws.{among_all, numbers_found}
 
 -- a feature among these has an id and this number
 abbrev pub hits : ℕ → List (ℕ × Feature) → Option ℕ → Bool
@@ -111,3 +116,27 @@ not_shown source layer id shown (Some i) e = by_tests (bytes_eq source shown.sou
   by_tests true true t h = cc
   by_tests true false t h = refl
   by_tests false b t h = refl
+
+-- ---- features by an index
+
+pub listed_none : (f : Option ℕ) → is_listed [] f ≡ false
+listed_none (Some m) = refl
+listed_none None = refl
+
+pub listed_first : (n : ℕ) (ns : List ℕ) (f : Option ℕ) → is_listed (n ∷ ns) f ≡ (feature_eq (Some n) f || is_listed ns f)
+listed_first n ns (Some m) = refl
+listed_first n ns None = refl
+
+id_of_feature : (fs : List Feature) (n : ℕ) → get_or (ids_of fs) n None ≡ option_and_then (λ (f : Feature). f.id) (slice_get fs n)
+id_of_feature [] zero = refl
+id_of_feature [] (suc n) = refl
+id_of_feature (f ∷ fs) zero = refl
+id_of_feature (f ∷ fs) (suc n) = id_of_feature fs n
+
+-- those that the index of a layer's features gives are those that have the id
+pub listed_all : (index : IdIndex) (id : ℕ) (tiles : List SourceTile) (layer : StyleLayer) (f : Option ℕ)
+    → IsIndexed index (ids_of (layer_features tiles layer)) → is_listed (numbers_of index id) f ≡ is_id id (id_at tiles layer f)
+listed_all index id tiles layer (Some n) is =
+    ap (is_among n) (numbers_found index (ids_of (layer_features tiles layer)) id is)
+    ∙ (among_all (ids_of (layer_features tiles layer)) id n ∙ ap (is_id id) (id_of_feature (layer_features tiles layer) n))
+listed_all index id tiles layer None is = refl

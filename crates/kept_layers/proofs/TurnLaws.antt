@@ -22,7 +22,8 @@ use Rattle.kept_layers.proofs.Lists.{apart_at, pairs_at, pairs_from, take_whole}
 use Rattle.kept_layers.proofs.NumberedLaws.{off_first, off_second}
 use Rattle.kept_layers.proofs.StateLaws.{feature_is}
 use Rattle.kept_layers.specs.Holding.{AreApart, AreHeld, HasLayer, Pairwise, ReadsNoState, Still}
-use Rattle.kept_layers.specs.KeptLayers.{id_at, is_feature, is_id, is_stale_state, layer_expressions, prepared_layer, reads_state}
+use Rattle.kept_layers.specs.KeptLayers.{id_at, is_feature, is_stale_state, layer_expressions, prepared_layer, reads_state}
+use Rattle.feature_index.specs.Ids.{is_id}
 
 no_second : (a : Bool) → (a && false) ≡ false
 no_second true = refl

@@ -1,5 +1,5 @@
 -- Which cells of the layers of a style are kept, what drops them, and what a listing makes of them. Source: own.
-use Rattle.std.specs.Prelude.{ℕ, ℤ, ◌+◌, List, [], ◌∷◌, map, nat_eq, slice_index_or, slice_set, Bool, false, not, ◌||◌, ◌&&◌, Option, Some, None, unwrap_or, if◌then◌else◌}
+use Rattle.std.specs.Prelude.{ℕ, ℤ, ◌+◌, List, [], ◌∷◌, map, slice_index_or, slice_set, Bool, false, not, ◌||◌, ◌&&◌, Option, Some, None, unwrap_or, if◌then◌else◌}
 use Rattle.std.specs.List.{slice_get}
 use Rattle.std.specs.Option.{option_and_then}
 use Rattle.std.specs.Ordering.{int_eq}
@@ -77,10 +77,6 @@ reads_state None = false
 abbrev pub id_at : List SourceTile → StyleLayer → Option ℕ → Option ℕ
 id_at tiles layer (Some n) = option_and_then (λ (f : Feature). f.id) (slice_get (layer_features tiles layer) n)
 id_at tiles layer None = None
-
-abbrev pub is_id : ℕ → Option ℕ → Bool
-is_id id (Some i) = nat_eq id i
-is_id id None = false
 
 abbrev pub is_feature : (source layer : List ℕ) → ℕ → StyleLayer → Option ℕ → Bool
 is_feature source layer id shown (Some i) = same_feature source layer id shown.source shown.source_layer i

@@ -7,6 +7,7 @@ pub mod View
 pub mod Changes
 -- What only contracts of private functions and proofs use.
 pub mod Turning
+pub mod Tidying
 pub mod LayerListing
 -- What `follow` asks and gives.
 pub mod Following

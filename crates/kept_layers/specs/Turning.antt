@@ -1,5 +1,6 @@
--- What is made of the items of one layer where the values of the global state are others. Source: own.
-use Rattle.std.specs.Prelude.{◌≡◌, ℕ, List, Option, None, if◌then◌else◌}
+-- What is made of the items of one layer where the values of the global state are others, or a feature's state is. Source: own.
+use Rattle.std.specs.Prelude.{◌≡◌, ℕ, List, Bool, false, Option, Some, None, if◌then◌else◌}
+use Rattle.feature_index.specs.Ids.{is_among}
 use Rattle.operator_values.specs.Evaluated.{Evaluated}
 use Rattle.expr_nodes.specs.Evaluators.{Sized}
 use Rattle.layer_buckets.specs.Seen.{evaluator_of, source_of}
@@ -8,6 +9,11 @@ use Rattle.layer_buckets.specs.declared.cell.CellItem.{CellItem}
 use Rattle.asked_cells.specs.Counted.{kept_in}
 use Rattle.asked_cells.specs.Expressions.{CellExpression, IsSourced}
 use Rattle.cell_sources.specs.CellLaws.{DifferByGlobals, reads_globals}
+
+-- the feature of a cell has one of these numbers
+abbrev pub is_listed : List ℕ → Option ℕ → Bool
+is_listed ns (Some n) = is_among n ns
+is_listed ns None = false
 
 module _ {E : Type 0} where
   -- what is kept of an item of a layer for a feature, or for all

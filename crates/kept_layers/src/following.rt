@@ -1,9 +1,10 @@
 //! The kept cells of a style after an edit of its layers.
 
-ghost use Rattle.std.specs.Prelude.{◌≡◌, ◌<◌, ◌+◌, List, length, IfSome, OnOk};
+ghost use Rattle.std.specs.Prelude.{◌≡◌, ◌<◌, ◌+◌, List, length, false, IfSome, IsOk, OnOk};
 ghost use Rattle.decimal_json.specs.Tree.{Tree};
 ghost use Rattle.edit_script.specs.View.{command_seen};
 ghost use Rattle.style_edits.specs.ByPlace.{place_moved_to};
+ghost use Rattle.style_edits.specs.Needs.{takes_memory};
 ghost use Rattle.kept_layers.specs.EditedKept.{edited_kept, item_named};
 ghost use Rattle.kept_layers.specs.Following.{AddsBefore, ChangesAt, HasFollowed, IsEditOf, IsEdited, IsPlaceIn, MovesAt, RemovesAt};
 ghost use Rattle.kept_layers.specs.View.{AreNumbered, IsPrepared, kept_seen, trees_in};
@@ -22,7 +23,8 @@ use style_edits::EditPlaces;
 /// Follows an edit of a style: what is kept is of its layers before the edit, where those that the edit names were
 /// at these places, and `style` is as it is after the edit. The expression of an edited item is read anew, and so are
 /// those of an added layer. Takes time linear in the item or the layer that is edited, in its kept cells and in the
-/// number of layers.
+/// number of layers; and in the style where the evaluator has twice as many expressions as when all were of items. An edit
+/// that puts nothing into the style takes no memory.
 pub fn follow(
     alloc: Global,
     kept: &mut KeptLayers,
@@ -34,11 +36,51 @@ pub fn follow(
     requires prepared { IsPrepared style.now }
     requires edited { IsEdited ⟦<FormPool as CountedEvaluator>⟧.slots style.now
         places (command_seen command.now) kept.old }
-    ensures { (before : List Tree)
+    ensures followed { (before : List Tree)
         → IsEditOf ⟦<FormPool as CountedEvaluator>⟧.slots style.now
         places (command_seen command.now) kept.old before
         → OnOk result (HasFollowed ⟦<FormPool as CountedEvaluator>⟧.slots style.now before
         (edited_kept places (command_seen command.now) before (kept_seen kept.old)) kept.old kept.new) }
+    ensures memory { takes_memory (command_seen command.now) ≡ false → IsOk result }
+{
+    follow_edit(alloc, kept, command, places, style)?;
+    if takes_memory(command) {
+        return kept.tidy(alloc, style);
+    }
+    Ok(())
+}
+
+// Whether an edit puts something into a layer, or a layer into the style.
+fn takes_memory(command: &Command) -> bool
+    ensures { result ≡ takes_memory (command_seen command.now) }
+{
+    matches!(
+        command,
+        Command::SetPaint(_, _, _)
+            | Command::SetLayout(_, _, _)
+            | Command::SetFilter(_, _)
+            | Command::SetRange(_, _, _)
+            | Command::AddLayer(_, _)
+    )
+}
+
+fn follow_edit(
+    alloc: Global,
+    kept: &mut KeptLayers,
+    command: &Command,
+    places: EditPlaces,
+    style: &StyleLayers<'_>,
+) -> Result<(), AllocError>
+    requires numbered { AreNumbered kept.old }
+    requires prepared { IsPrepared style.now }
+    requires edited { IsEdited ⟦<FormPool as CountedEvaluator>⟧.slots style.now
+        places (command_seen command.now) kept.old }
+    ensures followed { (before : List Tree)
+        → IsEditOf ⟦<FormPool as CountedEvaluator>⟧.slots style.now
+        places (command_seen command.now) kept.old before
+        → OnOk result (HasFollowed ⟦<FormPool as CountedEvaluator>⟧.slots style.now before
+        (edited_kept places (command_seen command.now) before (kept_seen kept.old)) kept.old kept.new) }
+    ensures memory { takes_memory (command_seen command.now) ≡ false → IsOk result }
 {
     match command {
         Command::SetPaint(_, name, _) => {

@@ -26,8 +26,24 @@ use std::alloc::{AllocError, Global};
 impl KeptLayers {
     /// The values of the global state are those of a style, which had others: the expressions that use them are read
     /// anew, and their cells are dropped. Takes time linear in the items of the layers, in the values that are read
-    /// and in the cells that are dropped; and constant time as long as no expression has used the global state.
+    /// and in the cells that are dropped; in the style where the evaluator has twice as many expressions as when all
+    /// were of items; and constant time as long as no expression has used the global state.
     pub fn turn_globals(&mut self, alloc: Global, style: &StyleLayers<'_>) -> Result<(), AllocError>
+        requires numbered { AreNumbered self.old }
+        requires prepared { IsPrepared style.now }
+        requires holds { (before : List (List ℕ × Data))
+            × HoldsLayers ⟦<FormPool as CountedEvaluator>⟧.slots (tiles_in style.now) before (trees_in style.now) self.old }
+        ensures { (before : List (List ℕ × Data))
+            → HoldsLayers ⟦<FormPool as CountedEvaluator>⟧.slots (tiles_in style.now) before (trees_in style.now) self.old
+            → OnOk result (TurnsGlobals ⟦<FormPool as CountedEvaluator>⟧.slots (tiles_in style.now)
+            before (globals_in style.now) (trees_in style.now) self.old self.new) }
+    {
+        self.turn_layers(alloc, style)?;
+        self.tidy(alloc, style)
+    }
+
+    // Reads the expressions that use the global state.
+    fn turn_layers(&mut self, alloc: Global, style: &StyleLayers<'_>) -> Result<(), AllocError>
         requires numbered { AreNumbered self.old }
         requires prepared { IsPrepared style.now }
         requires counted { length self.old.numbers.items ≡ length (trees_in style.now) }

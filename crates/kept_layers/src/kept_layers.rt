@@ -26,6 +26,8 @@ pub struct KeptLayers {
     pub(crate) reads_globals: bool,
     /// The place of each layer of which an expression reads a feature's state, and of others of which one did.
     pub(crate) state_places: NotedPlaces,
+    /// How many expressions the evaluator had when all were of items: at first, and each time that they were put anew.
+    pub(crate) tidy_count: usize,
 }
 
 impl KeptLayers {
@@ -44,11 +46,13 @@ impl KeptLayers {
             numbers: Vec::new(alloc),
             reads_globals: false,
             state_places: NotedPlaces::new(alloc),
+            tidy_count: 0,
         };
         for place in 0..style.layers.len() {
             let one = style.one(place);
             kept.add(alloc, place, &one)?;
         }
+        kept.tidy_count = kept.cells.buckets.expressions().count();
         Ok(kept)
     }
 

@@ -4,7 +4,7 @@
 //! ```text
 //! let mut kept = KeptLayers::of(alloc, &style)?;                   // nothing is kept
 //! kept.list(alloc, &style, &scene, &mut steps, &mut out)?          // 3 evaluations; out has the listing
-//! kept.turn_state("t", "p", 7, &style);                            // the state of a feature is another
+//! kept.turn_state("t", "p", 7, &mut indexes, &style);              // the state of a feature is another
 //! kept.list(alloc, &style, &scene, &mut steps, &mut out)?          // 1
 //! kept.change(alloc, 0, CellItem::Filter, &style.one(0))?;         // the filter of the first layer was edited
 //! kept.remove(0);                                                  // and then the layer
@@ -23,15 +23,18 @@
 //!   no cell of another layer.
 //! - `follow` takes what is kept through an edit of the layers: it leaves kept what `edited_kept` says, and nothing else.
 //!   The cells of an edited property or filter go, and no others; a range of zooms changes nothing. An edit that concerns
-//!   no layers, as of the zoom or of a state, is followed by nothing, since each has a call above.
+//!   no layers, as of the zoom or of a state, is followed by nothing, since each has a call above. One that puts nothing
+//!   into the style takes no memory.
 //! - What is kept is what the cells mean in the scene that is shown (`IsRightIn`), before each call, and after each but
 //!   `list_last`. Where an allocation fails, nothing is said of what is kept, and no further call is made.
 //!
 //! Layers have numbers in the buckets (`layer_buckets`) that stay theirs while they move; a number is used again once
-//! its layer is gone. Expressions of items that were edited stay in the pool of nodes until the view goes. `list_last`
+//! its layer is gone. Expressions of items that were edited or removed stay in the evaluator until it has twice as many as
+//! when all were of items; then `turn_globals` and `follow` put those of all items anew (`tidying.rt`). `list_last`
 //! keeps no cell where none was kept before (`bare_listing`). `turn_globals` takes constant time as long as no
 //! expression has used the global state. `turn_state` looks only at the layers of which an expression reads a state,
-//! however many others there are.
+//! however many others there are, and finds their features of the id by `feature_index`, or by a walk where they are not
+//! indexed.
 //!
 //! The text to believe is in `specs/`: `KeptLayers`, and `EditedKept` for `follow`.
 #![tactic(auto)]
@@ -43,6 +46,7 @@ mod kept_layers;
 mod listing;
 mod states;
 mod style_layers;
+mod tidying;
 
 pub use following::follow;
 pub use kept_layers::KeptLayers;

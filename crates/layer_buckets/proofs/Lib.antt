@@ -7,5 +7,6 @@ pub mod ItemLaws
 pub mod GrowthLaws
 pub mod CellLaws
 pub mod SourceLaws
+pub mod SlottedLaws
 pub mod AddLaws
 pub mod ClearLaws

@@ -9,5 +9,6 @@ pub mod LaidOut
 pub mod Drops
 pub mod Growing
 pub mod Sources
+pub mod Slotted
 pub mod Seen
 pub mod Lending

@@ -7,6 +7,7 @@ ghost use Rattle.layer_buckets.specs.Cells.{cell_eq, is_item};
 ghost use Rattle.layer_buckets.specs.Lending.{LendsEvaluator};
 ghost use Rattle.layer_buckets.specs.Outcomes.{outcome_owned, seen_outcome};
 ghost use Rattle.layer_buckets.specs.Seen.{HasFeature, IsSound, evaluator_of, features_of, given_at, kept_at, names_cell, refreshed, slot_in_source, source_of};
+ghost use Rattle.layer_buckets.specs.Slotted.{slotted_at};
 ghost use Rattle.layer_buckets.specs.declared.cell.Cell.{Cell};
 ghost use Rattle.layer_buckets.specs.declared.cell.CellItem.{CellItem};
 
@@ -94,6 +95,20 @@ impl<E: CountedEvaluator + Drop> Buckets<E> {
         self.table.remove_source(layer, *item);
     }
 
+    /// Gives the source of an item, if it has one, another number in the evaluator. All else stays, and so does what is
+    /// kept: the values are right as long as the evaluator has there what gave them.
+    pub fn set_number(&mut self, layer: u32, item: &CellItem, number: u32)
+        requires { IsSound self.old }
+        ensures sound { IsSound self.new }
+        ensures evaluator { evaluator_of self.new ≡ evaluator_of self.old }
+        ensures sources { (l : ℕ) (i : CellItem) → source_of self.new l i
+            ≡ slotted_at layer item.now number l i (source_of self.old l i) }
+        ensures features { (l : ℕ) → features_of self.new l ≡ features_of self.old l }
+        ensures kept { (cell : Cell) → kept_at self.new cell ≡ kept_at self.old cell }
+    {
+        self.table.set_number(layer, *item, number);
+    }
+
     /// Takes a layer away, with its sources and its kept values.
     pub fn remove(&mut self, layer: u32)
         requires { IsSound self.old }
@@ -115,6 +130,13 @@ impl<E: CountedEvaluator + Drop> Buckets<E> {
         ensures now { result.now ≡ evaluator_of self.old }
     {
         &mut self.evaluator
+    }
+
+    /// The evaluator, to be read.
+    pub fn expressions(&self) -> &E
+        ensures { result.now ≡ evaluator_of self.now }
+    {
+        &self.evaluator
     }
 
     /// How many features a layer has; none where it is not there.

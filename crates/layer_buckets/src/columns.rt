@@ -5,6 +5,7 @@ ghost use Rattle.std.specs.List.{slice_get};
 ghost use Rattle.layer_buckets.specs.Growing.{HasRows};
 ghost use Rattle.layer_buckets.specs.Keeping.{image_list, lists_in_column, state_list, zoom_list};
 ghost use Rattle.layer_buckets.specs.KeptSlots.{SeenColumn, column_at, same_place, seen_column, slot_of};
+ghost use Rattle.layer_buckets.specs.Slotted.{column_slotted, slotted};
 ghost use Rattle.layer_buckets.specs.declared.slots.CellPlace.{CellPlace};
 
 use crate::cell::Source;
@@ -79,6 +80,15 @@ impl Column {
         self.slots.clear();
     }
 
+    // Gives its source, if it has one, another number in the evaluator.
+    fn set_number(&mut self, number: u32)
+        ensures source { self.new.source ≡ slotted number self.old.source }
+        ensures first { self.new.first_state ≡ self.old.first_state }
+        ensures slots { self.new.slots.items ≡ self.old.slots.items }
+    {
+        self.source = slotted(self.source, number);
+    }
+
     // Lets a row name a slot.
     fn name(&mut self, row: u32, slot: u32)
         requires { row < length self.old.slots.items }
@@ -87,6 +97,22 @@ impl Column {
         ensures first { self.new.first_state ≡ self.old.first_state }
     {
         self.slots[row as usize] = slot;
+    }
+}
+
+// A source, if it is one, with another number in the evaluator.
+fn slotted(source: Option<Source>, number: u32) -> Option<Source>
+    ensures { result ≡ slotted number source }
+{
+    match source {
+        Some(source) => Some(Source {
+            item: source.item,
+            slot: number,
+            mentions: source.mentions,
+            paint: source.paint,
+            globals: source.globals,
+        }),
+        None => None,
     }
 }
 
@@ -179,6 +205,17 @@ pub fn set_source(columns: &mut Vec<Column>, column: u32, source: Option<Source>
     ensures count { length columns.new.items ≡ length columns.old.items }
 {
     columns[column as usize].set_source(source, first_state);
+}
+
+/// Gives the source of a column, if it has one, another number in the evaluator.
+pub fn set_number(columns: &mut Vec<Column>, column: u32, number: u32)
+    requires { column < length columns.old.items }
+    ensures seen { (n : ℕ) → column_at columns.new.items n
+        ≡ (if nat_eq n column then column_slotted number (column_at columns.old.items n) else column_at columns.old.items n) }
+    ensures slot_named { (p : CellPlace) → slot_of columns.new.items p ≡ slot_of columns.old.items p }
+    ensures count { length columns.new.items ≡ length columns.old.items }
+{
+    columns[column as usize].set_number(number);
 }
 
 /// Lets a place name a slot.

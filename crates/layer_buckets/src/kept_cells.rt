@@ -7,10 +7,11 @@ ghost use Rattle.layer_buckets.specs.KeptSlots.{SeenColumn, column_at, full_coun
 ghost use Rattle.layer_buckets.specs.Keeping.{IsKeeping, kept_outcome, lists_at, lists_of, slot_named};
 ghost use Rattle.layer_buckets.specs.Listing.{AreAlike, AreThere, IsThere, is_in};
 ghost use Rattle.layer_buckets.specs.Outcomes.{outcome_owned, seen_outcome};
+ghost use Rattle.layer_buckets.specs.Slotted.{column_slotted};
 ghost use Rattle.layer_buckets.specs.declared.slots.CellPlace.{CellPlace};
 
 use crate::cell::Source;
-use crate::columns::{Column, grow_rows, name_slot, push_column, set_source, slot_at};
+use crate::columns::{Column, grow_rows, name_slot, push_column, set_number, set_source, slot_at};
 use crate::lists::{CauseLists, ListName, ListNumbers};
 use crate::slots::{
     CellPlace, SlotMark, ValueSlot, empty, empty_slot, fill, full_slot, keeps, outcome_in,
@@ -174,6 +175,21 @@ impl KeptCells {
         ensures lists { self.new.lists ≡ self.old.lists }
     {
         set_source(&mut self.columns, column, source, first_state);
+    }
+
+    /// Gives the source of a column, if it has one, another number in the evaluator. What is kept stays.
+    pub fn set_number(&mut self, column: u32, number: u32)
+        requires keeping { IsKeeping self.old }
+        requires column { column < length self.old.columns.items }
+        ensures keeping { IsKeeping self.new }
+        ensures kept_outcome { (p : CellPlace) → kept_outcome self.new p ≡ kept_outcome self.old p }
+        ensures columns { (n : ℕ) → column_at self.new.columns.items n
+            ≡ (if nat_eq n column then column_slotted number (column_at self.old.columns.items n)
+            else column_at self.old.columns.items n) }
+        ensures count { length self.new.columns.items ≡ length self.old.columns.items }
+        ensures lists { self.new.lists ≡ self.old.lists }
+    {
+        set_number(&mut self.columns, column, number);
     }
 
     /// Makes rows of a column until there are so many.

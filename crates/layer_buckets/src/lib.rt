@@ -18,7 +18,8 @@
 //!   expression has nodes. No other cell changes, and none is lost when an allocation fails.
 //! - `add` adds a layer without sources; it keeps and drops nothing. `set_source` and `remove_source` change the
 //!   source of one item, and drop the cells of that item alone. `remove` takes a layer away with its sources and
-//!   cells. When an allocation fails, all stays.
+//!   cells. When an allocation fails, all stays. `set_number` gives a source another number in the evaluator, and drops
+//!   nothing: for an evaluator whose expressions are put anew.
 //! - Each call leaves the evaluator as it was, but for `evaluator`, by which it is changed, and nothing else.
 //! - A slot that keeps no value is in no list, so a cell that is dropped for one cause is in no list afterwards
 //!   (`IsSound`, which each call asks and hands on).

@@ -8,6 +8,7 @@ ghost use Rattle.layer_buckets.specs.Growing.{IsPlaceFor, IsPlaceOf, IsSame};
 ghost use Rattle.layer_buckets.specs.Keeping.{slot_named};
 ghost use Rattle.layer_buckets.specs.Listing.{IsThere};
 ghost use Rattle.layer_buckets.specs.KeptSlots.{column_at};
+ghost use Rattle.layer_buckets.specs.Slotted.{slotted_at};
 ghost use Rattle.layer_buckets.specs.Sources.{HasSource, HasStates, IsCleared, StayShown, is_column, no_source_column};
 ghost use Rattle.layer_buckets.specs.declared.cell.Cell.{Cell};
 ghost use Rattle.layer_buckets.specs.declared.cell.CellItem.{CellItem};
@@ -181,6 +182,20 @@ impl CellTable {
         self.drop_item(layer, item);
         if let Some(column) = self.column(layer, item) {
             self.cells.set_source(column, None, 0);
+        }
+    }
+
+    /// Gives the source of an item, if it has one, another number in the evaluator. All else stays.
+    pub fn set_number(&mut self, layer: u32, item: CellItem, number: u32)
+        requires { IsCellTable self.old }
+        ensures table { IsCellTable self.new }
+        ensures layers { self.new.layers.items ≡ self.old.layers.items }
+        ensures sources { (l : ℕ) (i : CellItem) → source_in_table self.new l i
+            ≡ slotted_at layer item number l i (source_in_table self.old l i) }
+        ensures kept { (cell : Cell) → kept_in_table self.new cell ≡ kept_in_table self.old cell }
+    {
+        if let Some(column) = self.column(layer, item) {
+            self.cells.set_number(column, number);
         }
     }
 

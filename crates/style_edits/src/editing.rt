@@ -1,6 +1,6 @@
 //! Edits of a document.
 
-ghost use Rattle.std.specs.Prelude.{◌≡◌, false, IsOk, IfOk, OnOk, OnErr};
+ghost use Rattle.std.specs.Prelude.{◌≡◌, false, true, IsOk, IfOk, OnOk, OnErr};
 ghost use Rattle.std.specs.Result.{result_err};
 ghost use Rattle.decimal_json.specs.View.{tree_of};
 ghost use Rattle.edit_script.specs.View.{command_seen};
@@ -8,7 +8,7 @@ ghost use Rattle.style_edits.specs.Places.{places_of};
 ghost use Rattle.style_edits.specs.Edited.{edited};
 ghost use Rattle.style_edits.specs.Faults.{edit_fault};
 ghost use Rattle.style_edits.specs.Needs.{removes_layer, takes_memory};
-ghost use Rattle.style_edits.specs.Undone.{IsUndo, restores_layer};
+ghost use Rattle.style_edits.specs.Undone.{IsUndo, adds_nothing, restores_layer};
 
 use crate::document::{put_layers, take_layers};
 use crate::faults::{EditFault, edit_fault};
@@ -60,6 +60,7 @@ pub fn edit_at(
     ensures restores { removes_layer (command_seen command.now) ≡ false
         → IfOk result (λ undo. restores_layer undo ≡ false) }
     ensures memory { takes_memory (command_seen command.now) ≡ false → IsOk result }
+    ensures adds { takes_memory (command_seen command.now) ≡ false → IfOk result (λ undo. adds_nothing undo ≡ true) }
 {
     let Some(mut layers) = take_layers(style) else {
         return Ok(Undo::Nothing);

@@ -1,13 +1,13 @@
 //! The layers after an edit.
 
-ghost use Rattle.std.specs.Prelude.{◌≡◌, ◌<◌, ◌≤◌, length, insert, slice_set, codes, false, IsOk, IfOk, IfSome, OnOk, OnErr};
+ghost use Rattle.std.specs.Prelude.{◌≡◌, ◌<◌, ◌≤◌, length, insert, slice_set, codes, false, true, IsOk, IfOk, IfSome, OnOk, OnErr};
 ghost use Rattle.decimal_json.specs.Tree.{Tree};
 ghost use Rattle.decimal_json.specs.View.{tree_of};
 ghost use Rattle.edit_script.specs.View.{command_seen};
 ghost use Rattle.style_edits.specs.ByPlace.{edited_at, changed_at, removed_at, inserted_at, place_moved_to, moved_at};
 ghost use Rattle.style_edits.specs.Needs.{removes_layer, takes_memory};
 ghost use Rattle.style_edits.specs.Layer.{with_property, with_filter, with_range};
-ghost use Rattle.style_edits.specs.Undone.{undone_layers, restores_layer, IsWithin};
+ghost use Rattle.style_edits.specs.Undone.{adds_nothing, undone_layers, restores_layer, IsWithin};
 
 use crate::layer::{with_filter, with_property, with_range};
 use crate::places::EditPlaces;
@@ -33,6 +33,7 @@ pub(crate) fn edit_layers(
     ensures restores { removes_layer (command_seen command.now) ≡ false
         → IfOk result (λ undo. restores_layer undo ≡ false) }
     ensures memory { takes_memory (command_seen command.now) ≡ false → IsOk result }
+    ensures adds { takes_memory (command_seen command.now) ≡ false → IfOk result (λ undo. adds_nothing undo ≡ true) }
 {
     match command {
         Command::SetPaint(_, name, value) => {
@@ -164,6 +165,7 @@ fn remove_layer(layers: &mut Items, place: Option<usize>) -> Undo
     ensures edited { layers.new ≡ removed_at place layers.old }
     ensures within { IsWithin result layers.new }
     ensures undo { undone_layers result layers.new ≡ layers.old }
+    ensures adds { adds_nothing result ≡ true }
 {
     match place {
         None => Undo::Nothing,
@@ -178,6 +180,7 @@ fn move_layer(layers: &mut Items, place: Option<usize>, before: Option<usize>) -
     ensures within { IsWithin result layers.new }
     ensures undo { undone_layers result layers.new ≡ layers.old }
     ensures restores { restores_layer result ≡ false }
+    ensures adds { adds_nothing result ≡ true }
 {
     let Some(from) = place else {
         return Undo::Nothing;

@@ -21,7 +21,7 @@ found_by_edit-requires-clause-before c =
 pub found_by_edit-requires-clause-same : goal.found_by_edit-requires-clause-same
 found_by_edit-requires-clause-same c = ap (λ (places : EditPlaces). places.same) c.requires.places
 
-pub returns : goal.returns
-returns c =
+pub returns-clause-found : goal.returns-clause-found
+returns-clause-found c =
     IfOk-weaker c.found_by_edit.result _ _ (λ found is. is ∙ after_edit (tree_of c.args.document.now) (command_seen c.args.command.now) c.args.places
-    c.documents_have_distinct_members.ensures c.requires.keys c.requires.sound c.requires.possible c.requires.places) c.found_by_edit.ensures
+    c.documents_have_distinct_members.ensures c.requires.keys c.requires.sound c.requires.possible c.requires.places) c.found_by_edit.ensures.found

@@ -5,10 +5,8 @@ use Rattle.edit_script.specs.Edit as edits
 use Rattle.edit_script.specs.Edit.{Edit}
 use Rattle.edit_script.specs.View.{command_seen}
 use Rattle.kept_layers.specs.Changes.{Drops, TurnsZoom}
-use Rattle.kept_layers.specs.Holding.{HasLayer}
 use Rattle.kept_layers.specs.KeptLayers.{is_stale_zoom}
 use Rattle.kept_layers.specs.View.{HoldsLayers, globals_in, tiles_in, trees_in}
-use Rattle.kept_layers.proofs.Lists.{pairs_lengths}
 use Rattle.prop_values.specs.Data.{entries_of, pairs_of}
 use Rattle.prop_values.specs.Changes.{merged}
 use Rattle.feature_states.specs.Features.{left_of}
@@ -51,13 +49,12 @@ turn_images-requires-in-RemoveImage c = record { numbered = c.requires.accepted.
 pub turn_globals-requires-clause-numbered : goal.turn_globals-requires-clause-numbered
 turn_globals-requires-clause-numbered c = c.requires.accepted.2.right.numbered
 
-pub turn_globals-requires-clause-counted : goal.turn_globals-requires-clause-counted
-turn_globals-requires-clause-counted c =
+pub turn_globals-requires-clause-holds : goal.turn_globals-requires-clause-holds
+turn_globals-requires-clause-holds c =
     let style = c.args.style.now in
     let (scripts, p, a) = c.requires.accepted in
     let there = subst (λ (e : Edit). IsAccepted (tiles_in style) (globals_in style) (trees_in style) scripts p e c.args.before.now c.args.kept.now) (ap command_seen c.in-SetGlobal.is) a in
-    let held = subst (λ us. HoldsLayers slots_of (tiles_in style) p.globals us c.args.kept.now) (sym there.layers) there.right.holds in
-    pairs_lengths (HasLayer slots_of (tiles_in style) p.globals c.args.kept.now.cells.buckets) _ _ held
+    (p.globals, subst (λ us. HoldsLayers slots_of (tiles_in style) p.globals us c.args.kept.now) (sym there.layers) there.right.holds)
 
 pub returns-in-SetZoom-clause-followed : goal.returns-in-SetZoom-clause-followed
 returns-in-SetZoom-clause-followed c = λ scripts p a.

@@ -20,7 +20,7 @@ returns-clause-followed c = λ scripts p a.
     let b = c.args.before.now in
     on_ok_weaker c.follow.result
     (after_document c.args.style.now scripts p b c.args.kept.now c.follow.new.kept e c.requires.document a)
-    (c.follow.ensures (layer_list p.document) (is_edit_of c.args.style.now scripts p b c.args.kept.now c.args.kept.now e c.requires.document a))
+    (c.follow.ensures.followed (layer_list p.document) (is_edit_of c.args.style.now scripts p b c.args.kept.now c.args.kept.now e c.requires.document a))
 
 pub returns-clause-images : goal.returns-clause-images
 returns-clause-images c = tells_nothing (command_seen c.args.command.now) c.requires.document

@@ -10,8 +10,8 @@ use Rattle.edit_session.specs.LayerMarks.{layer_mark}
 use Rattle.edit_session.proofs.LayerLists.{added_back, changed_back, each_uninserted, each_unmoved, each_unremoved, each_unset, item_at, moved_forth, removed_back}
 use Rattle.edit_session.proofs.layer_marks.LayerMarks.follow.Goals as goal
 
-pub returns-in-Changed : goal.returns-in-Changed
-returns-in-Changed c =
+pub returns-in-Changed-clause-marks : goal.returns-in-Changed-clause-marks
+returns-in-Changed-clause-marks c =
     let us = items_view c.args.layers.now in
     let place = c.in-Changed.place in
     let within = subst (λ (u : Undo). IsWithin u us) c.in-Changed.is c.requires.within in
@@ -23,8 +23,8 @@ returns-in-Changed c =
       each_unset HasDistinctMembers us place (tree_of c.in-Changed.field-1) within keyed (subst HasDistinctMembers is c.documents_have_distinct_members.ensures),
     )
 
-pub returns-in_ok-make_room-in-Added : goal.returns-in_ok-make_room-in-Added
-returns-in_ok-make_room-in-Added c =
+pub returns-in_ok-make_room-in-Added-clause-marks : goal.returns-in_ok-make_room-in-Added-clause-marks
+returns-in_ok-make_room-in-Added-clause-marks c =
     let us = items_view c.args.layers.now in
     let place = c.in-Added.place in
     let within = subst (λ (u : Undo). IsWithin u us) c.in-Added.is c.requires.within in
@@ -36,8 +36,8 @@ returns-in_ok-make_room-in-Added c =
       each_unremoved HasDistinctMembers us place within keyed (subst HasDistinctMembers is c.documents_have_distinct_members-in-Added.ensures),
     )
 
-pub returns-in-Removed : goal.returns-in-Removed
-returns-in-Removed c =
+pub returns-in-Removed-clause-marks : goal.returns-in-Removed-clause-marks
+returns-in-Removed-clause-marks c =
     let us = items_view c.args.layers.now in
     let place = c.in-Removed.place in
     let within = subst (λ (u : Undo). IsWithin u us) c.in-Removed.is c.requires.within in
@@ -48,8 +48,8 @@ returns-in-Removed c =
       (each_uninserted HasDistinctMembers us place was keyed).1,
     )
 
-pub returns-in-Moved : goal.returns-in-Moved
-returns-in-Moved c =
+pub returns-in-Moved-clause-marks : goal.returns-in-Moved-clause-marks
+returns-in-Moved-clause-marks c =
     let us = items_view c.args.layers.now in
     let from = c.in-Moved.from in
     let to = c.in-Moved.to in

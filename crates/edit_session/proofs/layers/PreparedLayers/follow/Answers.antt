@@ -24,8 +24,8 @@ add-requires-clause-typed c =
     let within = subst (λ (u : Undo). IsWithin u us) c.in-Added.is c.requires.within in
     subst IsTyped (sym (item_at c.args.layers.now _ _ within c.index-layers-place-in-Added.is)) (typed_at us _ within c.requires.typed)
 
-pub returns-in-Changed : goal.returns-in-Changed
-returns-in-Changed c =
+pub returns-in-Changed-clause-follows : goal.returns-in-Changed-clause-follows
+returns-in-Changed-clause-follows c =
     let tiles = map tile_seen c.args.tiles.now in
     let us = items_view c.args.layers.now in
     let old = c.args.self.now in
@@ -35,8 +35,8 @@ returns-in-Changed c =
     (λ is_done b. changed_follows tiles c.args.globals.now us old c.change.new.self _ _ _ is_done before (item_at c.args.layers.now _ _ within c.index-layers-place.is) b)
     c.change.ensures
 
-pub returns-in-Added : goal.returns-in-Added
-returns-in-Added c =
+pub returns-in-Added-clause-follows : goal.returns-in-Added-clause-follows
+returns-in-Added-clause-follows c =
     let tiles = map tile_seen c.args.tiles.now in
     let us = items_view c.args.layers.now in
     let old = c.args.self.now in
@@ -46,8 +46,8 @@ returns-in-Added c =
     (λ is_done b. added_follows tiles c.args.globals.now us old c.add.new.self _ _ is_done within before (item_at c.args.layers.now _ _ within c.index-layers-place-in-Added.is) b)
     c.add.ensures
 
-pub returns-in-Removed : goal.returns-in-Removed
-returns-in-Removed c =
+pub returns-in-Removed-clause-follows : goal.returns-in-Removed-clause-follows
+returns-in-Removed-clause-follows c =
     let tiles = map tile_seen c.args.tiles.now in
     let us = items_view c.args.layers.now in
     let old = c.args.self.now in
@@ -57,8 +57,8 @@ returns-in-Removed c =
     removed_follows tiles globals us old c.remove.new.self _ _ within before c.requires.few (prepared_layer globals null)
     c.remove.ensures.layers c.remove.ensures.cells c.remove.ensures.reads c.remove.ensures.limit
 
-pub returns-in-Moved : goal.returns-in-Moved
-returns-in-Moved c =
+pub returns-in-Moved-clause-follows : goal.returns-in-Moved-clause-follows
+returns-in-Moved-clause-follows c =
     let tiles = map tile_seen c.args.tiles.now in
     let us = items_view c.args.layers.now in
     let old = c.args.self.now in

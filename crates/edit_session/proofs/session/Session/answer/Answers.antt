@@ -36,4 +36,5 @@ returns-in_default g c =
       least = on_ok_always c.answer_edit.result
           (quiet_least (tiles_of s) scripts p c.args.command.now c.in_default.not-List c.args.steps.now);
       most = quiet_most (tiles_of s) scripts p c.args.command.now c.args.steps.now;
+      memory = e.memory;
     }

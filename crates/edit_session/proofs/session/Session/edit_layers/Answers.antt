@@ -13,7 +13,7 @@ finding_refusal-requires-clause-sound c =
 
 pub edit_sound-requires-clause-sound : goal.edit_sound-requires-clause-sound
 edit_sound-requires-clause-sound c =
-    found_nothing (findings (edited (tree_of c.args.self.now.document) (command_seen c.args.command.now))) (sym c.in-None.is ∙ c.in_ok-refusal.ensures)
+    found_nothing (findings (edited (tree_of c.args.self.now.document) (command_seen c.args.command.now))) (sym c.in-None.is ∙ c.in_ok-refusal.ensures.finding)
 
 pub returns-in-Some-clause-answer : goal.returns-in-Some-clause-answer
 returns-in-Some-clause-answer c = λ has_image scripts can_change.
@@ -21,4 +21,4 @@ returns-in-Some-clause-answer c = λ has_image scripts can_change.
     let made = edited (tree_of s.document) (command_seen c.args.command.now) in
     layers_refused (tiles_of s) scripts can_change (session_state s has_image) (command_seen c.args.command.now)
     c.requires.layers c.requires.possible made refl c.in-Some.refusal (tree_of s.document)
-    (whole_by_finding s.layers.limit (tiles_of s) s.globals made c.in-Some.refusal (sym c.in-Some.is ∙ c.in_ok-refusal.ensures)) refl
+    (whole_by_finding s.layers.limit (tiles_of s) s.globals made c.in-Some.refusal (sym c.in-Some.is ∙ c.in_ok-refusal.ensures.finding)) refl

@@ -59,7 +59,7 @@ returns-then-is_done-clause-answer c = λ has_image scripts can_change.
     let is : us ≡ layer_list after = layers_listed after c.layers_of.result.now c.layers_of.ensures in
     let none = ap findings c.in_ok-undo.ensures.edited ∙ c.requires.sound in
     let follows = subst (λ (tiles : List SourceTile). Follows tiles s.globals us c.in_ok-is_done.is_done s.layers c.follow.new.self)
-    (ap (map tile_seen) c.as_slice.ensures.value) c.in_ok-is_done.ensures in
+    (ap (map tile_seen) c.as_slice.ensures.value) c.in_ok-is_done.ensures.follows in
     (λ k. (record (session_state s has_image) { document = after; limit = follows.same_limit k }, done))
     ∙ layers_accepted (tiles_of s) scripts can_change (session_state s has_image) (command_seen c.args.command.now)
     c.requires.layers c.requires.possible after c.in_ok-undo.ensures.edited
@@ -73,11 +73,14 @@ returns-then-is_done-clause-ready c =
     let is : us ≡ layer_list after = layers_listed after c.layers_of.result.now c.layers_of.ensures in
     let none = ap findings c.in_ok-undo.ensures.edited ∙ c.requires.sound in
     let follows = subst (λ (tiles : List SourceTile). Follows tiles s.globals us c.in_ok-is_done.is_done s.layers c.follow.new.self)
-    (ap (map tile_seen) c.as_slice.ensures.value) c.in_ok-is_done.ensures in (
+    (ap (map tile_seen) c.as_slice.ensures.value) c.in_ok-is_done.ensures.follows in (
       is_whole (tiles_of s) s.globals s.layers.limit after none c.note_types-2.ensures.typed us is c.follow.new.self follows.same_limit c.requires.ready.0.is_limited
           (sym c.if-is_done.true ∙ follows.limit) (follows.prepared c.if-is_done.true),
-      subst (AreMarks c.follow-then-is_done.new.self) (layers_listed after c.layers_of-then-is_done.result.now c.layers_of-then-is_done.ensures)
-          c.in_ok-follow.ensures,
+      (
+        subst (AreMarks c.follow-then-is_done.new.self) (layers_listed after c.layers_of-then-is_done.result.now c.layers_of-then-is_done.ensures)
+            c.in_ok-follow.ensures.marks,
+        c.requires.ready.1.1,
+      ),
     )
 
 pub returns-clause-answer : goal.returns-clause-answer
@@ -88,7 +91,7 @@ returns-clause-answer c = λ has_image scripts can_change.
     let is : us ≡ layer_list after = layers_listed after c.layers_of.result.now c.layers_of.ensures in
     let none = ap findings c.in_ok-undo.ensures.edited ∙ c.requires.sound in
     let follows = subst (λ (tiles : List SourceTile). Follows tiles s.globals us c.in_ok-is_done.is_done s.layers c.follow.new.self)
-    (ap (map tile_seen) c.as_slice.ensures.value) c.in_ok-is_done.ensures in
+    (ap (map tile_seen) c.as_slice.ensures.value) c.in_ok-is_done.ensures.follows in
     (λ k. (record (session_state s has_image) { document = tree_of c.undo_edit.new.style; limit = follows.same_limit k }, refused CellLimit))
     ∙ layers_refused (tiles_of s) scripts can_change (session_state s has_image) (command_seen c.args.command.now)
     c.requires.layers c.requires.possible after c.in_ok-undo.ensures.edited CellLimit (tree_of c.undo_edit.new.style)
@@ -102,7 +105,7 @@ follow-requires-then-is_done-clause-before c =
     let us = items_view c.layers_of-then-is_done.result.now in
     let is : us ≡ layer_list after = layers_listed after c.layers_of-then-is_done.result.now c.layers_of-then-is_done.ensures in
     subst (AreMarks s.marks) (before_edit c.in_ok-undo.undo (tree_of s.document) after us c.in_ok-undo.ensures.undo c.note_types-2.ensures.there is)
-    c.requires.ready.1
+    c.requires.ready.1.0
 
 pub follow-requires-then-is_done-clause-within : goal.follow-requires-then-is_done-clause-within
 follow-requires-then-is_done-clause-within c =

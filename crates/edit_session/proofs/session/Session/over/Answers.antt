@@ -34,7 +34,7 @@ returns-clause-sound c = λ has_image scripts.
       last = 0;
     } in
     record {
-      ready = λ off. (c.requires.whole, c.in_ok-marks.ensures);
+      ready = λ off. (c.requires.whole, (c.in_ok-marks.ensures, c.new.ensures tiles));
       kept = λ off. kept_from tiles scripts p c.shown_style-shown.result c.shown_style-shown.ensures.layers c.shown_style-shown.ensures.globals
           (c.shown_style-shown.ensures.tiles ∙ ap (map tile_seen) c.as_slice.ensures.value) c.in_ok-kept.kept
           c.in_ok-kept.ensures.numbered c.in_ok-kept.ensures.holds (c.in_ok-kept.ensures.right (scene_of scripts p));

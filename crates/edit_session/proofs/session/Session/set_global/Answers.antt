@@ -1,5 +1,6 @@
 use Rattle.std.proofs.Common.{◌∙◌, sym, subst}
 use Rattle.decimal_json.specs.View.{tree_of}
+use Rattle.feature_index.specs.Indexes.{AreIndexed}
 use Rattle.style_edits.specs.Layers.{layer_list}
 use Rattle.edit_session.specs.LayerMarks.{AreMarks}
 use Rattle.edit_session.specs.View.{tiles_of, IsWholeDocument}
@@ -19,7 +20,7 @@ returns-clause-ready c =
     let marks = c.requires.ready.1 in
     let whole = whole_with s.layers.limit (tiles_of s) document new s.globals ready.is_accepted in
     let counted = ready.is_counted ∙ sym (values_change_no_cell (tiles_of s) document new s.globals) in
-    let is_ready = λ (x : Session). IsWholeDocument (tiles_of x) x.globals (tree_of x.document) x.layers × AreMarks x.marks (layer_list (tree_of x.document)) in
+    let is_ready = λ (x : Session). IsWholeDocument (tiles_of x) x.globals (tree_of x.document) x.layers × (AreMarks x.marks (layer_list (tree_of x.document)) × AreIndexed (tiles_of x) x.indexes) in
     elim c.if-self.branch [
       | then-self+in_ok-self w ↦
           subst is_ready (sym w.self-is) (record { is_limited = ready.is_limited; is_accepted = whole; is_prepared = w.in_ok-self.ensures; is_counted = counted; is_noted = ready.is_noted }, marks)

@@ -86,3 +86,8 @@ returns-clause-right c = λ scene.
     subst (λ l. IsRightIn pool_slots (tiles_in s) (globals_in s) scene l c.loop-place.kept)
     (take_whole ts c.loop-place.place (omega (arith, c.loop-place-test.false, length-map s.layers.now tree_of)))
     (c.loop-place.invariant.right scene)
+
+pub returns-clause-numbered : goal.returns-clause-numbered
+returns-clause-numbered c =
+    let a = c.loop-place.invariant.numbered in
+    record { sound = a.sound; apart = a.apart; there = a.there; bare = a.bare; noted = a.noted; states = a.states }

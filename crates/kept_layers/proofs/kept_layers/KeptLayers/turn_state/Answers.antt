@@ -13,7 +13,10 @@ use Rattle.style_layout.specs.CodeView.{layer_seen, layers_seen}
 use Rattle.style_layout.specs.Shown.{layer_features}
 use Rattle.form_pool.specs.PoolSlots.{pool_slots}
 use Rattle.kept_layers.specs.Holding.{HasLayer, IsRight, Pairwise, style_kept}
-use Rattle.kept_layers.specs.KeptLayers.{id_at, is_feature, is_id, is_stale_state, prepared_layer, prepared_layers}
+use Rattle.kept_layers.specs.KeptLayers.{id_at, is_feature, is_stale_state, prepared_layer, prepared_layers}
+use Rattle.feature_index.specs.Ids.{is_id}
+use Rattle.feature_index.specs.Indexes.{AreIndexed}
+use Rattle.feature_index.specs.declared.indexes.FeatureIndexes.{FeatureIndexes}
 use Rattle.kept_layers.specs.View.{globals_in, tiles_in, trees_in}
 use Rattle.kept_layers.proofs.DropLaws.{all_kept, all_right, all_still, bare_still}
 use Rattle.kept_layers.proofs.Lists.{get_same, pairs_lengths}
@@ -34,6 +37,7 @@ loop-index-init c =
       reads = refl;
       states = refl;
       sound = c.requires.numbered.sound;
+      indexed = c.requires.indexed;
       turned = none_turned pool_slots (tiles_in s) (globals_in s) c.args.source.now c.args.source_layer.now c.args.id c.args.self.now.cells.buckets
           c.args.self.now.numbers.items (trees_in s) (places_in c.args.self.now.state_places);
     }
@@ -106,12 +110,13 @@ loop-index-preserved c =
     let shown = layer_seen c.layer-shown.result.now in
     let is_shown : shown ≡ prepared_layer (globals_in s) (get_or ts place null) = c.layer-shown.ensures
     ∙ prepared_at (globals_in s) ts (layers_seen s.style.now) place null shown counted c.requires.prepared.prepared in
-    let Turned : KeptLayers → Type 0 = λ k. record {
-      numbers : k.numbers ≡ c.args.self.now.numbers;
-      reads : k.reads_globals ≡ c.args.self.now.reads_globals;
-      states : k.state_places ≡ c.args.self.now.state_places;
-      sound : IsSound k.cells.buckets;
-      turned : AreTurned pool_slots (tiles_in s) (globals_in s) c.args.source.now c.args.source_layer.now c.args.id old ns ts ps (index + 1) k.cells.buckets;
+    let Turned : KeptLayers × FeatureIndexes → Type 0 = λ kx. record {
+      numbers : kx.0.numbers ≡ c.args.self.now.numbers;
+      reads : kx.0.reads_globals ≡ c.args.self.now.reads_globals;
+      states : kx.0.state_places ≡ c.args.self.now.state_places;
+      sound : IsSound kx.0.cells.buckets;
+      indexed : AreIndexed (tiles_in s) kx.1;
+      turned : AreTurned pool_slots (tiles_in s) (globals_in s) c.args.source.now c.args.source_layer.now c.args.id old ns ts ps (index + 1) kx.0.cells.buckets;
     } in
     elim c.if-shows.branch [
       | then-shows w ↦
@@ -124,11 +129,12 @@ loop-index-preserved c =
           subst (λ n. (cell : Cell) → kept_at w.drop_features.new.self.cells.buckets cell
           ≡ (if (nat_eq n cell.layer && is_id c.args.id (id_at (tiles_in s) shown cell.feature))
           && reads_state (source_of now cell.layer cell.item) then None else kept_at now cell)) here w.drop_features.ensures.kept in
-          subst Turned (sym w.self-is) (record {
+          subst Turned (λ j. (sym w.self-is j, sym w.indexes-is j)) (record {
             numbers = w.drop_features.ensures.numbers ∙ i.numbers;
             reads = w.drop_features.ensures.reads ∙ i.reads;
             states = w.drop_features.ensures.states ∙ i.states;
             sound = w.drop_features.ensures.sound;
+            indexed = w.drop_features.ensures.indexed;
             turned = layer_turned pool_slots (tiles_in s) (globals_in s) c.args.source.now c.args.source_layer.now c.args.id old ns ts ps index now i.turned
                 place more placed within c.requires.numbered.apart c.requires.holds w.drop_features.new.self.cells.buckets shown is_shown both.0 both.1
                 w.drop_features.ensures.still kept;
@@ -137,11 +143,12 @@ loop-index-preserved c =
           let none : (o : Option ℕ) → is_feature c.args.source.now c.args.source_layer.now c.args.id (prepared_layer (globals_in s) (get_or ts place null)) o ≡ false =
           λ o. ap (λ l. is_feature c.args.source.now c.args.source_layer.now c.args.id l o) (sym is_shown)
           ∙ not_shown c.args.source.now c.args.source_layer.now c.args.id shown o (sym w.if-shows.ensures) in
-          subst Turned (sym w.self-is) (record {
+          subst Turned (λ j. (sym w.self-is j, sym w.indexes-is j)) (record {
             numbers = i.numbers;
             reads = i.reads;
             states = i.states;
             sound = i.sound;
+            indexed = i.indexed;
             turned = passed_by pool_slots (tiles_in s) (globals_in s) c.args.source.now c.args.source_layer.now c.args.id old ns ts ps index now i.turned
                 place more placed within c.requires.numbered.apart c.requires.holds none;
           })

@@ -8,7 +8,7 @@ use Rattle.style_layout.specs.Shown.{layer_features, numbered}
 use Rattle.style_layout.specs.Walk.{HasFewLeft, features_left}
 use Rattle.kept_layers.specs.Holding.{Still}
 use Rattle.kept_layers.proofs.StateLaws.{hits, left_by}
-use Rattle.kept_layers.proofs.kept_layers.KeptLayers.drop_features.Given as goal
+use Rattle.kept_layers.proofs.kept_layers.KeptLayers.drop_walked.Given as goal
 
 abbrev pub invariant-loop-feature : goal.invariant-loop-feature
 invariant-loop-feature l = record {

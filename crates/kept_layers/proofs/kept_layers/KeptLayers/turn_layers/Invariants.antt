@@ -6,7 +6,7 @@ use Rattle.kept_layers.specs.View.{globals_in, trees_in}
 use Rattle.noted_places.specs.Places.{places_in}
 use Rattle.kept_layers.proofs.GlobalLaws.{LayersAreTurned}
 use Rattle.kept_layers.proofs.StateNotes.{FirstAreNoted}
-use Rattle.kept_layers.proofs.kept_layers.KeptLayers.turn_globals.Given as goal
+use Rattle.kept_layers.proofs.kept_layers.KeptLayers.turn_layers.Given as goal
 
 abbrev pub invariant-loop-place : goal.invariant-loop-place
 invariant-loop-place l = record {

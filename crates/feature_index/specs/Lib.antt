@@ -1,0 +1,3 @@
+-- To be believed.
+pub mod Ids
+pub mod Indexes
