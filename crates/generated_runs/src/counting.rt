@@ -1,10 +1,11 @@
 //! A script whose answers are counted and not kept.
 
-ghost use Rattle.std.specs.Prelude.{◌≡◌, ◌+◌, ◌≤◌, ◌∷◌, ◌++◌, ℕ, List, [], false, decimal, ◌^◌, OnErr, OnOk, IfOk, Option};
+ghost use Rattle.std.specs.Prelude.{◌≡◌, ◌+◌, ◌≤◌, ◌⊎◌, ◌∷◌, ◌++◌, ℕ, List, [], false, decimal, ◌^◌, OnErr, OnOk, IfOk, Option};
 ghost use Rattle.edit_session.specs.View.{session_state, tiles_of, IsSoundSession};
 ghost use Rattle.program_runs.specs.Outcome.{said};
 ghost use Rattle.program_runs.specs.Progress.{outcome_of, IsAnswered};
 ghost use Rattle.program_runs.specs.Written.{StepsAreDue};
+ghost use Rattle.script_runs.specs.ImageReports.{GoesAlong, GoesPartway, ImageReportsOfLine};
 ghost use Rattle.script_runs.specs.ScriptRun.{lines_run, ending_by};
 ghost use Rattle.generated_runs.specs.Counted.{counted, counts_line, line_count};
 ghost use Rattle.generated_runs.specs.Counting.{EndsAs, IsSmall, lines_left};
@@ -47,6 +48,11 @@ pub fn answer_counted<L: Ledger>(
         (counted features (lines_run (tiles_of session.entry) (test scripts.now) (changes images.old) 1
         (session_state session.entry (test images.old)) false (generated_lines features)))
         asked asked steps.old steps.new) }
+    ensures changes { changes images.new ≡ changes images.old }
+    ensures count { OnOk result (GoesAlong (ImageReportsOfLine (changes images.old)) (generated_lines features)
+        (tell_count images.old) (tell_count images.new)) }
+    ensures count_failed { OnErr result (GoesPartway (ImageReportsOfLine (changes images.old)) (generated_lines features)
+        (tell_count images.old) (tell_count images.new)) }
 {
     let mut session = session;
     count_answers(&mut session, features, images, scripts, steps)
@@ -68,6 +74,11 @@ fn count_answers<L: Ledger>(
         (counted features (lines_run (tiles_of session.old) (test scripts.now) (changes images.old) 1
         (session_state session.old (test images.old)) false (generated_lines features)))
         asked asked steps.old steps.new) }
+    ensures changes { changes images.new ≡ changes images.old }
+    ensures count { OnOk result (GoesAlong (ImageReportsOfLine (changes images.old)) (generated_lines features)
+        (tell_count images.old) (tell_count images.new)) }
+    ensures count_failed { OnErr result (GoesPartway (ImageReportsOfLine (changes images.old)) (generated_lines features)
+        (tell_count images.old) (tell_count images.new)) }
 {
     let mut counting = Counting {
         alloc: session.alloc(),
@@ -99,6 +110,11 @@ impl Counting {
         ensures due { (files : List ℕ → Option (List ℕ)) (asked : List (List ℕ)) → OnErr result (StepsAreDue files
             (lines_left features (test scripts.now) (changes images.old) (test images.old) session.old self.old (generated_lines features))
             asked asked steps.old steps.new) }
+        ensures changes { changes images.new ≡ changes images.old }
+        ensures count { OnOk result (GoesAlong (ImageReportsOfLine (changes images.old)) (generated_lines features)
+            (tell_count images.old) (tell_count images.new)) }
+        ensures count_failed { OnErr result (GoesPartway (ImageReportsOfLine (changes images.old)) (generated_lines features)
+            (tell_count images.old) (tell_count images.new)) }
     {
         let mut line = Vec::new(self.alloc);
         for place in 0..line_count_of(features) {
@@ -123,6 +139,9 @@ impl Counting {
         ensures next { OnOk result (self.new.number ≡ self.old.number + 1) }
         ensures small { OnOk result (self.new.number ≤ 2 ^ 33 → IsSmall self.new) }
         ensures changes { changes images.new ≡ changes images.old }
+        ensures count { OnOk result (ImageReportsOfLine (changes images.old) line.now (tell_count images.old) (tell_count images.new)) }
+        ensures count_failed { OnErr result ((tell_count images.new ≡ tell_count images.old)
+            ⊎ ImageReportsOfLine (changes images.old) line.now (tell_count images.old) (tell_count images.new)) }
         ensures on { (features : ℕ) (rest : List (List ℕ)) → OnOk result (EndsAs steps.old steps.new
             (lines_left features (test scripts.now) (changes images.old) (test images.old) session.old self.old (line.now ∷ rest))
             (lines_left features (test scripts.now) (changes images.old) (test images.new) session.new self.new rest)) }

@@ -1,9 +1,12 @@
 //! The run of a script.
 
-ghost use Rattle.std.specs.Prelude.{◌≡◌, ℕ, List, Option, OnErr, OnOk, IfOk, IfErr};
-ghost use Rattle.edit_session.specs.View.{session_state, tiles_of, IsSoundSession};
+ghost use Rattle.std.specs.Prelude.{◌≡◌, ◌⊎◌, ℕ, List, Option, true, OnErr, OnOk, IfOk, IfErr};
+ghost use Rattle.edit_session.specs.View.{lacks_memory, session_state, tiles_of, IsSoundSession};
+ghost use Rattle.host_ops.specs.Change.{IsSameTest};
 ghost use Rattle.program_runs.specs.Progress.{IsCut, IsWritten};
 ghost use Rattle.script_runs.specs.LineAnswers.{LineGives, StepsAreOfLine, line_seen};
+ghost use Rattle.script_runs.specs.ImageReports.{GoesAlong, GoesPartway, ImageReportsOfLine};
+ghost use Rattle.script_runs.specs.ScriptLines.{script_lines};
 ghost use Rattle.script_runs.specs.ScriptRun.{script_run, ending_by};
 
 use crate::answers::{answer_of, fault_answer};
@@ -51,6 +54,11 @@ pub fn answer_script<O: Sink, L: Ledger>(
         (script_run (tiles_of session.entry) (test scripts.now) (changes images.old)
         (session_state session.entry (test images.old)) script.now) asked
         (O.held out.old) (O.held out.new) steps.old steps.new (O.faults out.old) (O.faults out.new)) }
+    ensures changes { changes images.new ≡ changes images.old }
+    ensures count { OnOk result (GoesAlong (ImageReportsOfLine (changes images.old)) (script_lines script.now)
+        (tell_count images.old) (tell_count images.new)) }
+    ensures count_failed { OnErr result (GoesPartway (ImageReportsOfLine (changes images.old)) (script_lines script.now)
+        (tell_count images.old) (tell_count images.new)) }
 {
     let mut session = session;
     let mut any = false;
@@ -99,6 +107,11 @@ pub fn answer_line<L: Ledger>(
         (line_seen (session_state session.new (test images.new)) answer)) }
     ensures most { OnErr result (StepsAreOfLine (tiles_of session.old) (test scripts.now) steps.old steps.new
         (session_state session.old (test images.old)) line.now.bytes.now) }
+    ensures count { OnOk result (ImageReportsOfLine (changes images.old) line.now.bytes.now (tell_count images.old) (tell_count images.new)) }
+    ensures count_failed { OnErr result ((tell_count images.new ≡ tell_count images.old)
+        ⊎ ImageReportsOfLine (changes images.old) line.now.bytes.now (tell_count images.old) (tell_count images.new)) }
+    ensures silent { lacks_memory session.old ≡ true → tell_count images.new ≡ tell_count images.old }
+    ensures lent { lacks_memory session.new ≡ true → IsSameTest (test images.old) (test images.new) }
 {
     let alloc = session.alloc();
     match read_line(alloc, line.bytes)? {

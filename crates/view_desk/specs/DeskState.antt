@@ -4,7 +4,7 @@ use Rattle.std.specs.Bool.{then_some}
 use Rattle.std.specs.Str.{bytes_eq}
 use Rattle.edit_script.specs.Edit.{Edit}
 use Rattle.edit_script.specs.declared.command.LineFault.{LineFault}
-use Rattle.edit_session.specs.Applied.{Reply, applied, least_steps, most_steps}
+use Rattle.edit_session.specs.Applied.{Reply, applied, least_steps, most_steps, tell_count_after}
 use Rattle.edit_session.specs.OpenViews.{OpenView, fresh_view, in_each, shown_in, view_left}
 use Rattle.edit_session.specs.SessionState.{SessionState}
 use Rattle.style_edits.specs.Causes.{first_cause}
@@ -118,3 +118,11 @@ module _ (tiles : List SourceTile) (scripts : List ℕ → Bool) where
   abbrev pub desk_most : DeskState → Result DeskEdit LineFault → ℕ
   desk_most d (Ok (in_view name edit)) = most_in d.style edit (view_named name d.views)
   desk_most d read = 0
+
+-- ---- reports to the test of images
+
+-- How many there were, once a line is answered: those of an edit of the style, which are made once however many views show
+-- it. What is done in a view, or to the views, reports nothing, and so does a line with a fault. Source: own.
+abbrev pub desk_image_reports_after : (can_change : Bool) → Result DeskEdit LineFault → ℕ → ℕ
+desk_image_reports_after can_change (Ok (of_style edit)) n = tell_count_after can_change edit n
+desk_image_reports_after can_change read n = n

@@ -8,7 +8,7 @@ use Rattle.program_runs.specs.Written.{RoseBetween}
 use Rattle.style_layout.specs.Shown.{SourceTile}
 use Rattle.view_desk.specs.DeskLines.{DeskEdit, open_view, close_view, in_view, of_style, AnswersDeskLine}
 use Rattle.view_desk.specs.DeskRun.{DeskOut, desk_answered, desk_out}
-use Rattle.view_desk.specs.DeskState.{DeskReply, DeskState, faulty, refused, done, style_reply, view_reply, desk_least, desk_most}
+use Rattle.view_desk.specs.DeskState.{DeskReply, DeskState, faulty, refused, done, style_reply, view_reply, desk_least, desk_most, desk_image_reports_after}
 use Rattle.view_desk.specs.declared.answers.DeskAnswer.{DeskAnswer}
 use Rattle.view_desk.specs.declared.answers.DeskAnswer.TheVariants.{Fault, Refused, Done, Style, View}
 use Rattle.view_desk.specs.declared.desk.Desk.{Desk}
@@ -80,3 +80,8 @@ module _ (tiles : List SourceTile) (scripts : List ℕ → Bool) (steps_old step
   StepsAreOfDeskLine d line =
       (steps_new ≤ steps_old)
       ⊎ ((read : Result DeskEdit LineFault) × AnswersDeskLine line read × (steps_new ≤ steps_old + desk_most tiles scripts d read))
+
+-- The bytes of a line take the number of reports to the test of images from one to another.
+abbrev pub ImageReportsOfDeskLine : (can_change : Bool) → (line : List ℕ) → (before after : ℕ) → Type 0
+ImageReportsOfDeskLine can_change line before after =
+    (read : Result DeskEdit LineFault) × AnswersDeskLine line read × (after ≡ desk_image_reports_after can_change read before)

@@ -1,15 +1,15 @@
 //! A style under edit, with the views in which it is shown.
 
-ghost use Rattle.std.specs.Prelude.{◌≡◌, ◌<◌, ◌≤◌, ◌+◌, ℕ, List, Bool, Ok, is_err, is_some, length, map, false, true, IfOk, IfSome, IsErr, OnErr, OnOk};
+ghost use Rattle.std.specs.Prelude.{◌≡◌, ◌<◌, ◌≤◌, ◌+◌, ◌⊎◌, ℕ, List, Bool, Ok, is_err, is_some, length, map, false, true, IfOk, IfSome, IsErr, OnErr, OnOk};
 ghost use Rattle.std.specs.List.{position};
 ghost use Rattle.std.specs.Str.{bytes_eq};
 ghost use Rattle.edit_script.specs.View.{command_seen};
-ghost use Rattle.edit_session.specs.Applied.{is_of_view};
+ghost use Rattle.edit_session.specs.Applied.{is_of_view, tell_count_after};
 ghost use Rattle.edit_session.specs.View.{session_state, tiles_of, view_seen, IsSoundSession, IsUsable};
 ghost use Rattle.host_ops.specs.Change.{IsSameTest};
 ghost use Rattle.view_desk.specs.DeskLines as lines;
-ghost use Rattle.view_desk.specs.DeskState.{desk_applied, desk_least, desk_most, desk_over, opening_refusal, view_named};
-ghost use Rattle.view_desk.specs.View.{answer_seen, desk_command_seen, desk_state, desk_tiles, DeskGives, IsSoundDesk, IsWellSorted, StepsAreOfDeskLine};
+ghost use Rattle.view_desk.specs.DeskState.{desk_applied, desk_least, desk_most, desk_over, desk_image_reports_after, opening_refusal, view_named};
+ghost use Rattle.view_desk.specs.View.{answer_seen, desk_command_seen, desk_state, desk_tiles, DeskGives, IsSoundDesk, IsWellSorted, ImageReportsOfDeskLine, StepsAreOfDeskLine};
 
 use crate::answers::{DeskAnswer, DeskRefusal};
 use crate::lines::{DeskCommand, read_desk_line};
@@ -88,6 +88,10 @@ impl<'a> Desk<'a> {
             (desk_state self.old (test images.old)) line.now) }
         ensures tiles { desk_tiles self.new ≡ desk_tiles self.old }
         ensures changes { changes images.new ≡ changes images.old }
+        ensures count { OnOk result (ImageReportsOfDeskLine (changes images.old) line.now (tell_count images.old) (tell_count images.new)) }
+        ensures count_failed { OnErr result ((tell_count images.new ≡ tell_count images.old)
+            ⊎ ImageReportsOfDeskLine (changes images.old) line.now (tell_count images.old) (tell_count images.new)) }
+        ensures silent { self.old.lacks_memory ≡ true → tell_count images.new ≡ tell_count images.old }
         ensures lent { OnErr result (IsSameTest (test images.old) (test images.new)) }
         ensures sound { IsSoundDesk self.new (test images.new) (test scripts.now) }
         ensures lacks { self.new.lacks_memory ≡ is_err result }
@@ -115,6 +119,9 @@ impl<'a> Desk<'a> {
             (desk_state self.old (test images.old)) line.now) }
         ensures tiles { desk_tiles self.new ≡ desk_tiles self.old }
         ensures changes { changes images.new ≡ changes images.old }
+        ensures count { OnOk result (ImageReportsOfDeskLine (changes images.old) line.now (tell_count images.old) (tell_count images.new)) }
+        ensures count_failed { OnErr result ((tell_count images.new ≡ tell_count images.old)
+            ⊎ ImageReportsOfDeskLine (changes images.old) line.now (tell_count images.old) (tell_count images.new)) }
         ensures lent { OnErr result (IsSameTest (test images.old) (test images.new)) }
         ensures sound { IsSoundDesk self.new (test images.new) (test scripts.now) }
     {
@@ -138,6 +145,10 @@ impl<'a> Desk<'a> {
             (desk_command_seen command.now)) }
         ensures tiles { desk_tiles self.new ≡ desk_tiles self.old }
         ensures changes { changes images.new ≡ changes images.old }
+        ensures count { OnOk result (tell_count images.new
+            ≡ desk_image_reports_after (changes images.old) (Ok (desk_command_seen command.now)) (tell_count images.old)) }
+        ensures count_failed { OnErr result ((tell_count images.new ≡ tell_count images.old) ⊎ (tell_count images.new
+            ≡ desk_image_reports_after (changes images.old) (Ok (desk_command_seen command.now)) (tell_count images.old))) }
         ensures lent { OnErr result (IsSameTest (test images.old) (test images.new)) }
         ensures sound { IsSoundDesk self.new (test images.new) (test scripts.now) }
         ensures least { OnOk result (steps.old + desk_least (desk_tiles self.old) (test scripts.now)
@@ -219,6 +230,7 @@ impl<'a> Desk<'a> {
             (lines.in_view name.now (command_seen command.now))) }
         ensures tiles { desk_tiles self.new ≡ desk_tiles self.old }
         ensures changes { changes images.new ≡ changes images.old }
+        ensures silent { tell_count images.new ≡ tell_count images.old }
         ensures lent { OnErr result (IsSameTest (test images.old) (test images.new)) }
         ensures sound { IsSoundDesk self.new (test images.new) (test scripts.now) }
         ensures least { OnOk result (steps.old + desk_least (desk_tiles self.old) (test scripts.now)
@@ -251,6 +263,10 @@ impl<'a> Desk<'a> {
             (lines.of_style (command_seen command.now))) }
         ensures tiles { desk_tiles self.new ≡ desk_tiles self.old }
         ensures changes { changes images.new ≡ changes images.old }
+        ensures count { OnOk result (tell_count images.new
+            ≡ tell_count_after (changes images.old) (command_seen command.now) (tell_count images.old)) }
+        ensures count_failed { OnErr result ((tell_count images.new ≡ tell_count images.old) ⊎ (tell_count images.new
+            ≡ tell_count_after (changes images.old) (command_seen command.now) (tell_count images.old))) }
         ensures lent { OnErr result (IsSameTest (test images.old) (test images.new)) }
         ensures sound { IsSoundDesk self.new (test images.new) (test scripts.now) }
         ensures least { OnOk result (steps.old + desk_least (desk_tiles self.old) (test scripts.now)

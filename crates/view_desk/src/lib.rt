@@ -13,7 +13,9 @@
 //! zoom, the states of features, the cells that it keeps, and the number of evaluations of its last listing. `line` answers the bytes of
 //! a line by `desk_applied`: a line that opens or closes a view, a line of one view, which leaves the style and the other views, or a
 //! line of the style, which is answered as a session answers it and done in each view. A listing in a view counts at least
-//! `desk_least` and at most `desk_most` steps, and no other line counts any. Once allocation fails a desk answers so ever after.
+//! `desk_least` and at most `desk_most` steps, and no other line counts any. `add-image` and `remove-image` report to the test of
+//! images once, however many views are open, and no other line does (`desk_image_reports_after`). Once allocation fails a desk answers so
+//! ever after.
 //! `answer_desk` writes the text of each answer before the next line is looked at: the outcome of `desk_script_run` of
 //! `specs/DeskRun.antt`.
 //!

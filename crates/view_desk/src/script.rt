@@ -1,11 +1,13 @@
 //! The run of a script of a desk.
 
-ghost use Rattle.std.specs.Prelude.{◌≡◌, ◌<◌, ℕ, List, ◌++◌, length, Option, OnErr, OnOk, IfOk, IfErr};
+ghost use Rattle.std.specs.Prelude.{◌≡◌, ◌<◌, ◌⊎◌, ℕ, List, ◌++◌, length, Option, OnErr, OnOk, IfOk, IfErr};
 ghost use Rattle.outside_io.specs.Counts.{raised};
 ghost use Rattle.outside_io.specs.Writing.{Gains, GainsPrefix};
 ghost use Rattle.program_runs.specs.Progress.{IsCut, IsWritten};
+ghost use Rattle.script_runs.specs.ImageReports.{GoesAlong, GoesPartway};
+ghost use Rattle.script_runs.specs.ScriptLines.{script_lines};
 ghost use Rattle.view_desk.specs.DeskRun.{desk_script_run};
-ghost use Rattle.view_desk.specs.View.{desk_line_seen, desk_state, desk_tiles, DeskLineGives, IsSoundDesk, StepsAreOfDeskLine};
+ghost use Rattle.view_desk.specs.View.{desk_line_seen, desk_state, desk_tiles, DeskLineGives, IsSoundDesk, ImageReportsOfDeskLine, StepsAreOfDeskLine};
 
 use crate::answers::line_answer;
 use crate::desk::Desk;
@@ -46,6 +48,11 @@ pub fn answer_desk<O: Sink, L: Ledger>(
         (desk_script_run (desk_tiles desk.entry) (test scripts.now) (changes images.old)
         (desk_state desk.entry (test images.old)) script.now)
         asked (O.held out.old) (O.held out.new) steps.old steps.new (O.faults out.old) (O.faults out.new)) }
+    ensures changes { changes images.new ≡ changes images.old }
+    ensures count { OnOk result (GoesAlong (ImageReportsOfDeskLine (changes images.old)) (script_lines script.now)
+        (tell_count images.old) (tell_count images.new)) }
+    ensures count_failed { OnErr result (GoesPartway (ImageReportsOfDeskLine (changes images.old)) (script_lines script.now)
+        (tell_count images.old) (tell_count images.new)) }
 {
     let mut desk = desk;
     let mut any = false;
@@ -98,6 +105,10 @@ fn answer_line<L: Ledger>(
         (desk_line_seen (desk_state desk.new (test images.new)) answer)) }
     ensures most { OnErr result (StepsAreOfDeskLine (desk_tiles desk.old) (test scripts.now) steps.old steps.new
         (desk_state desk.old (test images.old)) line.now.bytes.now) }
+    ensures count { OnOk result (ImageReportsOfDeskLine (changes images.old) line.now.bytes.now
+        (tell_count images.old) (tell_count images.new)) }
+    ensures count_failed { OnErr result ((tell_count images.new ≡ tell_count images.old)
+        ⊎ ImageReportsOfDeskLine (changes images.old) line.now.bytes.now (tell_count images.old) (tell_count images.new)) }
 {
     let answer = desk.line(line.bytes, images, scripts, steps)?;
     line_answer(desk.alloc(), line.number, answer)

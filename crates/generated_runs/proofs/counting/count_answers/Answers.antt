@@ -2,6 +2,8 @@ use Rattle.std.proofs.Common.{false}
 use Rattle.edit_session.specs.View.{session_state, tiles_of}
 use Rattle.outside_io.specs.WritingLaws.{at_error}
 use Rattle.script_runs.specs.ScriptRun.{lines_run}
+use Rattle.script_runs.specs.ImageReports.{ImageReportsOfLine}
+use Rattle.script_runs.proofs.ImageReports.{all_partway, at_answer}
 use Rattle.generated_runs.specs.Counted.{counted}
 use Rattle.generated_runs.specs.GeneratedScript.{generated_lines}
 use Rattle.generated_runs.proofs.ScriptLaws.{all_counted, due_so_far}
@@ -30,3 +32,17 @@ returns-clause-due g c =
 
 pub returns-in_err-answer_all-clause-due : goal.returns-in_err-answer_all-clause-due
 returns-in_err-answer_all-clause-due g c = λ files asked. at_error c.from_residual.result (c.in_err-answer_all.ensures.due files asked)
+
+-- ---- reports to the test of images
+
+pub returns-clause-count : goal.returns-clause-count
+returns-clause-count g c = at_answer c.finish.result c.in_ok-answer_all.ensures.count
+
+-- the line of counts does not fit into memory
+pub returns-clause-count_failed : goal.returns-clause-count_failed
+returns-clause-count_failed g c =
+    let can_change = (goal.HostOp-dyn g c.args.images.now).changes c.args.images.now.1 in
+    at_error c.finish.result (all_partway (ImageReportsOfLine can_change) (generated_lines c.args.features) _ _ c.in_ok-answer_all.ensures.count)
+
+pub returns-in_err-answer_all-clause-count_failed : goal.returns-in_err-answer_all-clause-count_failed
+returns-in_err-answer_all-clause-count_failed g c = at_error c.from_residual.result c.in_err-answer_all.ensures.count_failed

@@ -1,8 +1,9 @@
-use Rattle.std.proofs.Common.{ap, inl, refl, arith}
+use Rattle.std.proofs.Common.{ap, inl, inr, refl, arith}
 use Rattle.outside_io.specs.WritingLaws.{at_error}
 use Rattle.edit_script.specs.View.{command_seen, read_seen}
 use Rattle.edit_session.specs.View.{session_state, reply_seen, tiles_of}
 use Rattle.script_runs.proofs.LineRuns.{command_steps, fault_given, reply_given}
+use Rattle.script_runs.proofs.ImageReports.{at_answer, command_reports, fault_reports, where_answered, where_failed}
 use Rattle.script_runs.proofs.script.answer_line.Goals as goal
 
 pub returns-in_ok-answer-in-Ok-clause-gives : goal.returns-in_ok-answer-in-Ok-clause-gives
@@ -30,3 +31,29 @@ returns-in-Err-clause-gives g c =
 
 pub returns-in-Err-clause-most : goal.returns-in-Err-clause-most
 returns-in-Err-clause-most g c = at_error c.fault_answer.result (inl (omega arith))
+
+-- ---- reports to the test of images
+
+pub returns-in_ok-answer-in-Ok-clause-count : goal.returns-in_ok-answer-in-Ok-clause-count
+returns-in_ok-answer-in-Ok-clause-count g c = at_answer c.answer_of.result (where_answered _ c.in_ok-answer-in-Ok.ensures.memory (λ has.
+    command_reports _ c.args.line.now.bytes.now (read_seen c.in_ok-command.field-0) c.in_ok-command.ensures _ _
+    (command_seen c.in-Ok.command) (ap read_seen c.in-Ok.is) (c.in_ok-answer-in-Ok.ensures.count has)))
+
+pub returns-in_ok-answer-in-Ok-clause-count_failed : goal.returns-in_ok-answer-in-Ok-clause-count_failed
+returns-in_ok-answer-in-Ok-clause-count_failed g c = at_error c.answer_of.result (inr (where_answered _ c.in_ok-answer-in-Ok.ensures.memory (λ has.
+    command_reports _ c.args.line.now.bytes.now (read_seen c.in_ok-command.field-0) c.in_ok-command.ensures _ _
+    (command_seen c.in-Ok.command) (ap read_seen c.in-Ok.is) (c.in_ok-answer-in-Ok.ensures.count has))))
+
+pub returns-in_err-answer-in-Ok-clause-count_failed : goal.returns-in_err-answer-in-Ok-clause-count_failed
+returns-in_err-answer-in-Ok-clause-count_failed g c = at_error c.from_residual-in_err-answer-in-Ok.result
+    (where_failed _ c.in_err-answer-in-Ok.ensures.silent (λ has.
+    command_reports _ c.args.line.now.bytes.now (read_seen c.in_ok-command.field-0) c.in_ok-command.ensures _ _
+    (command_seen c.in-Ok.command) (ap read_seen c.in-Ok.is) (c.in_err-answer-in-Ok.ensures.count has)))
+
+pub returns-in-Err-clause-count : goal.returns-in-Err-clause-count
+returns-in-Err-clause-count g c = at_answer c.fault_answer.result
+    (fault_reports _ c.args.line.now.bytes.now (read_seen c.in_ok-command.field-0) c.in_ok-command.ensures _ _
+    c.in-Err.fault (ap read_seen c.in-Err.is) refl)
+
+pub returns-in-Err-clause-count_failed : goal.returns-in-Err-clause-count_failed
+returns-in-Err-clause-count_failed g c = at_error c.fault_answer.result (inl refl)

@@ -3,8 +3,10 @@ use Rattle.edit_session.specs.View.{session_state, tiles_of, IsSoundSession}
 use Rattle.outside_io.specs.Writing.{Gains}
 use Rattle.program_runs.specs.Progress.{Stretch, HasWritten}
 use Rattle.program_runs.specs.Written.{RoseBetween}
+use Rattle.script_runs.specs.ImageReports.{ImageReportsOfLine}
 use Rattle.script_runs.specs.ScriptLines.{script_lines}
 use Rattle.script_runs.specs.ScriptRun.{lines_run, script_run}
+use Rattle.script_runs.proofs.ImageReports.{HasGone}
 use Rattle.script_runs.proofs.script.answer_script.Given as goal
 
 abbrev pub invariant-loop-line : goal.invariant-loop-line
@@ -23,6 +25,8 @@ invariant-loop-line g l =
           × RoseBetween l.fn.steps l.steps s.least s.most
           × HasWritten (script_run (tiles_of l.fn.session) scripts can_change (session_state l.fn.session images_first) l.fn.script) s
           (lines_run (tiles_of l.fn.session) scripts can_change l.number (session_state l.session images) l.any (script_lines l.rest));
+      reports : HasGone (ImageReportsOfLine can_change) (script_lines l.fn.script) (script_lines l.rest)
+          ((goal.HostOp-dyn g l.fn.images.now).tell_count l.fn.images.now.1) ((goal.HostOp-dyn g l.images.now).tell_count l.images.now.1);
     }
 
 abbrev pub decreases-loop-line : goal.decreases-loop-line

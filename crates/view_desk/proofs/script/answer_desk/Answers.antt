@@ -8,7 +8,8 @@ use Rattle.program_runs.specs.declared.status.Ending.{Ending}
 use Rattle.script_runs.specs.ScriptLines.{script_lines}
 use Rattle.script_runs.specs.ScriptRun.{ending_by}
 use Rattle.view_desk.specs.DeskRun.{desk_lines_run, desk_script_run}
-use Rattle.view_desk.specs.View.{desk_state, desk_tiles}
+use Rattle.view_desk.specs.View.{desk_state, desk_tiles, ImageReportsOfDeskLine}
+use Rattle.script_runs.proofs.ImageReports.{all_gone, line_cut, line_gone, none_gone, some_gone}
 use Rattle.view_desk.proofs.DeskLineRuns.{desk_line_writes, desk_steps_due}
 use Rattle.view_desk.proofs.script.answer_desk.Goals as goal
 
@@ -20,6 +21,7 @@ loop-line-init g c = record {
   counted = omega arith;
   none_failed = refl;
   written = (no_stretch, gains_nothing (g.O.Sink.held c.args.out.now), (omega arith, omega arith), none_written _);
+  reports = none_gone _ (script_lines c.args.script.now) _;
 }
 
 pub loop-line-preserved : goal.loop-line-preserved
@@ -44,6 +46,7 @@ loop-line-preserved g c =
         rose_on _ _ _ before.0.least before.0.most next.0 next.1 before.2 next.3,
         piece_written _ _ _ before.0 piece before.3 next.2,
       );
+      reports = line_gone ImageReportsOfDeskLine _ _ c.loop-line.invariant.changes _ _ _ _ c.in-Some.ensures.some _ _ _ c.in-Ok.ensures.count c.loop-line.invariant.reports;
     }
 
 -- no line is left
@@ -84,3 +87,23 @@ returns-in-Err-clause-stop g c =
     (rw c.as_slice-in-Some.ensures.value at (rw c.as_slice.ensures.value at c.in-Err.ensures.err))
     (rw c.as_slice-in-Some.ensures.value at (rw c.as_slice.ensures.value at c.in-Err.ensures.one_failed.0))
     (c.in-Err.ensures.one_failed.1 ∙ ap raised c.loop-line.invariant.none_failed)
+
+-- ---- reports to the test of images
+
+pub returns-clause-count : goal.returns-clause-count
+returns-clause-count g c =
+    let can_change = (goal.HostOp-dyn g c.args.images.now).changes c.args.images.now.1 in
+    let none : script_lines c.loop-line.rest.now ≡ [] = search rules in
+    all_gone (ImageReportsOfDeskLine can_change) (script_lines c.args.script.now) (script_lines c.loop-line.rest.now) _ _ none c.loop-line.invariant.reports
+
+pub returns-in_default-answer_line-clause-count_failed : goal.returns-in_default-answer_line-clause-count_failed
+returns-in_default-answer_line-clause-count_failed g c =
+    line_cut ImageReportsOfDeskLine _ _ c.loop-line.invariant.changes (script_lines c.args.script.now) _ _ _ c.in-Some.ensures.some _ _ _
+    c.in_default-answer_line.ensures.count_failed c.loop-line.invariant.reports
+
+pub returns-in-Err-clause-count_failed : goal.returns-in-Err-clause-count_failed
+returns-in-Err-clause-count_failed g c =
+    let can_change = (goal.HostOp-dyn g c.args.images.now).changes c.args.images.now.1 in
+    some_gone (ImageReportsOfDeskLine can_change) (script_lines c.args.script.now) _ _ _
+    (line_gone ImageReportsOfDeskLine _ _ c.loop-line.invariant.changes (script_lines c.args.script.now) _ _ _ c.in-Some.ensures.some _ _ _
+    c.in-Ok.ensures.count c.loop-line.invariant.reports)

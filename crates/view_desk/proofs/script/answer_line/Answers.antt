@@ -1,3 +1,6 @@
+use Rattle.std.proofs.Common.{inr}
+use Rattle.outside_io.specs.WritingLaws.{at_error}
+use Rattle.script_runs.proofs.ImageReports.{at_answer}
 use Rattle.view_desk.specs.View.{desk_state, desk_tiles}
 use Rattle.view_desk.proofs.DeskLineRuns.{line_given, line_most}
 use Rattle.view_desk.proofs.script.answer_line.Goals as goal
@@ -17,3 +20,12 @@ returns-clause-most g c =
     line_most (desk_tiles c.args.desk.now) scripts (images.changes c.args.images.now.1) c.args.line.now.number
     (desk_state c.args.desk.now (images.test c.args.images.now.1)) _ c.args.line.now.bytes.now _ _ _ c.line_answer.result
     c.in_ok-answer.ensures.gives
+
+pub returns-clause-count : goal.returns-clause-count
+returns-clause-count g c = at_answer c.line_answer.result c.in_ok-answer.ensures.count
+
+pub returns-clause-count_failed : goal.returns-clause-count_failed
+returns-clause-count_failed g c = at_error c.line_answer.result (inr c.in_ok-answer.ensures.count)
+
+pub returns-in_err-answer-clause-count_failed : goal.returns-in_err-answer-clause-count_failed
+returns-in_err-answer-clause-count_failed g c = at_error c.from_residual.result c.in_err-answer.ensures.count_failed

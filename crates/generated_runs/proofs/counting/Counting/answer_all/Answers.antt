@@ -1,6 +1,8 @@
 use Rattle.std.proofs.Common.{◌≡◌, ◌∙◌, ◌≤◌, [], refl, subst, arith, ℕ, List, drop, length}
 use Rattle.std.proofs.lemmas.List.{drop_all}
 use Rattle.outside_io.specs.WritingLaws.{at_error}
+use Rattle.script_runs.specs.ImageReports.{ImageReportsOfLine}
+use Rattle.script_runs.proofs.ImageReports.{all_gone, line_cut, line_gone, none_gone, some_gone}
 use Rattle.generated_runs.specs.Counting.{EndsAs, lines_left}
 use Rattle.generated_runs.specs.GeneratedScript.{generated_lines}
 use Rattle.generated_runs.proofs.ScriptLaws.{due_so_far, none_yet, one_answered, one_due}
@@ -13,6 +15,7 @@ loop-place-init g c = record {
   small = c.requires.small;
   number = c.requires.first;
   on = none_yet _ _;
+  reports = none_gone _ (generated_lines c.args.features) _;
 }
 
 pub loop-place-preserved : goal.loop-place-preserved
@@ -30,6 +33,8 @@ loop-place-preserved g c =
           c.in_ok-put_line.ensures c.as_slice.ensures.value _ _ _
           (lines_left c.args.features scripts can_change images_first c.args.session.now c.args.self.now (generated_lines c.args.features))
           _ c.answer.new.session _ (c.in_ok-answer.ensures.on c.args.features _) c.loop-place.invariant.on;
+      reports = line_gone ImageReportsOfLine _ _ c.loop-place.invariant.changes (generated_lines c.args.features) _ _ _ c.in_ok-put_line.ensures _ _ _
+          (rw c.as_slice.ensures.value at c.in_ok-answer.ensures.count) c.loop-place.invariant.reports;
     }
 
 pub returns-clause-on : goal.returns-clause-on
@@ -55,3 +60,23 @@ returns-in_err-answer-clause-due g c =
     let scripts = (goal.HostOp-dyn g c.args.scripts.now).test c.args.scripts.now.1 in
     λ files asked. at_error c.from_residual-in_err-answer.result (one_due c.args.features scripts _ _ c.loop-place.invariant.changes images c.loop-place.session c.loop-place.self _ _ c.as_slice.result.now _
     c.in_ok-put_line.ensures c.as_slice.ensures.value _ _ _ _ files asked (c.in_err-answer.ensures.due c.args.features _ files asked) c.loop-place.invariant.on)
+
+-- ---- reports to the test of images
+
+pub returns-clause-count : goal.returns-clause-count
+returns-clause-count g c =
+    let can_change = (goal.HostOp-dyn g c.args.images.now).changes c.args.images.now.1 in
+    let past : length (generated_lines c.args.features) ≤ c.loop-place.place = omega (arith, c.loop-place-test.false, c.line_count_of-place-end.ensures.count) in
+    let none : drop c.loop-place.place (generated_lines c.args.features) ≡ [] = drop_all c.loop-place.place (generated_lines c.args.features) past in
+    all_gone (ImageReportsOfLine can_change) (generated_lines c.args.features) (drop c.loop-place.place (generated_lines c.args.features)) _ _ none c.loop-place.invariant.reports
+
+pub returns-in_err-put_line-clause-count_failed : goal.returns-in_err-put_line-clause-count_failed
+returns-in_err-put_line-clause-count_failed g c =
+    let can_change = (goal.HostOp-dyn g c.args.images.now).changes c.args.images.now.1 in
+    at_error c.from_residual.result (some_gone (ImageReportsOfLine can_change) (generated_lines c.args.features) _ _ _ c.loop-place.invariant.reports)
+
+pub returns-in_err-answer-clause-count_failed : goal.returns-in_err-answer-clause-count_failed
+returns-in_err-answer-clause-count_failed g c =
+    at_error c.from_residual-in_err-answer.result
+    (line_cut ImageReportsOfLine _ _ c.loop-place.invariant.changes (generated_lines c.args.features) _ _ _ c.in_ok-put_line.ensures _ _ _
+    (rw c.as_slice.ensures.value at c.in_err-answer.ensures.count_failed) c.loop-place.invariant.reports)

@@ -5,6 +5,8 @@ use Rattle.edit_script.specs.View.{command_seen}
 use Rattle.edit_session.specs.OpenViews.{OpenView, in_each}
 use Rattle.edit_session.specs.View.{reply_seen, session_state, view_seen}
 use Rattle.edit_session.specs.declared.view.View.{View}
+use Rattle.outside_io.specs.WritingLaws.{at_error}
+use Rattle.script_runs.proofs.ImageReports.{where_answered, where_failed}
 use Rattle.view_desk.specs.DeskState.{done_to_all, style_reply}
 use Rattle.view_desk.specs.View.{desk_state, desk_tiles}
 use Rattle.view_desk.proofs.desk.Desk.apply.Goals as goal
@@ -27,3 +29,10 @@ returns-clause-answer g c =
       style_reply (reply_seen c.in_ok-answer.answer),
     ))
     ∙ ap (done_to_all (desk_tiles s) scripts can_change (desk_state s has_image) edit) c.in_ok-answer.ensures.answer
+
+pub returns-clause-count : goal.returns-clause-count
+returns-clause-count g c = where_answered _ c.in_ok-answer.ensures.memory c.in_ok-answer.ensures.count
+
+pub returns-in_err-answer-clause-count_failed : goal.returns-in_err-answer-clause-count_failed
+returns-in_err-answer-clause-count_failed g c =
+    at_error c.from_residual.result (where_failed _ c.in_err-answer.ensures.silent c.in_err-answer.ensures.count)

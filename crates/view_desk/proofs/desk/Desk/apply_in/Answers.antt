@@ -4,6 +4,7 @@ use Rattle.edit_session.specs.View.{reply_seen, session_state, view_seen, IsSoun
 use Rattle.edit_session.specs.declared.view.View.{View}
 use Rattle.view_desk.specs.DeskState.{done_if, least_in}
 use Rattle.view_desk.specs.View.{desk_state, desk_tiles}
+use Rattle.view_desk.proofs.DeskReports.{view_is_silent}
 use Rattle.view_desk.proofs.ViewPlaces.{is_at, is_nowhere}
 use Rattle.view_desk.proofs.ViewsDone.{done_in_view, least_there, most_there}
 use Rattle.view_desk.proofs.ViewsSound.{done_sound, sound_at}
@@ -112,3 +113,11 @@ returns-in_err-answer-clause-most g c =
     let same = most_there (desk_tiles s) scripts (session_state s.session (images.test c.args.images.now.1)) (command_seen c.args.command.now)
     s.views.items c.in-Some.place name old at (ap view_seen c.index_mut-view.ensures.value ∙ at.seen old) in
     omega (arith, same, c.apply_in.ensures.most)
+
+pub returns-clause-silent : goal.returns-clause-silent
+returns-clause-silent g c =
+    view_is_silent _ (command_seen c.args.command.now) _ _ _ c.requires.command c.apply_in.ensures.count c.apply_in.ensures.silent
+
+pub returns-in_err-answer-clause-silent : goal.returns-in_err-answer-clause-silent
+returns-in_err-answer-clause-silent g c =
+    view_is_silent _ (command_seen c.args.command.now) _ _ _ c.requires.command c.apply_in.ensures.count c.apply_in.ensures.silent
