@@ -6,6 +6,8 @@
   without the second listing, and how many MB a second it writes;
 - a first listing of `replay` beside the `eval` of the same, seconds of processor of both;
 - 8,000,000 cells of two tiles, by `eval` and by `replay`: seconds and the most memory;
+- a state of each of n features, in an order that is not theirs: seconds and the most memory;
+- 4,000 lines of `set-global` over 1,000 layers that use the global state;
 - 500,000 lines of `set-state`, 16 MB of refused lines, and a million lines of `list` over a style without layers.
 
 Of the measurements those are taken whose names begin so; without such words all."""
@@ -71,6 +73,24 @@ def state_of_one(program, folder):
     print(f"a state of one of 100,000 features, listed again: {twice[3].split()[-1].decode()} evaluated, {more:.3f} s, {size:.1f} MB, {size / more:.0f} MB/s; memory {twice[1]:.0f} MB")
 
 
+def state_of_each(program, folder):
+    style = written(folder, "style", listings.style(STATED))
+    for count in (25_000, 50_000, 100_000, 200_000):
+        tile = "t=" + written(folder, "tile", listings.tile(identified(count), [b"r"], range(100)))
+        script = "".join(lines(["set-state", "t", "p", it * 7919 % count, {"on": True}]) for it in range(count))
+        taken = run([program, "replay", style, written(folder, "script", script), "3", tile])
+        print(f"a state of each of {count:,} features: {taken[0]:.2f} s, {taken[1]:.0f} MB")
+
+
+def globals_again(program, folder):
+    layer = '{"id":"c%d","type":"circle","source":"t","source-layer":"p","paint":{"circle-radius":["+",1,["global-state","x"]]}}'
+    layers = ",".join(layer % it for it in range(1000))
+    style = written(folder, "style", '{"version":8,"state":{"x":{"default":1}},"sources":{"t":{"type":"vector"}},"layers":[%s]}' % layers)
+    script = "".join(lines(["set-global", "x", it]) for it in range(4000))
+    taken = run([program, "replay", style, written(folder, "script", script), "3"])
+    print(f"4,000 lines of set-global over 1,000 layers: {taken[0]:.1f} s, {taken[1]:.0f} MB")
+
+
 def first_listings(program, folder):
     for name, style, tile in (("400 layers of legacy forms", *listings.many_layers()), ("three expressions", *listings.three_expressions()), ("2,000,000 features, a radius each", listings.style(RADIUS), listings.tile(numbered(2_000_000), [b"r"], range(100)))):
         shown, tiles = written(folder, "style", style), "t=" + written(folder, "tile", tile)
@@ -98,7 +118,7 @@ def long_scripts(program, folder):
         print(f"{name}: {taken[0]:.2f} s, {taken[1]:.0f} MB, {taken[2] / 1e6:.0f} MB printed, ends {taken[3][-24:]!r}")
 
 
-MEASUREMENTS = {"state": state_of_one, "first": first_listings, "cells": most_cells, "scripts": long_scripts}
+MEASUREMENTS = {"state": state_of_one, "each": state_of_each, "globals": globals_again, "first": first_listings, "cells": most_cells, "scripts": long_scripts}
 
 
 def main():
