@@ -1,7 +1,8 @@
 #!/usr/bin/env python3
 """Simplifies random styles, and holds the result against what simplification promises: it has no findings, no expression has more
 nodes, no feature passes a filter that is listed as `never`, and over random tiles, states and zooms each feature has the values and
-marks that it has in the style. A value that reads no feature any more may be listed with its layer.
+marks that it has in the style. A value that reads no feature any more may be listed with its layer. How many evaluations a listing
+takes is not compared: most often fewer, but such a value is evaluated also where the layer shows no feature.
 
     python3 checks/styles/simplify.py [--program PROGRAM] [--seed N] [--count N]
 """
@@ -38,6 +39,8 @@ def shown(listing):
         elif line.startswith("  "):
             own[name] = value
             layers[layer, name] = value
+        elif name == "stats":
+            lines.append(name)
         else:
             layer, own = f"{len(lines)} {line}", {}
             lines.append(line)
