@@ -1,5 +1,6 @@
 -- The indexes of source layers.
 use Rattle.std.proofs.Common.{◌≡◌, ℕ, zero, suc, ◌+◌, ◌<◌, List, [], ◌∷◌, ◌++◌, length, get_or, set, take, drop, map, Bool, true, false, Option, refl, sym, ap, ◌∙◌, subst, arith, if◌then◌else◌}
+use Rattle.std.specs.List.{swap}
 use Rattle.std.specs.Prelude.{flat_map, None, Some, option_map, IfSome}
 use Rattle.tile_reader.specs.declared.tile.Feature.{Feature}
 use Rattle.style_layout.specs.Layers.{StyleLayer, has_features}
@@ -21,6 +22,12 @@ module _ (tiles : List SourceTile) where
   pub entries_last : (es : List SearchedLayer) (e : SearchedLayer) → AreEntries tiles es → IsEntryOf tiles e → AreEntries tiles (es ++ e ∷ [])
   entries_last [] e are is = (is, tt)
   entries_last (x ∷ es) e are is = (are.0, entries_last es e are.1 is)
+
+  pub entries_swapped : (es : List SearchedLayer) (i j : ℕ) → i < length es → j < length es → AreEntries tiles es → AreEntries tiles (swap es i j)
+  entries_swapped [] i j h k are = tt
+  entries_swapped (d ∷ es) i j h k are =
+      entries_set (set (d ∷ es) i (get_or (d ∷ es) j d)) j (get_or (d ∷ es) i d)
+      (entries_set (d ∷ es) i (get_or (d ∷ es) j d) are (entry_at (d ∷ es) j d k are)) (entry_at (d ∷ es) i d h are)
 
   -- the features of a layer's source layer are those that it shows
   pub features_shown : (layer : StyleLayer) (entry : SearchedLayer) → IsOfLayer layer entry → has_features layer.type ≡ true

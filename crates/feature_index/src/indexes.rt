@@ -78,7 +78,7 @@ impl FeatureIndexes {
 
     /// Notes that the features of a layer are looked for by an id, over the same tiles in each call. The sixteenth call for a
     /// source layer makes its index: that takes time n log n in its features, and some 40 bytes for each. Each other takes time
-    /// linear in the source layers that were noted.
+    /// linear in the source layers that were noted, and constant time where this one was noted last: it is put first.
     pub fn note(&mut self, layer: &StyleLayer, tiles: &[SourceTile<'_>])
         requires few { length (layer_features (map tile_seen tiles.now) (layer_seen layer.now)) < 4294967295 }
         requires shown { has_features layer.now.layer_type ≡ true }
@@ -86,7 +86,10 @@ impl FeatureIndexes {
         ensures { AreIndexed (map tile_seen tiles.now) self.new }
     {
         match self.place(layer) {
-            Some(place) => self.layers[place].note(self.alloc, layer, tiles),
+            Some(place) => {
+                self.layers[place].note(self.alloc, layer, tiles);
+                self.layers.swap(0, place);
+            }
             None => {
                 let _ = self.add(layer);
             }

@@ -86,8 +86,8 @@ impl KeptLayers {
     }
 
     /// The state of the features of a source, a source layer and an id is another. Takes time linear in the layers of
-    /// which an expression reads a state, and for each of them that shows this source layer in the features that have the id
-    /// and in the source layers that were noted; until the source layer is indexed, in all its features.
+    /// which an expression reads a state and in the source layers that were noted, and for each layer that shows this source
+    /// layer in the features that have the id; until the source layer is indexed, in all its features.
     pub fn turn_state(
         &mut self,
         source: &str,
