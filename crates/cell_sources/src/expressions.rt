@@ -1,9 +1,11 @@
 //! The expression that gives the value of an item of a layer.
 
-ghost use Rattle.std.specs.Prelude.{◌≡◌, IfOk, IfSome, Some, option_map};
+ghost use Rattle.std.specs.Prelude.{◌≡◌, ℕ, List, IfOk, IfSome, Some, option_map};
 ghost use Rattle.decimal_json.specs.View.{tree_of};
+ghost use Rattle.prop_values.specs.Data.{Data};
 ghost use Rattle.property_tables.specs.RowView.{row_seen};
-ghost use Rattle.legacy_functions.specs.Tokens.{token_expression};
+ghost use Rattle.expr_syntax.specs.Mentioned.{nothing};
+ghost use Rattle.legacy_functions.specs.Tokens.{has_tokens, token_expression};
 ghost use Rattle.legacy_functions.specs.View.{function_of, row_of};
 ghost use Rattle.legacy_functions.specs.Form.{form};
 ghost use Rattle.legacy_laws.specs.LegacyFunctionLaw.{IsTableRow};
@@ -15,29 +17,37 @@ ghost use Rattle.cell_sources.specs.CellExpressions.{filter_expression, filter_r
 ghost use Rattle.cell_sources.specs.Views.{IsFormOf, IsFormed, expression_seen};
 
 use decimal_json::{Json, Text};
-use expr_syntax::{Expr, Reading, read_with, uses_globals};
+use dependency_sets::mentions;
+use expr_syntax::{Expr, Mentions, Reading, read_with, uses_globals};
 use form_pool::LegacyForm;
-use legacy_functions::{Function, FunctionReading, token_expr};
+use legacy_functions::{Function, FunctionReading, has_tokens};
 use legacy_laws::{
     expressions_mean_their_filters, expressions_mean_their_functions,
-    token_expressions_mean_their_texts,
+    migrated_token_texts_mention_the_feature, token_expressions_mean_their_texts,
 };
 use prop_values::{Entries, Want};
 use property_tables::{Place, Row};
 use std::alloc::{AllocError, Global};
 use value_forms::{Form, form_of};
 
-/// An expression by which the cells of an item are evaluated.
+/// An expression by which the cells of an item are evaluated, and what a source says of it.
 #[derive(Drop)]
 pub(crate) struct ItemExpression {
-    pub(crate) expression: Expr,
+    pub(crate) form: ItemForm,
+    pub(crate) mentions: Mentions,
     pub(crate) want: Want,
     /// It sees the zoom as a paint value does, and else its floor.
     pub(crate) paint: bool,
     /// It was read by the values of the global state.
     pub(crate) globals: bool,
-    /// The legacy form whose expression it is, by which the cells are evaluated in its place.
-    pub(crate) legacy: Option<LegacyForm>,
+}
+
+/// What an expression is evaluated by.
+#[derive(Drop)]
+pub(crate) enum ItemForm {
+    Expression(Expr),
+    /// The legacy form whose expression it is, which is evaluated in its place.
+    Legacy(LegacyForm),
 }
 
 /// The expression of a value of a row; none of a literal.
@@ -54,7 +64,7 @@ pub(crate) fn value_expression(
     match form_of(row, json) {
         Form::Expression => value_read(alloc, row, globals, json),
         Form::Function => function_read(alloc, row, globals, json),
-        Form::TokenText => tokens_read(alloc, row, globals, json),
+        Form::TokenText => tokens_read(row, json),
         Form::Literal => Ok(None),
     }
 }
@@ -70,11 +80,11 @@ fn value_read(
 {
     match read_with(alloc, json, globals)? {
         Ok(Reading::Inside(expression)) => Ok(Some(ItemExpression {
-            expression,
+            mentions: mentions(&expression),
+            form: ItemForm::Expression(expression),
             want: row.want,
             paint: is_paint(row.place),
             globals: uses_globals(json),
-            legacy: None,
         })),
         _ => Ok(None),
     }
@@ -126,60 +136,76 @@ fn migrated_read(
     Ok(with_form(read, LegacyForm::Function(function)))
 }
 
-// An expression with the legacy form whose expression it is.
+// What was read as an expression, by the legacy form whose expression it is.
 fn with_form(read: Option<ItemExpression>, form: LegacyForm) -> Option<ItemExpression>
-    requires { IfSome read (λ e. IsFormOf form e) }
+    requires formed { IfSome read IsFormed }
+    requires of_form { IfSome read (λ e. IsFormOf form e) }
     ensures seen { option_map expression_seen result ≡ option_map expression_seen read }
     ensures formed { IfSome result IsFormed }
 {
     match read {
-        Some(mut expression) => {
-            expression.legacy = Some(form);
-            Some(expression)
-        }
+        Some(expression) => Some(by_form(expression, form)),
         None => None,
     }
 }
 
-fn tokens_read(
-    alloc: Global,
-    row: &Row,
-    globals: &Entries,
-    json: &Json,
-) -> Result<Option<ItemExpression>, AllocError>
-    ensures seen { IfOk result (λ made. option_map expression_seen made
-        ≡ read_as_value (row_seen row.now) globals.now (tokens_tree (tree_of json.now))) }
+#[tactic(auto, using(crate::proofs::FormedExpressions::term_same))]
+fn by_form(read: ItemExpression, form: LegacyForm) -> ItemExpression
+    requires formed { IsFormed read }
+    requires of_form { IsFormOf form read }
+    ensures seen { expression_seen result ≡ expression_seen read }
+    ensures formed { IsFormed result }
+{
+    let mut expression = read;
+    expression.form = ItemForm::Legacy(form);
+    expression
+}
+
+fn tokens_read(row: &Row, json: &Json) -> Result<Option<ItemExpression>, AllocError>
+    ensures seen { IfOk result (λ made. (globals : List (List ℕ × Data)) → option_map expression_seen made
+        ≡ read_as_value (row_seen row.now) globals (tokens_tree (tree_of json.now))) }
     ensures formed { IfOk result (λ made. IfSome made IsFormed) }
 {
     match json {
-        Json::Text(text) => text_read(alloc, row, globals, text),
+        Json::Text(text) => Ok(Some(text_read(row, text)?)),
         _ => Ok(None),
     }
 }
 
-// The expression of a text with tokens.
-#[tactic(auto, using(crate::proofs::FormedExpressions::tokens_formed))]
-fn text_read(
-    alloc: Global,
-    row: &Row,
-    globals: &Entries,
-    text: &Text,
-) -> Result<Option<ItemExpression>, AllocError>
-    ensures seen { IfOk result (λ made. option_map expression_seen made
-        ≡ value_read (row_seen row.now) globals.now (token_expression text.now)) }
-    ensures formed { IfOk result (λ made. IfSome made IsFormed) }
+// The expression of a text with tokens, which is not made: what a source says of it is read off the text.
+fn text_read(row: &Row, text: &Text) -> Result<ItemExpression, AllocError>
+    ensures seen { IfOk result (λ made. (globals : List (List ℕ × Data)) → Some (expression_seen made)
+        ≡ value_read (row_seen row.now) globals (token_expression text.now)) }
+    ensures formed { IfOk result IsFormed }
 {
     token_expressions_mean_their_texts();
-    let made = token_expr(alloc, text.as_str())?;
-    let read = value_read(alloc, row, globals, &made)?;
+    migrated_token_texts_mention_the_feature();
     let form = tokens_form(text, row)?;
-    Ok(with_form(read, form))
+    Ok(ItemExpression {
+        form: ItemForm::Legacy(form),
+        mentions: token_mentions(text),
+        want: row.want,
+        paint: is_paint(row.place),
+        globals: false,
+    })
 }
 
 fn tokens_form(text: &Text, row: &Row) -> Result<LegacyForm, AllocError>
     ensures { IfOk result (λ form. form ≡ forms.Tokens text.now (row_seen row.now).want) }
 {
     Ok(LegacyForm::Tokens(text.share()?, row.want))
+}
+
+// What the expression of a text with tokens mentions.
+fn token_mentions(text: &Text) -> Mentions
+    ensures { result ≡ record nothing { feature = has_tokens text.now } }
+{
+    Mentions {
+        zoom: false,
+        feature: has_tokens(text.as_str()),
+        state: false,
+        image: false,
+    }
 }
 
 /// The expression of a filter; none of a truth value.
@@ -231,11 +257,11 @@ fn filter_read(
 {
     match read_with(alloc, json, globals)? {
         Ok(Reading::Inside(expression)) => Ok(Some(ItemExpression {
-            expression,
+            mentions: mentions(&expression),
+            form: ItemForm::Expression(expression),
             want: Want::Boolean,
             paint: false,
             globals: uses_globals(json),
-            legacy: None,
         })),
         _ => Ok(None),
     }

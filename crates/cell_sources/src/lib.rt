@@ -16,9 +16,10 @@
 //!   its sources, and all other layers are as they were.
 //! - `set_item` drops the values of one item, whatever source it had, and gives it the source of its expression, or
 //!   none. All other items and layers stay. Where an allocation fails, the item has no source and no kept value.
-//! - `clear_expressions` empties the evaluator, and `renew_sources` puts the expressions of a layer into it anew, so that
-//!   those of items that were edited do not stay in it. No value is kept or dropped by them, and no source says another thing
-//!   of its expression; only numbers change.
+//! - `clear_expressions` empties the evaluator, and leaves each source as it is. `renew_sources` puts the expressions of
+//!   a layer into it anew, so that those of items that were edited do not stay in it: each source stays but for its
+//!   number, an item that had none gets none, and the sources of other layers stay with their numbers. So a layer that
+//!   had the sources of its expressions has them. Neither call keeps or drops a value, also where an allocation fails.
 //! - An item's expression gives what the layout lists for it, a value or its fault (`expressions_give_values`,
 //!   `properties_are_given`), and reads the feature or its state exactly where the value is listed with each feature
 //!   (`properties_are_read_by_expressions`). That of a filter says which features pass (`expressions_decide_filters`):
@@ -26,6 +27,9 @@
 //! - A cell means the same in two scenes, and for two features, that agree on what its expression mentions
 //!   (`cells_mean_the_same`). Other values of the global state change no expression of an item but one that has a
 //!   `global-state` node (`globals_change_no_other`).
+//!
+//! Of a text with tokens no expression is made. By `legacy_laws` it always has one, and what that mentions is read off
+//! the text; the evaluator has the text itself, by a handle.
 //!
 //! The text to believe is in `specs/`: `CellExpressions`, `Sourced`, `CellLaws`.
 #![tactic(auto)]

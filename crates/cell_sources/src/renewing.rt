@@ -20,8 +20,8 @@ use layer_buckets::{Buckets, CellItem};
 use property_tables::row_count;
 use std::alloc::{AllocError, Global};
 
-/// Takes all expressions out of the evaluator. The sources stay, and so does what is kept; their numbers are those of
-/// no expression until `renew_sources` gives them others.
+/// Takes all expressions out of the evaluator. Each source stays as it is, and so does what is kept. The numbers of the
+/// sources are those of no expression until `renew_sources` gives them others.
 pub fn clear_expressions(alloc: Global, buckets: &mut Buckets<FormPool>)
     requires { IsSound buckets.old }
     ensures sound { IsSound buckets.new }
@@ -34,7 +34,8 @@ pub fn clear_expressions(alloc: Global, buckets: &mut Buckets<FormPool>)
 }
 
 /// Puts the expressions of a layer after those that the evaluator has, and gives the sources of its items their
-/// numbers. Takes time linear in the layer. What is kept stays, also where an allocation fails.
+/// numbers. Takes time linear in the layer. Each source of the layer stays but for its number, an item without a source
+/// gets none, those of other layers stay with their numbers, and what is kept stays: also where an allocation fails.
 pub fn renew_sources(
     alloc: Global,
     number: u32,
@@ -114,13 +115,7 @@ fn renew_source(
     ensures renewed { OnOk result (RenewsItem ⟦<FormPool as CountedEvaluator>⟧.slots number item
         (Some (expression_seen expression)) buckets.old buckets.new) }
 {
-    let slot = put_item(
-        alloc,
-        expression.expression,
-        expression.want,
-        expression.legacy,
-        buckets,
-    )?;
+    let slot = put_item(alloc, expression.form, expression.want, buckets)?;
     buckets.set_number(number, &item, slot);
     Ok(())
 }

@@ -4,7 +4,6 @@ ghost use Rattle.std.specs.Prelude.{◌≡◌, ◌<◌, ℕ, ◌++◌, ◌∷◌
 ghost use Rattle.decimal_json.specs.Tree.{object, fields_of};
 ghost use Rattle.property_tables.specs.Rows.{rows_of};
 ghost use Rattle.property_tables.specs.RowView.{row_seen};
-ghost use Rattle.expr_syntax.specs.TermView.{term_of};
 ghost use Rattle.expr_nodes.specs.Evaluators.{sized_node, sized_term};
 ghost use Rattle.layer_buckets.specs.Cells.{is_item};
 ghost use Rattle.layer_buckets.specs.Seen.{IsSound, evaluator_of, features_of, kept_at, source_of};
@@ -15,16 +14,14 @@ ghost use Rattle.style_layout.specs.Layers.{has_features};
 ghost use Rattle.asked_cells.specs.Expressions.{HasExpressions};
 ghost use Rattle.cell_sources.specs.CellExpressions.{IsItemOf, item_expression, row_expression};
 ghost use Rattle.cell_sources.specs.Sourced.{KeepsNoMore, KeepsOthers, LeavesOthers, SetsItem};
-ghost use Rattle.cell_sources.specs.Views.{IsFormAs, IsFormed, expression_seen};
+ghost use Rattle.cell_sources.specs.Views.{IsFormed, IsFormedAs, expression_seen, form_term};
 ghost use Rattle.legacy_laws.specs.LegacyFunctionLaw.{IsTableRow};
 ghost use Rattle.form_pool.specs.LegacyForms.{IsReadForm, sized_form};
 
-use crate::expressions::{ItemExpression, filter_expression, value_expression};
+use crate::expressions::{ItemExpression, ItemForm, filter_expression, value_expression};
 use decimal_json::Members;
-use dependency_sets::mentions;
 use expr_nodes::{BoxedExpression, CountedEvaluator};
 use expr_resolving::boxed;
-use expr_syntax::Expr;
 use form_pool::{FormPool, LegacyForm};
 use layer_buckets::{Buckets, CellItem, Source};
 use prop_values::{Entries, Want};
@@ -249,48 +246,40 @@ fn add_source(
     ensures err { OnErr result ((l : ℕ) (i : CellItem) → source_of buckets.new l i ≡ source_of buckets.old l i) }
     ensures kept { KeepsOthers number item buckets.old buckets.new }
 {
-    let mentions = mentions(&expression.expression);
-    let slot = put_item(
-        alloc,
-        expression.expression,
-        expression.want,
-        expression.legacy,
-        buckets,
-    )?;
+    let slot = put_item(alloc, expression.form, expression.want, buckets)?;
     let source = Source {
         item,
         slot,
-        mentions,
+        mentions: expression.mentions,
         paint: expression.paint,
         globals: expression.globals,
     };
     buckets.set_source(alloc, number, &source)
 }
 
-// Puts what gives the values of an item after what the evaluator has: a legacy form, and an expression where there is none.
+// Puts what gives the values of an item after what the evaluator has.
 #[tactic(auto, using(form_pool::proofs::FormLaws::sized_as))]
 pub(crate) fn put_item(
     alloc: Global,
-    expression: Expr,
+    form: ItemForm,
     want: Want,
-    legacy: Option<LegacyForm>,
     buckets: &mut Buckets<FormPool>,
 ) -> Result<u32, AllocError>
     requires sound { IsSound buckets.old }
-    requires form { IfSome legacy (λ form. IsFormAs form (term_of expression) want) }
+    requires form { IsFormedAs form want }
     ensures sound { IsSound buckets.new }
     ensures features { (l : ℕ) → features_of buckets.new l ≡ features_of buckets.old l }
     ensures source { (l : ℕ) (item : CellItem) → source_of buckets.new l item ≡ source_of buckets.old l item }
     ensures kept { (cell : Cell) → kept_at buckets.new cell ≡ kept_at buckets.old cell }
     ensures slot { IfOk result (λ slot. slot ≡ length (⟦<FormPool as CountedEvaluator>⟧.slots (evaluator_of buckets.old))) }
     ensures ok { OnOk result (⟦<FormPool as CountedEvaluator>⟧.slots (evaluator_of buckets.new)
-        ≡ ⟦<FormPool as CountedEvaluator>⟧.slots (evaluator_of buckets.old) ++ sized_term (term_of expression) want ∷ []) }
+        ≡ ⟦<FormPool as CountedEvaluator>⟧.slots (evaluator_of buckets.old) ++ sized_term (form_term form) want ∷ []) }
     ensures err { OnErr result (⟦<FormPool as CountedEvaluator>⟧.slots (evaluator_of buckets.new)
         ≡ ⟦<FormPool as CountedEvaluator>⟧.slots (evaluator_of buckets.old)) }
 {
-    match legacy {
-        Some(form) => put_form(form, buckets),
-        None => {
+    match form {
+        ItemForm::Legacy(form) => put_form(form, buckets),
+        ItemForm::Expression(expression) => {
             let made = boxed(alloc, expression, want)?;
             put_expression(made, buckets)
         }

@@ -8,7 +8,7 @@ use Rattle.cell_sources.proofs.sources.add_source.Goals as goal
 pub returns-clause-source : goal.returns-clause-source
 returns-clause-source c = on_ok_weaker c.set_source.result
     (set_item _ c.args.number c.args.item (expression_seen c.args.expression) c.args.buckets.now c.put_item.new.buckets c.set_source.new.self c.in_ok-slot.slot _ _
-    c.mentions-mentions.ensures c.in_ok-slot.ensures.slot c.in_ok-slot.ensures.ok refl
+    c.requires.formed.mentioned c.in_ok-slot.ensures.slot c.in_ok-slot.ensures.ok refl
     c.set_source.ensures.evaluator c.in_ok-slot.ensures.source)
     c.set_source.ensures.sources
 
