@@ -2,3 +2,4 @@ pub mod OrderedLists
 pub mod CellLaws
 pub mod RowLists
 pub mod Defaults
+mod TokenTexts

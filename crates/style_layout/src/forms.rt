@@ -1,12 +1,14 @@
 //! What the value of a property is, and what a filter is.
 
-ghost use Rattle.std.specs.Prelude.{◌≡◌, IfOk};
+ghost use Rattle.std.specs.Prelude.{◌≡◌, ℕ, List, IfOk};
 ghost use Rattle.decimal_json.specs.View.{tree_of, tree_at};
+ghost use Rattle.prop_values.specs.Data.{Data};
 ghost use Rattle.property_tables.specs.RowView.{row_seen};
 ghost use Rattle.expr_syntax.specs.Mentioned.{mentions};
 ghost use Rattle.expr_syntax.specs.Reading.{reading_with};
 ghost use Rattle.expr_syntax.specs.TermView.{term_of};
 ghost use Rattle.legacy_functions.specs.Form.{form};
+ghost use Rattle.legacy_functions.specs.Tokens.{token_expression};
 ghost use Rattle.property_tables.specs.Literals.{literal_of};
 ghost use Rattle.style_layout.specs.CodeView.{value_seen, filter_seen};
 ghost use Rattle.style_layout.specs.Forms.{property_value, is_per_feature, layer_filter, literal_value, expression_value, function_value, text_value, reads_feature, expression_mentions};
@@ -15,7 +17,8 @@ use decimal_json::{Json, Text};
 use dependency_sets::mentions;
 use expr_syntax::{Expr, Reading, read_with};
 use legacy_filters::LegacyFilter;
-use legacy_functions::{Function, FunctionReading, token_expr};
+use legacy_functions::{Function, FunctionReading, has_tokens};
+use legacy_laws::{migrated_token_texts_mention_the_feature, token_expressions_mean_their_texts};
 use prop_values::{Entries, Value};
 use property_tables::{Row, literal};
 use std::alloc::{AllocError, Global};
@@ -113,12 +116,20 @@ pub(crate) fn is_per_feature(
             let expression = function.to_expr(alloc)?;
             reads_feature_as(alloc, globals, &expression)
         }
-        PropertyValue::TokenText(text) => {
-            let expression = token_expr(alloc, text.as_str())?;
-            reads_feature_as(alloc, globals, &expression)
-        }
+        PropertyValue::TokenText(text) => Ok(tokens_read_feature(text)),
         _ => Ok(false),
     }
+}
+
+// The expression of a text with tokens is not made: it reads the feature where the text has tokens.
+#[tactic(auto, using(crate::proofs::TokenTexts::tokens_read))]
+fn tokens_read_feature(text: &Text) -> bool
+    ensures { (globals : List (List ℕ × Data)) → result
+        ≡ reads_feature (expression_mentions (expression_value (reading_with (token_expression text.now) globals))) }
+{
+    token_expressions_mean_their_texts();
+    migrated_token_texts_mention_the_feature();
+    has_tokens(text.as_str())
 }
 
 fn reads_feature_as(alloc: Global, globals: &Entries, json: &Json) -> Result<bool, AllocError>
