@@ -37,6 +37,7 @@ def cases():
     yield "step over a property, three stops", ["step", number, 0, 10, 1, 60, 2], 1000
     yield "coalesce of two properties", ["coalesce", ["get", "q"], ["get", "r"]], 1000
     yield "all of three tests", ["all", ["has", "r"], ["<", number, 60], [">", number, 10]], 1000
+    yield "in a list of ten numbers, none equal", ["in", ["get", "r"], ["literal", list(range(1000, 1010))]], 1000
     yield "concat of three texts", ["concat", "a", ["to-string", ["get", "r"]], "b"], 1000
 
 

@@ -4,7 +4,7 @@ use Rattle.std.specs.Prelude.{Vec}
 use Rattle.std.specs.declared.alloc.Global.{Global}
 use Rattle.std.specs.List.{slice_get}
 use Rattle.std.proofs.lemmas.Option.{slice_get_within}
-use Rattle.prop_values.specs.Data.{Data, boolean, number, text}
+use Rattle.prop_values.specs.Data.{Data, boolean, number, text, list, items_of}
 use Rattle.prop_values.specs.View.{data_of}
 use Rattle.prop_values.specs.ViewParts.{values_view}
 use Rattle.prop_values.specs.declared.fault.EvalFault.{EvalFault}
@@ -26,7 +26,7 @@ use Rattle.eval_face.specs.Rules.{rule_of}
 use Rattle.operator_rules.specs.RuleParts.{argument_at, asserts, applied_by, decided_by, undecided_by, each_of, deciding_of}
 use Rattle.operator_rules.specs.ValueStack.{added, EndsAll}
 use Rattle.operator_rules.proofs.ArgumentLaws.{after, values_from, made_of, one_given, two_given, one_halted, two_halted, second_halted, values_halted_at, decision_from, decision_halted, decision_found, decision_later, undecided}
-use Rattle.expr_nodes.specs.Node.{Node, children, size, total_size}
+use Rattle.expr_nodes.specs.Node.{Node, constant, children, size, total_size}
 use Rattle.expr_nodes.specs.Outcome.{outcome, promises, all_known}
 use Rattle.expr_nodes.specs.Slots.{HoldPromises, pending}
 use Rattle.expr_nodes.specs.EvaluatesNode.{IsReady, HasProgressed, EvaluatesNode, EvaluatesNodes, arguments_of, known_arguments, argument_in, size_in}
@@ -107,6 +107,35 @@ second_halts {bs = bs} {world} {r} {v} {h} op n want l e j k =
     let w = two_sizes (children n) 0 in
     halts (size_in (children n) 0) (size_in (children n) 1) (total_size (children n)) e.progress j (omega (arith, w)) k
     (second_halted h op (known_arguments n bs world) want [] world (data_of v) (count_known n bs world 2 l) (sym (argument_known op os 0 want [] world) ∙ e.gives) (as_argument (Err h) world op os 1 want j.gives))
+
+-- ---- `in` of a list that is not evaluated
+
+-- an argument that is a list: it has to be a text or a list, and is one
+list_evaluates : {limit : ℕ} {bs : List Node} {world : World} {v : Value} {x : Workspace} {s t : ℕ} (n : Node) (ds : List Data) → data_of v ≡ list (items_of ds) → slice_get (children n) 1 ≡ Some (constant (Ok (list (items_of ds)))) → IsReady limit bs world x → t ≡ s + 1 → EvaluatesNode limit bs world (Ok v) (argument_in operators.In (arguments_of n bs world) 1) (size_in (children n) 1) x x s t
+list_evaluates {limit} {bs} {world} {v} {x} {s} {t} n ds d e i p =
+    let right = constant (Ok (list (items_of ds))) in
+    let os = arguments_of n bs world in
+    let own = argument_in operators.In os 1 in
+    let here : Ok (list (items_of ds)) ≡ own = argument_is operators.In os 1 (Ok (list (items_of ds))) true refl (outcome_here (children n) 1 right (promises bs world) world e) in
+    let C : ℕ → Type 0 = λ c. EvaluatesNode limit bs world (Ok v) own c x x s t in
+    subst C (sym (size_at (children n) 1 right e))
+    (given {r = Ok v} 1 (size right) i (ticked i p) (size_pos right) (sym here ∙ ap (λ (y : Data). Ok y) (sym d)) refl)
+
+-- the needle is there
+pub among_known : {limit : ℕ} {bs : List Node} {world : World} {r : Result Value (Halt EvalFault)} {x : Workspace} {s t u : ℕ} (n left : Node) (want : Want) (v w : Value) (ds : List Data) → data_of w ≡ list (items_of ds) → length (children n) ≡ 2 → IsReady limit bs world x → slice_get (children n) 0 ≡ Some left → slice_get (children n) 1 ≡ Some (constant (Ok (list (items_of ds)))) → t ≡ s + 1 → u ≡ t + 1 → outcome left (promises bs world) world ≡ Ok (data_of v) → GivesValue r (made_of operators.In want world (data_of v ∷ data_of w ∷ [])) → EvaluatesNode limit bs world r (each_of operators.In (known_arguments n bs world) want [] world) (total_size (children n)) x x s u
+among_known n left want v w ds y len i d e p q f made =
+    two_evaluate operators.In n want len i
+    (plain_evaluates operators.In n left 0 refl d (given {r = Ok v} 1 (size left) i (ticked i p) (size_pos left) f refl))
+    (list_evaluates n ds y e i q)
+    made
+
+-- the needle is evaluated
+pub among_evaluates : {limit : ℕ} {bs : List Node} {world : World} {r : Result Value (Halt EvalFault)} {v : Value} {x y : Workspace} {s t u : ℕ} (n left : Node) (want : Want) (w : Value) (ds : List Data) → data_of w ≡ list (items_of ds) → length (children n) ≡ 2 → IsReady limit bs world x → slice_get (children n) 0 ≡ Some left → slice_get (children n) 1 ≡ Some (constant (Ok (list (items_of ds)))) → EvaluatesNode limit bs world (Ok v) (outcome left (promises bs world) world) (size left) x y s t → u ≡ t + 1 → GivesValue r (made_of operators.In want world (data_of v ∷ data_of w ∷ [])) → EvaluatesNode limit bs world r (each_of operators.In (known_arguments n bs world) want [] world) (total_size (children n)) x y s u
+among_evaluates n left want w ds z len i d e h q made =
+    two_evaluate operators.In n want len i (plain_evaluates operators.In n left 0 refl d h) (list_evaluates n ds z e h.ready q) made
+
+pub among_halts : {limit : ℕ} {bs : List Node} {world : World} {r : Result Value (Halt EvalFault)} {h : Halt EvalFault} {x y : Workspace} {s t : ℕ} (n left : Node) (want : Want) → length (children n) ≡ 2 → IsReady limit bs world x → slice_get (children n) 0 ≡ Some left → EvaluatesNode limit bs world (Err h) (outcome left (promises bs world) world) (size left) x y s t → IsErrAnd r (λ k. k ≡ h) → EvaluatesNode limit bs world r (each_of operators.In (known_arguments n bs world) want [] world) (total_size (children n)) x y s t
+among_halts n left want len i d h k = first_halts operators.In n want len i (plain_evaluates operators.In n left 0 refl d h) k
 
 -- ---- all arguments
 

@@ -14,4 +14,5 @@ pub mod BindingParts
 pub mod BranchParts
 pub mod BorrowedLaws
 pub mod SumLaws
+pub mod SearchLaws
 pub mod BoxedLaws

@@ -3,7 +3,6 @@ use Rattle.std.specs.Prelude.{◌≡◌, List, map, Ok, Err}
 use Rattle.std.proofs.Common.{ap, sym, ◌∙◌}
 use Rattle.std.specs.declared.vec.Vec.{Vec}
 use Rattle.std.specs.declared.alloc.Global.{Global}
-use Rattle.prop_values.specs.View.{data_of}
 use Rattle.prop_values.specs.declared.kinds.Want.{Want}
 use Rattle.expr_syntax.specs.declared.expression.Operator.{Operator}
 use Rattle.expr_nodes.specs.Node.{Node, constant, asked, property, inner, children_of}
@@ -13,7 +12,7 @@ use Rattle.expr_nodes.specs.declared.boxed_node.BoxedNode.TheVariants.{Inner, ro
 use Rattle.expr_nodes.specs.declared.boxed_node.BoxedNode.TheFolds.{fold-roll-BoxedNode}
 
 abbrev pub boxed_step : BoxedNode-F Node → Node
-boxed_step (BoxedNode-F.Constant value) = constant (Ok (data_of value))
+boxed_step (BoxedNode-F.Constant literal) = constant (Ok literal)
 boxed_step (BoxedNode-F.Faulty fault) = constant (Err fault)
 boxed_step (BoxedNode-F.Asked slot want) = asked slot want
 boxed_step (BoxedNode-F.Property key want) = property key want

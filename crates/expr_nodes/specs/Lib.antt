@@ -9,6 +9,7 @@ pub mod Evaluators
 -- What only contracts of private functions, models and proofs use.
 pub mod NodeCode
 pub mod NodeForms
+pub mod Searched
 pub mod Boxed
 pub mod MovedInput
 pub mod Slots

@@ -1,12 +1,14 @@
 //! What is read of a node, wherever it is kept.
 
-ghost use Rattle.std.specs.Prelude.{◌≡◌, ◌<◌, List, Some, length};
+ghost use Rattle.std.specs.Prelude.{◌≡◌, ◌<◌, List, IfSome, Ok, Some, length};
 ghost use Rattle.std.specs.List.{slice_get};
-ghost use Rattle.expr_nodes.specs.Node.{Node, children};
+ghost use Rattle.prop_values.specs.Data.{items_of, list};
+ghost use Rattle.expr_nodes.specs.Node.{Node, children, constant};
 ghost use Rattle.expr_nodes.specs.NodeForms.{IsForm};
 
 use decimal_json::Text;
 use expr_syntax::Operator;
+use item_index::IndexedList;
 use prop_values::{EvalFault, Value, Want};
 
 /// A node as it is read, without its arguments.
@@ -31,6 +33,10 @@ pub trait NodeHandle: Copy {
 
     fn form(&self) -> NodeForm<'_>
         ensures { IsForm result (node self.now) };
+
+    /// The literal list that the node is, where it is kept to be searched.
+    fn indexed(&self) -> Option<&IndexedList>
+        ensures { IfSome result (λ items. node self.now ≡ constant (Ok (list (items_of items.now)))) };
 
     /// How many arguments the node has.
     fn count(&self) -> usize

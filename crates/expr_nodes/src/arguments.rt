@@ -1,20 +1,24 @@
 //! Nodes whose arguments are evaluated from left to right: the first fault is the answer.
 
-ghost use Rattle.std.specs.Prelude.{◌<◌, [], length};
+ghost use Rattle.std.specs.Prelude.{◌≡◌, ◌<◌, [], length, Ok, Some};
+ghost use Rattle.std.specs.List.{slice_get};
+ghost use Rattle.prop_values.specs.Data.{items_of, list};
+ghost use Rattle.expr_syntax.specs.declared.expression.Operator.TheVariants.{In};
 ghost use Rattle.eval_face.specs.Meanings.{values_of};
 ghost use Rattle.prop_values.specs.declared.kinds.Want.TheVariants.{Any};
 ghost use Rattle.operator_rules.specs.RuleParts.{each_of, deciding_of};
-ghost use Rattle.expr_nodes.specs.Node.{children, total_size};
+ghost use Rattle.expr_nodes.specs.Node.{children, constant, total_size};
 ghost use Rattle.expr_nodes.specs.Limits.{EachAsksBelow};
 ghost use Rattle.expr_nodes.specs.EvaluatesNode.{IsReady, EvaluatesNode, EvaluatesNodes};
 ghost use Rattle.expr_nodes.specs.EvaluatesNode.{known_arguments, arguments_of, argument_in, size_in};
 
 use crate::access::{Bindings, NodeHandle};
-use crate::borrowed::borrowed_decision;
+use crate::borrowed::{borrowed_decision, borrowed_or};
 use crate::evaluation::Surroundings;
-use crate::leaves::{has_sequence, pair_value, sequence_value, undecided_value};
+use crate::leaves::{has_sequence, membership, pair_value, sequence_value, undecided_value};
 use crate::workspace::Workspace;
 use expr_syntax::Operator;
+use item_index::IndexedList;
 use operator_rules::{WorldView, decided, fitted, fitted_copy, is_sequence, node_value};
 use operator_values::Halt;
 use outside_io::Steps;
@@ -77,7 +81,43 @@ impl Workspace {
         }
     }
 
-    // The values of the arguments are at the end of the stack of values while the node is evaluated.
+    // `in` of a literal list. Neither the list nor a needle that is there is evaluated.
+    #[tactic(auto, using(crate::proofs::NodeLaws::below_at, crate::proofs::NodeLaws::child_size))]
+    #[cycle(nodes)]
+    fn evaluate_among<N: NodeHandle, B: Bindings<N>, W: WorldView, L: Ledger>(
+        &mut self,
+        tree: N,
+        items: &IndexedList,
+        want: &Want,
+        around: &Surroundings<'_, B, W>,
+        steps: &mut Steps<L>,
+    ) -> Result<Value, Halt>
+        requires two { length (children (N.node tree)) ≡ 2 }
+        requires items { slice_get (children (N.node tree)) 1 ≡ Some (constant (Ok (list (items_of items.now)))) }
+        requires below { EachAsksBelow around.now.limit (children (N.node tree)) }
+        requires ready { IsReady around.now.limit (B.listed around.now.bindings.now)
+            (W.world around.now.world.now) self.old }
+        ensures { EvaluatesNode around.now.limit (B.listed around.now.bindings.now)
+            (W.world around.now.world.now) result
+            (each_of In
+            (known_arguments (N.node tree) (B.listed around.now.bindings.now) (W.world around.now.world.now))
+            want.now [] (W.world around.now.world.now))
+            (total_size (children (N.node tree))) self.old self.new steps.old steps.new }
+    {
+        let absent = Value::Null;
+        let needle = tree.child(0);
+        if let Some(value) = borrowed_or(&needle, around.world, &absent) {
+            steps.tick();
+            steps.tick();
+            return membership(self.alloc, items, value, want);
+        }
+        let value = self.evaluate_node(needle, around, steps)?;
+        steps.tick();
+        membership(self.alloc, items, &value, want)
+    }
+
+    // The values of the arguments are at the end of the stack of values while the node is evaluated, but for `in` of a
+    // literal list.
     #[tactic(auto, using(crate::proofs::NodeLaws::below_at, crate::proofs::NodeLaws::child_size))]
     #[cycle(nodes)]
     fn evaluate_many<N: NodeHandle, B: Bindings<N>, W: WorldView, L: Ledger>(
@@ -98,6 +138,12 @@ impl Workspace {
             want.now [] (W.world around.now.world.now))
             (total_size (children (N.node tree))) self.old self.new steps.old steps.new }
     {
+        if matches!(op, Operator::In) && tree.count() == 2 {
+            let sequence = tree.child(1);
+            if let Some(items) = sequence.indexed() {
+                return self.evaluate_among(tree, items, want, around, steps);
+            }
+        }
         let base = self.values.as_slice().len();
         self.evaluate_values(tree, op, around, steps)?;
         self.take_value(op, base, want, around.world)

@@ -155,8 +155,8 @@ pub(crate) fn borrowed_value<'a, N: NodeHandle, W: WorldView>(
     }
 }
 
-// The same, where a property that the feature does not have is the null that is given.
-fn borrowed_or<'a, N: NodeHandle, W: WorldView>(
+/// The same, where a property that the feature does not have is the null that is given.
+pub(crate) fn borrowed_or<'a, N: NodeHandle, W: WorldView>(
     node: &'a N,
     world: &'a W,
     absent: &'a Value,

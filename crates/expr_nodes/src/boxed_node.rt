@@ -1,21 +1,24 @@
 //! Nodes that own their arguments.
 
-ghost use Rattle.std.specs.Prelude.{◌≡◌, ◌<◌, length, map, Some};
+ghost use Rattle.std.specs.Prelude.{◌≡◌, ◌<◌, length, map, IfSome, Ok, Some};
 ghost use Rattle.std.specs.List.{slice_get};
-ghost use Rattle.expr_nodes.specs.Node.{children};
+ghost use Rattle.prop_values.specs.Data.{items_of, list};
+ghost use Rattle.expr_nodes.specs.Node.{children, constant};
 ghost use Rattle.expr_nodes.specs.NodeForms.{IsForm};
 ghost use Rattle.expr_nodes.specs.Boxed.{boxed_node};
 
 use crate::access::{Bindings, NodeForm, NodeHandle};
+use crate::literal::Literal;
 use decimal_json::Text;
 use expr_syntax::Operator;
-use prop_values::{EvalFault, Value, Want};
+use item_index::IndexedList;
+use prop_values::{EvalFault, Want};
 
 /// A node with its arguments.
 #[derive(Drop)]
 pub enum BoxedNode {
     /// A literal that is fitted already.
-    Constant(Value),
+    Constant(Literal),
     /// A literal that cannot be fitted.
     Faulty(EvalFault),
     /// The binding of a number, and what it is wanted as.
@@ -35,6 +38,10 @@ impl NodeHandle for &BoxedNode {
         form_of(self)
     }
 
+    fn indexed(&self) -> Option<&IndexedList> {
+        indexed_in(self)
+    }
+
     fn count(&self) -> usize {
         arguments_of(self).len()
     }
@@ -48,11 +55,20 @@ fn form_of(node: &BoxedNode) -> NodeForm<'_>
     ensures { IsForm result (boxed_node node.now) }
 {
     match node {
-        BoxedNode::Constant(value) => NodeForm::Constant(value),
+        BoxedNode::Constant(literal) => NodeForm::Constant(literal.value()),
         BoxedNode::Faulty(fault) => NodeForm::Faulty(*fault),
         BoxedNode::Asked(slot, want) => NodeForm::Asked(*slot, *want),
         BoxedNode::Property(key, want) => NodeForm::Property(key, *want),
         BoxedNode::Inner(op, want, _) => NodeForm::Inner(op, *want),
+    }
+}
+
+fn indexed_in(node: &BoxedNode) -> Option<&IndexedList>
+    ensures { IfSome result (λ items. boxed_node node.now ≡ constant (Ok (list (items_of items.now)))) }
+{
+    match node {
+        BoxedNode::Constant(literal) => literal.indexed(),
+        _ => None,
     }
 }
 

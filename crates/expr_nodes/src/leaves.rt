@@ -2,13 +2,14 @@
 //! the dearest.
 
 ghost use Rattle.std.specs.Prelude.{◌≡◌, ℕ, [], ◌∷◌, false};
-ghost use Rattle.prop_values.specs.Data.{number, pairs_of};
+ghost use Rattle.prop_values.specs.Data.{items_of, list, number, pairs_of};
 ghost use Rattle.prop_values.specs.View.{data_of};
 ghost use Rattle.property_tables.specs.Fitting.{fit};
 ghost use Rattle.expr_syntax.specs.Names.{row};
 ghost use Rattle.expr_syntax.specs.Operators.{operator_name};
 ghost use Rattle.operator_values.specs.Arithmetic.{sum_of};
 ghost use Rattle.operator_values.specs.Evaluated.{GivesValue, then_value};
+ghost use Rattle.operator_values.specs.Sequences.{in_of};
 ghost use Rattle.eval_face.specs.Lookups.{entry_at};
 ghost use Rattle.eval_face.specs.Meanings.{as_sequence, is_sequence};
 ghost use Rattle.eval_face.specs.Rules.{rule_of};
@@ -20,6 +21,7 @@ use crate::borrowed::property_at;
 use decimal_json::Text;
 use expr_syntax::{Operator, Ramp};
 use fixed_num::Fixed;
+use item_index::IndexedList;
 use operator_rules::{
     WorldView, as_sequence, fitted, fitted_copy, node_value, number_of, undecided, warped,
 };
@@ -91,6 +93,19 @@ fn sum_value(alloc: Global, a: Fixed, b: Fixed, want: &Want) -> Result<Value, Ha
         (Ok(sum), _) => fitted(alloc, Value::Num(sum), want),
         (Err(fault), _) => Err(Halt::Fault(EvalFault::from(fault))),
     }
+}
+
+/// Whether a value is an item of a list, fitted.
+pub(crate) fn membership(
+    alloc: Global,
+    items: &IndexedList,
+    value: &Value,
+    want: &Want,
+) -> Result<Value, Halt>
+    ensures { GivesValue result
+        (then_value (in_of (data_of value.now ∷ list (items_of items.now) ∷ [])) (fit want.now)) }
+{
+    fitted(alloc, Value::Bool(items.has(value)), want)
 }
 
 /// What a node gives none of whose arguments decides.

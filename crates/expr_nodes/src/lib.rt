@@ -32,7 +32,8 @@
 //! they make of values is in `operator_rules`. They are methods of the `Workspace`, which has what changes: a slot
 //! for each binding, and the values of arguments whose node is not evaluated yet. A constant, or a property that is
 //! wanted as it is, is read where it is (`borrowed.rt`): as the first argument of an assertion, the input of a `match`
-//! and an output of an `interpolate`.
+//! and an output of an `interpolate`. A literal list that `in` searches may have an index of its
+//! items beside it ([`Literal`]), and then a value is found in it without looking through it.
 //!
 //! The text to believe is in `specs/`: `Node`, `Outcome`, `Limits`, `Resolving`, `Marks`, `Resolved`, `Evaluators`.
 #![tactic(auto)]
@@ -49,6 +50,7 @@ mod evaluator;
 mod known_numbers;
 mod laws;
 mod leaves;
+mod literal;
 mod workspace;
 
 pub use access::{Bindings, NodeForm, NodeHandle};
@@ -58,4 +60,5 @@ pub use boxed_node::{BoxedBindings, BoxedNode};
 pub use evaluation::evaluate;
 pub use evaluator::CountedEvaluator;
 pub use laws::{marked_expressions_mean_the_same, resolved_expressions_mean_the_same};
+pub use literal::Literal;
 pub use workspace::Workspace;

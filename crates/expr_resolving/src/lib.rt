@@ -15,6 +15,9 @@
 //! up of the nodes. The law of `fit_laws` says that these nodes give the same without their tests. To find the marks of
 //! an argument, the nodes of those before it are counted, once for each level of the expression.
 //!
+//! A literal list that is the second argument of `in` is kept with an index of its items (`searched.rt`), where they are
+//! more than sixteen. It takes memory linear in them.
+//!
 //! An expression is taken by value: its operators are moved into the nodes. What is copied is the key of a property,
 //! which is shared.
 //!
@@ -28,6 +31,7 @@ mod node_count;
 mod number_scope;
 mod property_key;
 mod resolving;
+mod searched;
 
 pub use boxing::{boxed, boxed_checked};
 pub use resolving::resolve;

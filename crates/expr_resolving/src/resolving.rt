@@ -15,8 +15,9 @@ use crate::marks::{after, below, own_want};
 use crate::name_role::{NameRole, name_role};
 use crate::number_scope::{NumberScope, number_of};
 use crate::property_key::property_node;
+use crate::searched::searched;
 use decimal_json::Text;
-use expr_nodes::BoxedNode;
+use expr_nodes::{BoxedNode, Literal};
 use expr_syntax::{Expr, Names, Operator, Wanted, ramp_want};
 use prop_values::{EvalFault, Value, Want};
 use property_tables::fit;
@@ -135,7 +136,8 @@ impl Resolver {
         for argument in arguments {
             let wanted = argument_want(&op, count, nodes.len(), want);
             let later = after(left, &argument);
-            nodes.push(self.resolve(argument, wanted, left, &*scope)?)?;
+            let node = self.resolve(argument, wanted, left, &*scope)?;
+            nodes.push(searched(self.alloc, &op, nodes.len(), node)?)?;
             left = later;
         }
         Ok(BoxedNode::Inner(op, want, nodes))
@@ -209,7 +211,7 @@ fn fitted_constant(alloc: Global, value: Value, want: &Want) -> Result<BoxedNode
     ensures { IfOk result (λ made. boxed_node made ≡ constant (fit want.now (data_of value))) }
 {
     match fit(alloc, value, want)? {
-        Ok(value) => Ok(BoxedNode::Constant(value)),
+        Ok(value) => Ok(BoxedNode::Constant(Literal::of(value))),
         Err(fault) => Ok(BoxedNode::Faulty(fault)),
     }
 }

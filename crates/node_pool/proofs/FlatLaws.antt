@@ -4,10 +4,9 @@ use Rattle.std.proofs.Common.{◌≡◌, ℕ, ◌+◌, ◌≤◌, suc, List, [],
 use Rattle.std.specs.Prelude.{Vec}
 use Rattle.std.specs.declared.alloc.Global.{Global}
 use Rattle.std.proofs.lemmas.List.{append-nil, append_assoc, length-append, length-drop, length_push, take-append-drop, take-append-le, drop-append-le, take-take, take_all, drop_at}
-use Rattle.prop_values.specs.View.{data_of}
+use Rattle.prop_values.specs.Data.{Data}
 use Rattle.prop_values.specs.declared.fault.EvalFault.{EvalFault}
 use Rattle.prop_values.specs.declared.kinds.Want.{Want}
-use Rattle.prop_values.specs.declared.value.Value.{Value}
 use Rattle.expr_syntax.specs.declared.expression.Operator.{Operator}
 use Rattle.expr_nodes.specs.Boxed.{boxed_step, boxed_node, boxed_nodes, boxed_inner}
 use Rattle.expr_nodes.specs.Node.{Node, constant, asked, property, inner, children_of, size, total_size}
@@ -146,7 +145,7 @@ all_put last all old ps new o k f e s =
 
 -- ---- one node
 
-pub leaf_constant : (v : Value) → constant (Ok (data_of v)) ≡ boxed_node (boxed.Constant v)
+pub leaf_constant : (v : Data) → constant (Ok v) ≡ boxed_node (boxed.Constant v)
 leaf_constant v = sym (ap boxed_node (sym (boxed.rolls-Constant v)) ∙ fold-roll-BoxedNode Node boxed_step (BoxedNode-F.Constant v))
 
 pub leaf_faulty : (fault : EvalFault) → constant (Err fault) ≡ boxed_node (boxed.Faulty fault)

@@ -2,7 +2,6 @@
 use Rattle.std.specs.Prelude.{◌+◌, ◌-◌, ◌∷◌, ◌++◌, ◌&&◌}
 use Rattle.std.specs.Prelude.{ℕ, List, [], length, take, drop, Bool, true, nat_le, Option, Some, None, Ok, Err}
 use Rattle.std.specs.List.{slice_get}
-use Rattle.prop_values.specs.View.{data_of}
 use Rattle.prop_values.specs.declared.fault.EvalFault.TheVariants.{WrongType}
 use Rattle.expr_nodes.specs.Node.{Node, constant, asked, property, inner, children_of}
 use Rattle.node_pool.specs.declared.pooled_node.PooledNode.{PooledNode}
@@ -19,7 +18,7 @@ argument_range _ = (0, 0)
 
 -- a node, by those before it
 abbrev pub node_by : PooledNode → List Node → Node
-node_by (Constant value) ns = constant (Ok (data_of value))
+node_by (Constant literal) ns = constant (Ok literal)
 node_by (Faulty fault) ns = constant (Err fault)
 node_by (Asked slot want) ns = asked slot want
 node_by (Property key want) ns = property key want

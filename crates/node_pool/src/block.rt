@@ -8,8 +8,9 @@ ghost use Rattle.node_pool.specs.Pooled.{are_ordered};
 ghost use Rattle.node_pool.specs.Blocks.{IsHeld, block_of, bound_at, length_of};
 
 use crate::pooled_expression::PooledExpression;
-use crate::pooled_node::{PooledNode, argument_range, form_of};
+use crate::pooled_node::{PooledNode, argument_range, form_of, indexed_in};
 use expr_nodes::{Bindings, NodeForm, NodeHandle, Workspace, evaluate};
+use item_index::IndexedList;
 use operator_rules::WorldView;
 use operator_values::Halt;
 use outside_io::Steps;
@@ -31,6 +32,10 @@ impl<'a> NodeHandle for PoolNode<'a> {
 
     fn form(&self) -> NodeForm<'_> {
         form_of(last_of(self.nodes))
+    }
+
+    fn indexed(&self) -> Option<&IndexedList> {
+        indexed_in(last_of(self.nodes))
     }
 
     fn count(&self) -> usize {

@@ -55,7 +55,7 @@ fn flat_node(
     ensures { IfOk result (λ made. IsFlattened made (boxed_node node) nodes.old.items nodes.new.items) }
 {
     match node {
-        BoxedNode::Constant(value) => Ok(PooledNode::Constant(value)),
+        BoxedNode::Constant(literal) => Ok(PooledNode::Constant(literal)),
         BoxedNode::Faulty(fault) => Ok(PooledNode::Faulty(fault)),
         BoxedNode::Asked(slot, want) => Ok(PooledNode::Asked(slot, want)),
         BoxedNode::Property(key, want) => Ok(PooledNode::Property(key, want)),

@@ -1,20 +1,22 @@
 //! A node of a pool, as it is kept.
 
-ghost use Rattle.std.specs.Prelude.{◌≡◌, List};
-ghost use Rattle.expr_nodes.specs.Node.{Node};
+ghost use Rattle.std.specs.Prelude.{◌≡◌, List, IfSome, Ok};
+ghost use Rattle.prop_values.specs.Data.{items_of, list};
+ghost use Rattle.expr_nodes.specs.Node.{Node, constant};
 ghost use Rattle.expr_nodes.specs.NodeForms.{IsForm};
 ghost use Rattle.node_pool.specs.Pooled.{argument_range, node_by};
 
 use decimal_json::Text;
-use expr_nodes::NodeForm;
+use expr_nodes::{Literal, NodeForm};
 use expr_syntax::Operator;
-use prop_values::{EvalFault, Value, Want};
+use item_index::IndexedList;
+use prop_values::{EvalFault, Want};
 
 /// A node, whose arguments are a range of numbers in its block.
 #[derive(Drop)]
 pub(crate) enum PooledNode {
     /// A literal that is fitted already.
-    Constant(Value),
+    Constant(Literal),
     /// A literal that cannot be fitted.
     Faulty(EvalFault),
     /// The binding of a number, and what it is wanted as.
@@ -30,11 +32,22 @@ pub(crate) fn form_of(node: &PooledNode) -> NodeForm<'_>
     ensures { (ns : List Node) → IsForm result (node_by node.now ns) }
 {
     match node {
-        PooledNode::Constant(value) => NodeForm::Constant(value),
+        PooledNode::Constant(literal) => NodeForm::Constant(literal.value()),
         PooledNode::Faulty(fault) => NodeForm::Faulty(*fault),
         PooledNode::Asked(slot, want) => NodeForm::Asked(*slot, *want),
         PooledNode::Property(key, want) => NodeForm::Property(key, *want),
         PooledNode::Inner(op, want, _, _) => NodeForm::Inner(op, *want),
+    }
+}
+
+/// The literal list that a node is, where it is kept to be searched.
+pub(crate) fn indexed_in(node: &PooledNode) -> Option<&IndexedList>
+    ensures { IfSome result (λ items. (ns : List Node) →
+        node_by node.now ns ≡ constant (Ok (list (items_of items.now)))) }
+{
+    match node {
+        PooledNode::Constant(literal) => literal.indexed(),
+        _ => None,
     }
 }
 

@@ -74,7 +74,7 @@ put_side_by_side-returns t c =
 pub flat_node-returns-in-Constant : goal.flat_node-returns-in-Constant
 flat_node-returns-in-Constant t c =
     let ps = c.args.nodes.now.items in
-    let v = c.in-Constant.value in
+    let v = c.in-Constant.literal in
     let P : BoxedNode → Type 0 = λ b. IsFlattened (Constant v) (boxed_node b) ps ps in
     subst P (sym c.in-Constant.is) (flat_leaf (Constant v) _ ps c.requires refl (λ ns. leaf_constant v))
 

@@ -5,7 +5,7 @@ use Rattle.std.specs.declared.alloc.Global.{Global}
 use Rattle.prop_values.specs.Data.{pairs_of}
 use Rattle.prop_values.specs.View.{data_of}
 use Rattle.prop_values.specs.declared.value.Value.{Value}
-use Rattle.prop_values.specs.declared.value.Value.TheVariants.{Num}
+use Rattle.prop_values.specs.declared.value.Value.TheVariants.{Num, List as ListOf}
 use Rattle.prop_values.specs.declared.kinds.Want.TheVariants.{Any}
 use Rattle.property_tables.specs.Fitting.{fit}
 use Rattle.expr_syntax.specs.Chosen.{output_of}
@@ -32,7 +32,7 @@ use Rattle.expr_nodes.proofs.NodeLaws.{inner_outcome, inner_size, inner_below, a
 use Rattle.expr_nodes.proofs.SlotLaws.{reach_at}
 use Rattle.expr_nodes.proofs.Composing.{begun, ticked, cheaper, given, halts, ended}
 use Rattle.expr_nodes.proofs.BindingParts.{slot_within, binding_ready, asked_before, asked_constant, asked_halts, asked_fails, asked_evaluates}
-use Rattle.expr_nodes.proofs.ArgumentParts.{plain_evaluates, none_evaluates, one_evaluates, one_halts, two_evaluate, two_known, first_halts, second_halts, values_begin, values_halt, values_fail, one_further, many_halts, many_evaluates, deciding_borrows, deciding_halts, deciding_evaluates, decides_later, none_decides}
+use Rattle.expr_nodes.proofs.ArgumentParts.{plain_evaluates, none_evaluates, one_evaluates, one_halts, two_evaluate, two_known, among_known, among_evaluates, among_halts, first_halts, second_halts, values_begin, values_halt, values_fail, one_further, many_halts, many_evaluates, deciding_borrows, deciding_halts, deciding_evaluates, decides_later, none_decides}
 use Rattle.expr_nodes.proofs.BranchParts.{count_here, no_match, no_step, no_ramp, case_any, match_any, step_any, case_halts, case_faults, case_chooses, case_later, case_further, case_ends, case_fails, input_halts, input_fails, output_follows, output_alone, input_gives, match_halted, match_with, step_halted, step_with, ramp_halted, ramp_with, ramp_halts, ramp_evaluates, stop_alone, lower_halts, upper_halts, both_evaluate, both_there}
 use Rattle.expr_nodes.proofs.workspace.Workspace.+nodes.Goals as goal
 
@@ -345,6 +345,29 @@ evaluate_each-returns-in_ok-second-in-2 g t c =
     let before = plain_evaluates op n (g.N.NodeHandle.node c.child-left.result) 0 (plain 0) c.child-left.ensures c.in_ok-first-in-2.ensures.all in
     let later = plain_evaluates op n (g.N.NodeHandle.node c.child-right.result) 1 (plain 1) c.child-right.ensures c.in_ok-second-in-2.ensures.all in
     two_evaluate op n c.args.want.now len c.requires.ready before later c.pair_value-in-2.ensures
+
+-- `in` of a literal list.
+
+pub evaluate_among-returns-in-Some : goal.evaluate_among-returns-in-Some
+evaluate_among-returns-in-Some g t c =
+    let n = g.N.NodeHandle.node c.args.tree in
+    let bs = g.B.Bindings.listed c.args.around.now.bindings.now in
+    let world = g.W.WorldView.world c.args.around.now.world.now in
+    let ds = c.args.items.now in
+    among_known n (g.N.NodeHandle.node c.child-needle.result) c.args.want.now c.in-Some.value.now (ListOf ds) ds refl c.requires.two c.requires.ready
+    c.child-needle.ensures c.requires.items c.tick.ensures c.tick-in-Some.ensures (c.in-Some.ensures (promises bs world)) c.membership.ensures
+
+pub evaluate_among-returns-in_err-value : goal.evaluate_among-returns-in_err-value
+evaluate_among-returns-in_err-value g t c =
+    let n = g.N.NodeHandle.node c.args.tree in
+    among_halts n (g.N.NodeHandle.node c.child-needle.result) c.args.want.now c.requires.two c.requires.ready c.child-needle.ensures c.in_err-value.ensures.all c.from_residual.ensures.1
+
+pub evaluate_among-returns : goal.evaluate_among-returns
+evaluate_among-returns g t c =
+    let n = g.N.NodeHandle.node c.args.tree in
+    let ds = c.args.items.now in
+    among_evaluates n (g.N.NodeHandle.node c.child-needle.result) c.args.want.now (ListOf ds) ds refl c.requires.two c.requires.ready
+    c.child-needle.ensures c.requires.items c.in_ok-value.ensures.all c.tick-2.ensures c.membership-2.ensures
 
 pub evaluate_many-returns-in_err-evaluate_values : goal.evaluate_many-returns-in_err-evaluate_values
 evaluate_many-returns-in_err-evaluate_values g t c =

@@ -25,6 +25,9 @@ decreases-evaluate_each g l = 6 * total_size (children (g.N.NodeHandle.node l.tr
 abbrev pub decreases-evaluate_many : goal.decreases-evaluate_many
 decreases-evaluate_many g l = 6 * total_size (children (g.N.NodeHandle.node l.tree)) + reach l.around.now.limit (g.B.Bindings.listed l.around.now.bindings.now) + 3
 
+abbrev pub decreases-evaluate_among : goal.decreases-evaluate_among
+decreases-evaluate_among g l = 6 * total_size (children (g.N.NodeHandle.node l.tree)) + reach l.around.now.limit (g.B.Bindings.listed l.around.now.bindings.now) + 2
+
 abbrev pub decreases-evaluate_values : goal.decreases-evaluate_values
 decreases-evaluate_values g l = 6 * total_size (children (g.N.NodeHandle.node l.tree)) + reach l.around.now.limit (g.B.Bindings.listed l.around.now.bindings.now) + 2
 

@@ -1,11 +1,9 @@
-use Rattle.std.proofs.Common.{◌≡◌, ◌∙◌, ap, sym, subst}
+use Rattle.std.proofs.Common.{◌∙◌, ap, sym, subst}
 use Rattle.std.specs.Prelude.{Some}
-use Rattle.std.specs.List.{slice_get}
 use Rattle.std.proofs.lemmas.Option.{IfSome_then}
-use Rattle.prop_values.specs.Data.{Data, number}
+use Rattle.prop_values.specs.Data.{Data}
 use Rattle.expr_nodes.specs.NodeForms.{IsForm}
 use Rattle.expr_nodes.specs.Outcome.{promises}
-use Rattle.expr_nodes.specs.Slots.{done_in}
 use Rattle.expr_nodes.specs.declared.access.NodeForm.{NodeForm}
 use Rattle.expr_nodes.proofs.BindingParts.{asked_number, constant_asked, slot_within}
 use Rattle.expr_nodes.proofs.NodeLaws.{asked_below}

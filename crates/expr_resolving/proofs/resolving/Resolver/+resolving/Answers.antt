@@ -127,7 +127,8 @@ resolve_inner-loop-argument-preserved t c =
     let count = c.len-count.result in
     let done = c.loop-argument.nodes.items in
     let all = c.resolve.new.self.bindings.items in
-    let made = c.in_ok-resolve.field-0 in
+    let made = c.in_ok-searched.field-0 in
+    let with_all : Node → Numbered = λ n. (n, boxed_nodes all) in
     let e = c.in-Some.argument in
     let w = ap weight c.in-Some.ensures.steps.0 in
     let want = c.argument_want-wanted.ensures
@@ -136,7 +137,7 @@ resolve_inner-loop-argument-preserved t c =
       ap (λ ns. inner_after c.args.op count c.args.want later scope (boxed_nodes ns) (terms es) (boxed_nodes all)) c.in_ok-push.ensures.items
           ∙ (ap (λ ms. inner_after c.args.op count c.args.want ms scope (boxed_nodes (done ++ made ∷ [])) (terms es) (boxed_nodes all)) c.after-later.ensures
           ∙ (inner_next c.args.op count c.args.want left scope done e es so_far all made
-          (c.in_ok-resolve.ensures ∙ ap (λ x. resolve (term_of e) x left scope (boxed_nodes so_far)) want)
+          (ap with_all c.in_ok-searched.ensures ∙ (c.in_ok-node.ensures ∙ ap (λ x. resolve (term_of e) x left scope (boxed_nodes so_far)) want))
           ∙ (ap (λ xs. inner_after c.args.op count c.args.want left scope (boxed_nodes done) (terms xs) (boxed_nodes so_far)) (sym c.in-Some.ensures.steps.0)
           ∙ before.0))),
       omega (arith, w, before.1),
