@@ -13,7 +13,8 @@ use Rattle.edit_session.specs.Answering.{AreAccepted, IsFollowed, is_done}
 use Rattle.edit_session.specs.Applied.{Reply, applied, changed_by, is_of_view, kept_left, least_steps, most_steps, presented_after, refusal, tells_image, unless_refused}
 use Rattle.edit_session.specs.OpenViews.{OpenView, after_edit, in_each, shown_in, view_left}
 use Rattle.edit_session.specs.SessionState.{SessionState}
-use Rattle.edit_session.specs.View.{AreSoundViews, IsKept, lacks_memory, session_state, state_in, tiles_of, view_seen}
+use Rattle.edit_session.specs.View.{IsKept, lacks_memory, tiles_of, view_seen}
+use Rattle.edit_session.specs.PlainView.{ArePlainSoundViews, plain_state, plain_state_in}
 use Rattle.edit_session.specs.declared.answer.Refusal.{Refusal}
 use Rattle.edit_session.specs.declared.following.BeforeEdit.{BeforeEdit}
 use Rattle.edit_session.specs.declared.session.Session.{Session}
@@ -253,15 +254,15 @@ module _ (tiles : List SourceTile) (scripts : List ℕ → Bool) (can_change : B
   -- ---- several views, after an edit that a session answered so
 
   module _ (s₀ s₂ : Session) (images₀ images₁ : List ℕ → Bool) (r : Reply) (e : Edit) (of_style : is_of_view e ≡ false)
-      (first : session_state s₀ images₀ ≡ p) (over : tiles_of s₀ ≡ tiles) (still : tiles_of s₂ ≡ tiles_of s₀)
-      (given : (session_state s₂ images₁, r) ≡ applied tiles scripts can_change p e) where
+      (first : plain_state s₀ images₀ ≡ p) (over : tiles_of s₀ ≡ tiles) (still : tiles_of s₂ ≡ tiles_of s₀)
+      (given : (plain_state s₂ images₁, r) ≡ applied tiles scripts can_change p e) where
     replied : is_done r ≡ is_done (applied tiles scripts can_change p e).1
     replied = ap (λ (a : SessionState × Reply). is_done a.1) given
 
-    state : session_state s₂ images₁ ≡ (applied tiles scripts can_change p e).0
+    state : plain_state s₂ images₁ ≡ (applied tiles scripts can_change p e).0
     state = ap (λ (a : SessionState × Reply). a.0) given
 
-    after_done : is_done r ≡ true → session_state s₂ images₁ ≡ presented_after tiles p e
+    after_done : is_done r ≡ true → plain_state s₂ images₁ ≡ presented_after tiles p e
     after_done d = state ∙ style_done e of_style (sym replied ∙ d)
 
     -- where it was done and reports nothing to the test of images, that is as it was
@@ -272,7 +273,7 @@ module _ (tiles : List SourceTile) (scripts : List ℕ → Bool) (can_change : B
     -- where it was done, it was accepted in each view
     pub accepted : (b : BeforeEdit) → is_done r ≡ true → lacks_memory s₀ ≡ false
         → layer_list (edited p.document e) ≡ edited_layers e (layer_list p.document) → b.places ≡ places_of p.document e
-        → (vs : List View) → AreSoundViews s₀ images₀ scripts vs
+        → (vs : List View) → ArePlainSoundViews s₀ images₀ scripts vs
         → AreAccepted (tiles_of s₂) s₂.globals (layer_list (tree_of s₂.document)) scripts p e b vs
     accepted b d off made places [] sound = tt
     accepted b d off made places (v ∷ vs) sound = (
@@ -300,7 +301,7 @@ module _ (tiles : List SourceTile) (scripts : List ℕ → Bool) (can_change : B
     views_done d (v ∷ vs) [] h = absurd h
 
     pub sound_done : is_done r ≡ true → (vs ws : List View) → Pairwise (IsFollowed (tiles_of s₂) scripts p e) vs ws
-        → AreSoundViews s₂ images₁ scripts ws
+        → ArePlainSoundViews s₂ images₁ scripts ws
     sound_done d [] [] h = tt
     sound_done d (v ∷ vs) (w ∷ ws) h = (
       λ off. subst (λ (q : SessionState). IsKept (tiles_of s₂) scripts q w.kept) (same v w h.0.seen) h.0.right,
@@ -308,7 +309,7 @@ module _ (tiles : List SourceTile) (scripts : List ℕ → Bool) (can_change : B
     )
       where
         same : (v w : View) → view_seen w ≡ record (view_seen v) { kept = kept_left (tiles_of s₂) (shown_in p (view_seen v)) e }
-            → presented_after (tiles_of s₂) (shown_in p (view_seen v)) e ≡ state_in s₂ w images₁
+            → presented_after (tiles_of s₂) (shown_in p (view_seen v)) e ≡ plain_state_in s₂ w images₁
         same v w seen =
             (λ i. presented_after ((still ∙ over) i) (shown_in p (view_seen v)) e)
             ∙ (sym (through_view (view_seen v) e of_style)
@@ -323,11 +324,11 @@ module _ (tiles : List SourceTile) (scripts : List ℕ → Bool) (can_change : B
     views_stay d [] = refl
     views_stay d (v ∷ vs) = λ k. sym (each_other (view_seen v) e of_style (sym replied ∙ d)) k ∷ views_stay d vs k
 
-    pub sound_stays : is_done r ≡ false → lacks_memory s₀ ≡ false → (vs : List View) → AreSoundViews s₀ images₀ scripts vs
-        → AreSoundViews s₂ images₁ scripts vs
+    pub sound_stays : is_done r ≡ false → lacks_memory s₀ ≡ false → (vs : List View) → ArePlainSoundViews s₀ images₀ scripts vs
+        → ArePlainSoundViews s₂ images₁ scripts vs
     sound_stays d off [] sound = tt
     sound_stays d off (v ∷ vs) sound = (
-      λ still_off. subst (λ (ts : List SourceTile). IsKept ts scripts (state_in s₂ v images₁) v.kept) (sym still)
+      λ still_off. subst (λ (ts : List SourceTile). IsKept ts scripts (plain_state_in s₂ v images₁) v.kept) (sym still)
           (subst (λ (q : SessionState). IsKept (tiles_of s₀) scripts (shown_in q (view_seen v)) v.kept)
           (first ∙ sym (state ∙ style_other e of_style (sym replied ∙ d))) (sound.0 off)),
       sound_stays d off vs sound.1,
@@ -335,17 +336,17 @@ module _ (tiles : List SourceTile) (scripts : List ℕ → Bool) (can_change : B
 
 -- views of a session after a failed allocation
 pub sound_without : (s : Session) (images scripts : List ℕ → Bool) (vs : List View) → lacks_memory s ≡ true
-    → AreSoundViews s images scripts vs
+    → ArePlainSoundViews s images scripts vs
 sound_without s images scripts [] lacks = tt
 sound_without s images scripts (v ∷ vs) lacks =
     (λ off. absurd (let no = sym lacks ∙ off in cc), sound_without s images scripts vs lacks)
 
 -- views of a session that notes whether it has memory
 pub sound_noted : (s t : Session) (images scripts : List ℕ → Bool) (vs : List View)
-    → t ≡ record s { lacks_memory = t.lacks_memory } → lacks_memory s ≡ false → AreSoundViews s images scripts vs
-    → AreSoundViews t images scripts vs
+    → t ≡ record s { lacks_memory = t.lacks_memory } → lacks_memory s ≡ false → ArePlainSoundViews s images scripts vs
+    → ArePlainSoundViews t images scripts vs
 sound_noted s t images scripts [] is has sound = tt
 sound_noted s t images scripts (v ∷ vs) is has sound = (
-  λ off. subst (λ (x : Session). IsKept (tiles_of x) scripts (state_in x v images) v.kept) (sym is) (sound.0 has),
+  λ off. subst (λ (x : Session). IsKept (tiles_of x) scripts (plain_state_in x v images) v.kept) (sym is) (sound.0 has),
   sound_noted s t images scripts vs is has sound.1,
 )

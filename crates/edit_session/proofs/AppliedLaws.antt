@@ -21,8 +21,8 @@ use Rattle.style_rules.specs.CodeView.{finding_seen}
 use Rattle.style_rules.specs.Findings.{findings}
 use Rattle.style_rules.specs.declared.lists.Finding.{Finding}
 use Rattle.edit_session.proofs.GlobalCells.{values_change_no_cell}
-use Rattle.edit_session.specs.Applied.{FeatureStates, first_finding, limit_refusal, done, refused, refusal_of, whole_refusal, edits_layers, unless_refused, needs_no_memory, tell_count_after}
-use Rattle.edit_session.specs.Answering.{unfollowed}
+use Rattle.edit_session.specs.Applied.{FeatureStates, first_finding, limit_refusal, done, refused, refusal_of, whole_refusal, edits_layers, unless_refused, tell_count_after}
+use Rattle.edit_session.specs.Answering.{unfollowed, spares_memory}
 use Rattle.edit_session.specs.SessionState.{SessionState}
 use Rattle.edit_session.specs.declared.answer.Refusal.{Refusal}
 use Rattle.edit_session.specs.declared.answer.Refusal.TheVariants.{Finding as Refused}
@@ -165,7 +165,7 @@ module _ (tiles : List SourceTile) (scripts : List ℕ → Bool) (can_change : B
       ∙ accepted _ None p _ h refl)
 
 -- a command that takes no memory puts nothing into the document
-pub none_taken : (e : Edit) → needs_no_memory e ≡ true → takes_memory e ≡ false
+pub none_taken : (e : Edit) → spares_memory e ≡ true → takes_memory e ≡ false
 none_taken edits.stats h = refl
 none_taken (edits.set_zoom zoom) h = refl
 none_taken (edits.remove_state source layer id key) h = refl

@@ -13,3 +13,13 @@ pub mod AllViewsLaws
 pub mod ListedLaws
 pub mod DoneLaws
 pub mod ViewsFollow
+pub mod RangeAgain
+pub mod RangedLists
+pub mod RangedFindings
+pub mod RangedDocuments
+pub mod RangedCells
+pub mod RangedKept
+pub mod RangedAnswers
+pub mod RangedIds
+pub mod RangedSettling
+pub mod RangedCalls

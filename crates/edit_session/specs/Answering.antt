@@ -59,6 +59,15 @@ abbrev pub told : Bool → List ℕ → Bool → (List ℕ → Bool) → (List �
 told can_change name present has_image =
     if can_change then (with_image name present has_image, done) else (has_image, refused FixedImages)
 
+-- the commands in which no allocation has to succeed, of a document in which no range is still to be set
+abbrev pub spares_memory : Edit → Bool
+spares_memory edits.stats = true
+spares_memory (edits.set_zoom zoom) = true
+spares_memory (edits.remove_state source layer id key) = true
+spares_memory (edits.remove_layer id) = true
+spares_memory (edits.move_layer id before) = true
+spares_memory _ = false
+
 -- ---- following an edit
 
 -- over tiles, by the values of the global state and the layers that there are after an edit

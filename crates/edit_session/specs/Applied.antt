@@ -192,12 +192,13 @@ edits_layers (edits.remove_layer id) = true
 edits_layers (edits.move_layer id before) = true
 edits_layers _ = false
 
--- A command in which no allocation has to succeed: layers go or move, the zoom changes, a state is removed, the number of
--- evaluations is asked. Source: own.
+-- A command in which no allocation has to succeed: layers go or move, their ranges of zooms or the zoom change, a state is
+-- removed, the number of evaluations is asked. Source: own.
 abbrev pub needs_no_memory : Edit → Bool
 needs_no_memory edits.stats = true
 needs_no_memory (edits.set_zoom zoom) = true
 needs_no_memory (edits.remove_state source layer id key) = true
+needs_no_memory (edits.set_range layer min max) = true
 needs_no_memory (edits.remove_layer id) = true
 needs_no_memory (edits.move_layer id before) = true
 needs_no_memory _ = false

@@ -1,5 +1,6 @@
 -- To be believed.
 pub mod SessionState
+pub mod Ranges
 pub mod Opening
 pub mod Applied
 pub mod OpenViews
@@ -7,4 +8,6 @@ pub mod View
 -- What only contracts of private functions and proofs use.
 pub mod PreparedLayers
 pub mod LayerMarks
+pub mod PlainView
+pub mod Setting
 pub mod Answering

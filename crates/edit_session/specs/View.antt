@@ -1,5 +1,5 @@
 -- What the program's values are to a clause.
-use Rattle.std.specs.Prelude.{◌≡◌, ◌≤◌, ℕ, List, [], ◌∷◌, map, Bool, false, None}
+use Rattle.std.specs.Prelude.{◌≡◌, ◌≤◌, ℕ, List, [], ◌∷◌, length, map, Bool, false, None}
 use Rattle.decimal_json.specs.Tree.{Tree}
 use Rattle.decimal_json.specs.View.{tree_of}
 use Rattle.expr_nodes.specs.Evaluators.{Sized}
@@ -20,6 +20,7 @@ use Rattle.style_layout.specs.StyleLayout.{cell_count}
 use Rattle.edit_session.specs.Applied.{Reply, done, listed, counted, styled, refused, whole_refusal}
 use Rattle.edit_session.specs.LayerMarks.{AreMarks}
 use Rattle.edit_session.specs.OpenViews.{OpenView, shown_in}
+use Rattle.edit_session.specs.Ranges.{ranged_document}
 use Rattle.edit_session.specs.Opening.{cell_limit, Fault, has_findings, unknown_source, not_vector, too_many_cells, zoom_range}
 use Rattle.edit_session.specs.SessionState.{SessionState, scene_of}
 use Rattle.edit_session.specs.declared.answer.Answer.{Answer}
@@ -48,10 +49,11 @@ fault_seen ZoomRange = zoom_range
 
 -- ---- a session
 
--- What a session represents, with the test of images that is handed in. Source: own.
+-- What a session represents, with the test of images that is handed in: its document with the ranges that are still to be
+-- set of its layers, and what it is shown by. Source: own.
 abbrev pub session_state : Session → (List ℕ → Bool) → SessionState
 session_state session has_image = record {
-  document = tree_of session.document;
+  document = ranged_document session.ranges (tree_of session.document);
   zoom = session.zoom;
   states = members_at session.states;
   has_image = has_image;
@@ -97,7 +99,7 @@ pub record IsWholeDocument (tiles : List SourceTile) (globals : List (List ℕ �
   pub is_counted : layers.cells ≡ cell_count tiles (style_layers globals document)
   pub is_noted : layers.reads_globals ≡ false → reads_globals document ≡ false
 
--- so it is with a session's document; and its marks are those of the layers, and its indexes those of the features of its tiles
+-- so it is with the document that a session has; and its marks are those of the layers, and its indexes those of the features of its tiles
 abbrev pub IsReady : Session → Type 0
 IsReady session =
     IsWholeDocument (tiles_of session) session.globals (tree_of session.document) session.layers
@@ -117,9 +119,13 @@ pub record IsKept (tiles : List SourceTile) (scripts : List ℕ → Bool) (p : S
 
 -- ---- what holds until an allocation fails
 
+-- there is a slot for each layer, in which a range may be that is still to be set of it
+abbrev pub HasSlots : Session → Type 0
+HasSlots session = length session.ranges ≡ length (layer_list (tree_of session.document))
+
 -- A session can be used: a fact that says nothing of what is kept.
 abbrev pub IsUsable : Session → Type 0
-IsUsable session = lacks_memory session ≡ false → IsReady session
+IsUsable session = lacks_memory session ≡ false → IsReady session × HasSlots session
 
 -- What holds of a session from its opening on, by the tests of images and scripts that are handed in to each call.
 pub record IsSoundSession (session : Session) (has_image scripts : List ℕ → Bool) : Type 0 where

@@ -4,10 +4,11 @@ ghost use Rattle.std.specs.Prelude.{◌≡◌, ◌≤◌, ◌+◌, ℕ, List, Bo
 ghost use Rattle.decimal_json.specs.View.{tree_of};
 ghost use Rattle.edit_script.specs.Edit as edits;
 ghost use Rattle.edit_script.specs.View.{command_seen};
-ghost use Rattle.edit_session.specs.Answering.{AreAccepted, AreOfAccepted, FollowsEdit, IsAccepted, IsFollowed, IsOfAccepted, is_done, is_list};
-ghost use Rattle.edit_session.specs.Applied.{applied, least_steps, most_steps, tell_count_after, needs_no_memory, tells_image};
+ghost use Rattle.edit_session.specs.Answering.{AreAccepted, AreOfAccepted, FollowsEdit, IsAccepted, IsFollowed, IsOfAccepted, is_done, is_list, spares_memory};
+ghost use Rattle.edit_session.specs.Applied.{applied, least_steps, most_steps, tell_count_after, tells_image};
 ghost use Rattle.edit_session.specs.SessionState.{SessionState};
-ghost use Rattle.edit_session.specs.View.{IsKept, IsReady, reply_seen, session_state, tiles_of};
+ghost use Rattle.edit_session.specs.View.{IsKept, IsReady, reply_seen, tiles_of};
+ghost use Rattle.edit_session.specs.PlainView.{plain_state};
 ghost use Rattle.feature_index.specs.Indexes.{AreIndexed};
 ghost use Rattle.host_ops.specs.Change.{IsSameTest};
 ghost use Rattle.kept_layers.specs.Holding.{Pairwise};
@@ -39,23 +40,24 @@ impl Session<'_> {
         steps: &mut Steps<L>,
     ) -> Result<Answer, AllocError>
         requires ready { IsReady self.old }
-        requires kept { IsKept (tiles_of self.old) (test scripts.now) (session_state self.old (test images.old)) self.old.kept }
-        ensures answer { IfOk result (λ answer. (session_state self.new (test images.new), reply_seen answer)
-            ≡ applied (tiles_of self.old) (test scripts.now) (changes images.old) (session_state self.old (test images.old))
+        requires kept { IsKept (tiles_of self.old) (test scripts.now) (plain_state self.old (test images.old)) self.old.kept }
+        ensures answer { IfOk result (λ answer. (plain_state self.new (test images.new), reply_seen answer)
+            ≡ applied (tiles_of self.old) (test scripts.now) (changes images.old) (plain_state self.old (test images.old))
             (command_seen command.now)) }
         ensures tiles { tiles_of self.new ≡ tiles_of self.old }
+        ensures ranges { self.new.ranges ≡ self.old.ranges }
         ensures changes { changes images.new ≡ changes images.old }
         ensures count { tell_count images.new
             ≡ tell_count_after (changes images.old) (command_seen command.now) (tell_count images.old) }
         ensures lent { OnErr result (IsSameTest (test images.old) (test images.new)) }
         ensures ready { OnOk result (IsReady self.new) }
         ensures kept { OnOk result (IsKept (tiles_of self.new) (test scripts.now)
-            (session_state self.new (test images.new)) self.new.kept) }
+            (plain_state self.new (test images.new)) self.new.kept) }
         ensures least { OnOk result (steps.old + least_steps (tiles_of self.old) (test scripts.now)
-            (session_state self.old (test images.old)) (command_seen command.now) ≤ steps.new) }
+            (plain_state self.old (test images.old)) (command_seen command.now) ≤ steps.new) }
         ensures most { steps.new ≤ steps.old + most_steps (tiles_of self.old) (test scripts.now)
-            (session_state self.old (test images.old)) (command_seen command.now) }
-        ensures memory { needs_no_memory (command_seen command.now) ≡ true → IsOk result }
+            (plain_state self.old (test images.old)) (command_seen command.now) }
+        ensures memory { spares_memory (command_seen command.now) ≡ true → IsOk result }
     {
         match command {
             Command::List => self.answer_list(images, scripts, steps),
@@ -71,17 +73,18 @@ impl Session<'_> {
         steps: &mut Steps<L>,
     ) -> Result<Answer, AllocError>
         requires ready { IsReady self.old }
-        requires kept { IsKept (tiles_of self.old) (test scripts.now) (session_state self.old (test images.now)) self.old.kept }
-        ensures answer { (can_change : Bool) → IfOk result (λ answer. (session_state self.new (test images.now), reply_seen answer)
-            ≡ applied (tiles_of self.old) (test scripts.now) can_change (session_state self.old (test images.now)) edits.list) }
+        requires kept { IsKept (tiles_of self.old) (test scripts.now) (plain_state self.old (test images.now)) self.old.kept }
+        ensures answer { (can_change : Bool) → IfOk result (λ answer. (plain_state self.new (test images.now), reply_seen answer)
+            ≡ applied (tiles_of self.old) (test scripts.now) can_change (plain_state self.old (test images.now)) edits.list) }
         ensures tiles { tiles_of self.new ≡ tiles_of self.old }
+        ensures ranges { self.new.ranges ≡ self.old.ranges }
         ensures ready { IsReady self.new }
         ensures kept { OnOk result (IsKept (tiles_of self.new) (test scripts.now)
-            (session_state self.new (test images.now)) self.new.kept) }
+            (plain_state self.new (test images.now)) self.new.kept) }
         ensures least { OnOk result (steps.old + least_steps (tiles_of self.old) (test scripts.now)
-            (session_state self.old (test images.now)) edits.list ≤ steps.new) }
+            (plain_state self.old (test images.now)) edits.list ≤ steps.new) }
         ensures most { steps.new ≤ steps.old + most_steps (tiles_of self.old) (test scripts.now)
-            (session_state self.old (test images.now)) edits.list }
+            (plain_state self.old (test images.now)) edits.list }
     {
         let mut out = Vec::new(self.alloc);
         let style = shown_style(
@@ -108,22 +111,23 @@ impl Session<'_> {
     ) -> Result<Answer, AllocError>
         requires ready { IsReady self.old }
         requires kept { (scripts : List ℕ → Bool) × IsKept (tiles_of self.old) scripts
-            (session_state self.old (test images.old)) self.old.kept }
+            (plain_state self.old (test images.old)) self.old.kept }
         requires edit { is_list (command_seen command.now) ≡ false }
         ensures answer { (scripts : List ℕ → Bool)
-            → IfOk result (λ answer. (session_state self.new (test images.new), reply_seen answer)
-            ≡ applied (tiles_of self.old) scripts (changes images.old) (session_state self.old (test images.old))
+            → IfOk result (λ answer. (plain_state self.new (test images.new), reply_seen answer)
+            ≡ applied (tiles_of self.old) scripts (changes images.old) (plain_state self.old (test images.old))
             (command_seen command.now)) }
         ensures tiles { tiles_of self.new ≡ tiles_of self.old }
+        ensures ranges { self.new.ranges ≡ self.old.ranges }
         ensures changes { changes images.new ≡ changes images.old }
         ensures count { tell_count images.new
             ≡ tell_count_after (changes images.old) (command_seen command.now) (tell_count images.old) }
         ensures lent { OnErr result (IsSameTest (test images.old) (test images.new)) }
         ensures ready { OnOk result (IsReady self.new) }
         ensures kept { (scripts : List ℕ → Bool)
-            → IsKept (tiles_of self.old) scripts (session_state self.old (test images.old)) self.old.kept
-            → OnOk result (IsKept (tiles_of self.new) scripts (session_state self.new (test images.new)) self.new.kept) }
-        ensures memory { needs_no_memory (command_seen command.now) ≡ true → IsOk result }
+            → IsKept (tiles_of self.old) scripts (plain_state self.old (test images.old)) self.old.kept
+            → OnOk result (IsKept (tiles_of self.new) scripts (plain_state self.new (test images.new)) self.new.kept) }
+        ensures memory { spares_memory (command_seen command.now) ≡ true → IsOk result }
     {
         let before = self.before(command);
         let answer = self.changed(command, before.places, images)?;
@@ -160,7 +164,7 @@ impl Session<'_> {
             scripts p (command_seen command.now) before.now self.old.kept
             → OnOk result (FollowsEdit (tiles_of self.old) scripts p (command_seen command.now) self.new.kept) }
         ensures images { OnErr result (tells_image (command_seen command.now) ≡ false) }
-        ensures memory { needs_no_memory (command_seen command.now) ≡ true → IsOk result }
+        ensures memory { spares_memory (command_seen command.now) ≡ true → IsOk result }
     {
         let style = shown_style(
             &self.document,
@@ -195,7 +199,7 @@ impl Session<'_> {
             → OnOk result (Pairwise (IsFollowed (tiles_of self.now) scripts p (command_seen command.now))
             views.old views.new) }
         ensures images { OnErr result (tells_image (command_seen command.now) ≡ false) }
-        ensures memory { needs_no_memory (command_seen command.now) ≡ true → IsOk result }
+        ensures memory { spares_memory (command_seen command.now) ≡ true → IsOk result }
     {
         let style = shown_style(
             &self.document,

@@ -5,9 +5,10 @@ ghost use Rattle.decimal_json.specs.JsonText.{json_text};
 ghost use Rattle.decimal_json.specs.View.{tree_of};
 ghost use Rattle.edit_script.specs.Edit as edits;
 ghost use Rattle.edit_script.specs.View.{command_seen};
-ghost use Rattle.edit_session.specs.Answering.{IsAnswer, is_done, is_list, told};
-ghost use Rattle.edit_session.specs.Applied.{edits_layers, refusal_of, styled, tell_count_after, needs_no_memory};
-ghost use Rattle.edit_session.specs.View.{IsReady, reply_seen, session_state, tiles_of};
+ghost use Rattle.edit_session.specs.Answering.{IsAnswer, is_done, is_list, told, spares_memory};
+ghost use Rattle.edit_session.specs.Applied.{edits_layers, refusal_of, styled, tell_count_after};
+ghost use Rattle.edit_session.specs.View.{IsReady, reply_seen, tiles_of};
+ghost use Rattle.edit_session.specs.PlainView.{plain_state};
 ghost use Rattle.host_ops.specs.Change.{IsSameTest, count_after};
 ghost use Rattle.prop_values.specs.Data.{pairs_of};
 ghost use Rattle.prop_values.specs.View.{data_of};
@@ -43,8 +44,9 @@ impl Session<'_> {
         requires edit { is_list (command_seen command.now) ≡ false }
         requires places { places ≡ places_of (tree_of self.old.document) (command_seen command.now) }
         ensures answer { (scripts : List ℕ → Bool) → IfOk result (IsAnswer (tiles_of self.old) scripts (changes images.old)
-            (session_state self.old (test images.old)) (session_state self.new (test images.new)) (command_seen command.now)) }
+            (plain_state self.old (test images.old)) (plain_state self.new (test images.new)) (command_seen command.now)) }
         ensures tiles { tiles_of self.new ≡ tiles_of self.old }
+        ensures ranges { self.new.ranges ≡ self.old.ranges }
         ensures changes { changes images.new ≡ changes images.old }
         ensures count { tell_count images.new
             ≡ tell_count_after (changes images.old) (command_seen command.now) (tell_count images.old) }
@@ -52,7 +54,7 @@ impl Session<'_> {
         ensures ready { OnOk result (IsReady self.new) }
         ensures kept { self.new.kept ≡ self.old.kept }
         ensures last { self.new.last ≡ self.old.last }
-        ensures memory { needs_no_memory (command_seen command.now) ≡ true → IsOk result }
+        ensures memory { spares_memory (command_seen command.now) ≡ true → IsOk result }
     {
         match edit_fault(&self.document, places, command) {
             Some(fault) => Ok(Answer::Refused(refusal_of(fault))),
@@ -73,8 +75,9 @@ impl Session<'_> {
         requires possible { edit_fault (tree_of self.old.document) (command_seen command.now) ≡ None }
         requires places { places ≡ places_of (tree_of self.old.document) (command_seen command.now) }
         ensures answer { (scripts : List ℕ → Bool) → IfOk result (IsAnswer (tiles_of self.old) scripts (changes images.old)
-            (session_state self.old (test images.old)) (session_state self.new (test images.new)) (command_seen command.now)) }
+            (plain_state self.old (test images.old)) (plain_state self.new (test images.new)) (command_seen command.now)) }
         ensures tiles { tiles_of self.new ≡ tiles_of self.old }
+        ensures ranges { self.new.ranges ≡ self.old.ranges }
         ensures changes { changes images.new ≡ changes images.old }
         ensures count { tell_count images.new
             ≡ tell_count_after (changes images.old) (command_seen command.now) (tell_count images.old) }
@@ -82,7 +85,7 @@ impl Session<'_> {
         ensures ready { OnOk result (IsReady self.new) }
         ensures kept { self.new.kept ≡ self.old.kept }
         ensures last { self.new.last ≡ self.old.last }
-        ensures memory { needs_no_memory (command_seen command.now) ≡ true → IsOk result }
+        ensures memory { spares_memory (command_seen command.now) ≡ true → IsOk result }
     {
         match command {
             Command::List => unreachable!(),
@@ -126,9 +129,10 @@ impl Session<'_> {
         requires possible { edit_fault (tree_of self.old.document)
             (edits.set_state source.now layer.now id (pairs_of members.now)) ≡ None }
         ensures answer { (has_image scripts : List ℕ → Bool) (can_change : Bool)
-            → IfOk result (IsAnswer (tiles_of self.old) scripts can_change (session_state self.old has_image)
-            (session_state self.new has_image) (edits.set_state source.now layer.now id (pairs_of members.now))) }
+            → IfOk result (IsAnswer (tiles_of self.old) scripts can_change (plain_state self.old has_image)
+            (plain_state self.new has_image) (edits.set_state source.now layer.now id (pairs_of members.now))) }
         ensures tiles { tiles_of self.new ≡ tiles_of self.old }
+        ensures ranges { self.new.ranges ≡ self.old.ranges }
         ensures ready { OnOk result (IsReady self.new) }
         ensures kept { self.new.kept ≡ self.old.kept }
         ensures last { self.new.last ≡ self.old.last }
@@ -143,9 +147,10 @@ impl Session<'_> {
     fn set_global(&mut self, name: &Text, value: &Value) -> Result<Answer, AllocError>
         requires ready { IsReady self.old }
         ensures answer { (has_image scripts : List ℕ → Bool) (can_change : Bool)
-            → IfOk result (IsAnswer (tiles_of self.old) scripts can_change (session_state self.old has_image)
-            (session_state self.new has_image) (edits.set_global name.now (data_of value.now))) }
+            → IfOk result (IsAnswer (tiles_of self.old) scripts can_change (plain_state self.old has_image)
+            (plain_state self.new has_image) (edits.set_global name.now (data_of value.now))) }
         ensures tiles { tiles_of self.new ≡ tiles_of self.old }
+        ensures ranges { self.new.ranges ≡ self.old.ranges }
         ensures ready { OnOk result (IsReady self.new) }
         ensures kept { self.new.kept ≡ self.old.kept }
         ensures last { self.new.last ≡ self.old.last }
@@ -164,9 +169,10 @@ impl Session<'_> {
         requires places { places ≡ places_of (tree_of self.old.document) (command_seen command.now) }
         requires layers { edits_layers (command_seen command.now) ≡ true }
         ensures answer { (has_image scripts : List ℕ → Bool) (can_change : Bool)
-            → IfOk result (IsAnswer (tiles_of self.old) scripts can_change (session_state self.old has_image)
-            (session_state self.new has_image) (command_seen command.now)) }
+            → IfOk result (IsAnswer (tiles_of self.old) scripts can_change (plain_state self.old has_image)
+            (plain_state self.new has_image) (command_seen command.now)) }
         ensures tiles { tiles_of self.new ≡ tiles_of self.old }
+        ensures ranges { self.new.ranges ≡ self.old.ranges }
         ensures ready { OnOk result (IsReady self.new) }
         ensures kept { self.new.kept ≡ self.old.kept }
         ensures last { self.new.last ≡ self.old.last }
@@ -178,17 +184,22 @@ impl Session<'_> {
         }
     }
 
-    // The answer where it breaks none: the edit is taken back where the document gets too many cells.
-    fn edit_sound(&mut self, command: &Command, places: EditPlaces) -> Result<Answer, AllocError>
+    /// The answer where it breaks none: the edit is taken back where the document gets too many cells.
+    pub(crate) fn edit_sound(
+        &mut self,
+        command: &Command,
+        places: EditPlaces,
+    ) -> Result<Answer, AllocError>
         requires possible { edit_fault (tree_of self.old.document) (command_seen command.now) ≡ None }
         requires places { places ≡ places_of (tree_of self.old.document) (command_seen command.now) }
         requires layers { edits_layers (command_seen command.now) ≡ true }
         requires sound { findings (edited (tree_of self.old.document) (command_seen command.now)) ≡ [] }
         requires ready { IsReady self.old }
         ensures answer { (has_image scripts : List ℕ → Bool) (can_change : Bool)
-            → IfOk result (IsAnswer (tiles_of self.old) scripts can_change (session_state self.old has_image)
-            (session_state self.new has_image) (command_seen command.now)) }
+            → IfOk result (IsAnswer (tiles_of self.old) scripts can_change (plain_state self.old has_image)
+            (plain_state self.new has_image) (command_seen command.now)) }
         ensures tiles { tiles_of self.new ≡ tiles_of self.old }
+        ensures ranges { self.new.ranges ≡ self.old.ranges }
         ensures ready { OnOk result (IsReady self.new) }
         ensures kept { self.new.kept ≡ self.old.kept }
         ensures last { self.new.last ≡ self.old.last }
@@ -220,8 +231,8 @@ pub(crate) fn is_done(answer: &Answer) -> bool
     matches!(answer, Answer::Done)
 }
 
-// The refusal of the same name.
-fn refusal_of(fault: EditFault) -> Refusal
+/// The refusal of the same name.
+pub(crate) fn refusal_of(fault: EditFault) -> Refusal
     ensures { result ≡ refusal_of fault }
 {
     match fault {

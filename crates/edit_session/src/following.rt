@@ -3,8 +3,8 @@
 ghost use Rattle.std.specs.Prelude.{◌≡◌, ℕ, List, Bool, map, false, true, IsOk, OnErr, OnOk};
 ghost use Rattle.decimal_json.specs.View.{tree_of};
 ghost use Rattle.edit_script.specs.View.{command_seen};
-ghost use Rattle.edit_session.specs.Applied.{needs_no_memory, tells_image};
-ghost use Rattle.edit_session.specs.Answering.{FollowsEdit, IsAccepted, IsOfAccepted, is_of_document};
+ghost use Rattle.edit_session.specs.Applied.{tells_image};
+ghost use Rattle.edit_session.specs.Answering.{FollowsEdit, IsAccepted, IsOfAccepted, is_of_document, spares_memory};
 ghost use Rattle.edit_session.specs.SessionState.{SessionState};
 ghost use Rattle.edit_session.specs.View.{IsWholeDocument};
 ghost use Rattle.feature_index.specs.Indexes.{AreIndexed};
@@ -75,7 +75,7 @@ pub(crate) fn follow_command(
         → OnOk result (FollowsEdit (tiles_in style.now) scripts p (command_seen command.now) kept.new) }
     ensures indexed { AreIndexed (tiles_in style.now) indexes.new }
     ensures images { OnErr result (tells_image (command_seen command.now) ≡ false) }
-    ensures memory { needs_no_memory (command_seen command.now) ≡ true → IsOk result }
+    ensures memory { spares_memory (command_seen command.now) ≡ true → IsOk result }
 {
     match command {
         Command::SetZoom(zoom) => {
@@ -121,7 +121,7 @@ fn follow_document(
         scripts p (command_seen command.now) before.now kept.old
         → OnOk result (FollowsEdit (tiles_in style.now) scripts p (command_seen command.now) kept.new) }
     ensures images { tells_image (command_seen command.now) ≡ false }
-    ensures memory { needs_no_memory (command_seen command.now) ≡ true → IsOk result }
+    ensures memory { spares_memory (command_seen command.now) ≡ true → IsOk result }
 {
     follow(alloc, kept, command, before.places, style)
 }

@@ -24,15 +24,18 @@
 //!   session had its zoom, its states, its kept cells and the number of its last listing, and leaves the session's own.
 //!   `apply_to_all` does a command of the style, which is one in every view (`in_each`).
 //! - Once allocation fails in `apply`, `apply_in` or `apply_to_all`, every later call answers so, and the test of images that
-//!   was borrowed lets the texts pass that it let pass. `stats`, `set-zoom`, `remove-state`, `remove-layer` and `move-layer`
-//!   are not what it fails in (`needs_no_memory`).
+//!   was borrowed lets the texts pass that it let pass. `stats`, `set-zoom`, `remove-state`, `set-range`, `remove-layer`
+//!   and `move-layer` are not what it fails in (`needs_no_memory`).
+//!
+//! A range of zooms that is set takes no memory, since it is noted beside the document (`ranged_document`) until a command needs
+//! the document as it is then: all but those that ask nothing of it, and those by which layers go and move (`lets_ranges_be`).
 //!
 //! Of an edit of layers only the part that it changes is checked against the rules, and only the layer that it changes is prepared anew
 //! and its cells counted. A layer is found by a mark of its id, eight bytes for each (`layer_marks.rt`), and looked for first near the
 //! place where it was last, of which nothing is believed (`place_hints.rt`). A value of the global state is set in time logarithmic in
 //! their number, and prepares the layers anew only where a text in them is `global-state`, or was before an edit.
 //!
-//! The text to believe is in `specs/`: `SessionState`, `Opening`, `Applied`, `OpenViews`, `View`.
+//! The text to believe is in `specs/`: `SessionState`, `Ranges`, `Opening`, `Applied`, `OpenViews`, `View`.
 #![tactic(auto)]
 
 mod answer;
@@ -44,6 +47,8 @@ mod layer_marks;
 mod layers;
 mod opening;
 mod place_hints;
+mod plain;
+mod ranges;
 mod session;
 mod view;
 mod whole;

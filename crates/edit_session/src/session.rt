@@ -5,7 +5,6 @@ ghost use Rattle.std.specs.Result.{result_err};
 ghost use Rattle.decimal_json.specs.View.{tree_of};
 ghost use Rattle.edit_script.specs.Edit as edits;
 ghost use Rattle.edit_script.specs.View.{command_seen};
-ghost use Rattle.edit_session.specs.Answering.{through, with_own};
 ghost use Rattle.edit_session.specs.Applied.{applied, is_of_view, least_steps, listing_of, most_steps, needs_no_memory, tell_count_after};
 ghost use Rattle.edit_session.specs.OpenViews.{fresh_view, in_each};
 ghost use Rattle.edit_session.specs.Opening.{cell_limit, open_fault, tiles_fault};
@@ -17,12 +16,12 @@ ghost use Rattle.style_layout.specs.Globals.{globals_of};
 ghost use Rattle.style_rules.specs.Findings.{findings};
 
 use crate::answer::Answer;
-use crate::commands::is_done;
-use crate::following::shown_style;
 use crate::layer_marks::LayerMarks;
 use crate::layers::PreparedLayers;
-use crate::opening::{CELL_LIMIT, OpenFault, OpenedLayers, open_layers};
+use crate::opening::{CELL_LIMIT, OpenFault, open_layers};
+use crate::ranges::is_range;
 use crate::view::View;
+use crate::whole::note_types;
 use decimal_json::{Json, Text};
 use edit_script::Command;
 use feature_index::FeatureIndexes;
@@ -31,11 +30,11 @@ use fixed_num::Fixed;
 use host_ops::HostOp;
 use kept_layers::KeptLayers;
 use outside_io::Steps;
+use pending_ranges::PendingRanges;
 use prop_values::Entries;
 use std::alloc::{AllocError, Global};
-use std::mem;
 use std::sync::ledger::Ledger;
-use style_layout::{HostTests, Scene, SourceTile, Zoom};
+use style_layout::{SourceTile, Zoom};
 use style_rules::findings;
 
 /// A style over tiles, under edit, with the zoom, the states of features and the values of the global state by which it is
@@ -44,7 +43,9 @@ use style_rules::findings;
 #[derive(Drop)]
 pub struct Session<'a> {
     pub(crate) alloc: Global,
+    /// The style as it is but for the ranges of zooms that are still to be set in it.
     pub(crate) document: Json,
+    pub(crate) ranges: PendingRanges,
     pub(crate) tiles: Vec<SourceTile<'a>>,
     pub(crate) zoom: Zoom,
     pub(crate) states: States,
@@ -111,44 +112,6 @@ impl<'a> Session<'a> {
         }
     }
 
-    // A session over a style whose layers are prepared by the values that the global state has at first.
-    fn over(
-        alloc: Global,
-        style: Json,
-        tiles: Vec<SourceTile<'a>>,
-        zoom: Fixed,
-        first: OpenedLayers,
-    ) -> Result<Session<'a>, AllocError>
-        requires whole { IsWholeDocument (map tile_seen tiles.items) first.globals (tree_of style) first.layers }
-        requires globals { first.globals ≡ globals_of (tree_of style) }
-        ensures opened { (has_image : List ℕ → Bool) → IfOk result (λ session. session_state session has_image
-            ≡ opened first.layers.limit (tree_of style) zoom has_image) }
-        ensures tiles { IfOk result (λ session. tiles_of session ≡ map tile_seen tiles.entry.items) }
-        ensures sound { (has_image scripts : List ℕ → Bool)
-            → IfOk result (λ session. IsSoundSession session has_image scripts) }
-        ensures memory { IfOk result (λ session. lacks_memory session ≡ false) }
-    {
-        let marks = LayerMarks::of(alloc, &style)?;
-        let shown = shown_style(&style, &first.layers, &first.globals, tiles.as_slice());
-        let kept = KeptLayers::of(alloc, &shown)?;
-        let zoom = Zoom::new(zoom);
-        let states = States::new(alloc);
-        Ok(Session {
-            alloc,
-            document: style,
-            tiles,
-            zoom,
-            states,
-            globals: first.globals,
-            layers: first.layers,
-            marks,
-            indexes: FeatureIndexes::new(alloc),
-            kept,
-            last: 0,
-            lacks_memory: false,
-        })
-    }
-
     /// Where memory for its calls is taken.
     pub fn alloc(&self) -> Global {
         self.alloc
@@ -157,7 +120,8 @@ impl<'a> Session<'a> {
     /// Does what a command says, and answers. A refused command changes nothing, and neither do `stats` and `style`. A
     /// listing evaluates the cells that it asks and that are not kept, and keeps them; `steps` rises by no other command.
     /// Once allocation fails every later call answers so too. A command that puts nothing in never comes to it: `stats`,
-    /// `set-zoom`, `remove-state`, `remove-layer`, `move-layer`.
+    /// `set-zoom`, `remove-state`, `set-range`, `remove-layer`, `move-layer`. A range is set in the document before the next
+    /// command that needs it.
     pub fn apply<L: Ledger>(
         &mut self,
         command: &Command,
@@ -187,9 +151,13 @@ impl<'a> Session<'a> {
         if self.lacks_memory {
             return Err(AllocError);
         }
-        let answer = self.answer(command, images, scripts, steps);
-        self.lacks_memory = answer.is_err();
-        answer
+        if is_range(command) {
+            return Ok(self.set_range(command));
+        }
+        let before = self.before_ranges(command)?;
+        let answer = self.apply_plain(command, images, scripts, steps)?;
+        self.follow_ranges(&answer, command, &before);
+        Ok(answer)
     }
 
     /// The listing of a session that ends with it: what `apply` answers to `list`. A session that kept no cell keeps
@@ -212,27 +180,9 @@ impl<'a> Session<'a> {
         if self.lacks_memory {
             return Err(AllocError);
         }
-        let Session {
-            alloc,
-            document,
-            tiles,
-            zoom,
-            states,
-            globals,
-            layers,
-            kept,
-            ..
-        } = self;
-        let mut kept = kept;
-        let mut out = Vec::new(alloc);
-        let style = shown_style(&document, &layers, &globals, tiles.as_slice());
-        let scene = Scene {
-            zoom,
-            states: &states,
-            tests: HostTests { images, scripts },
-        };
-        kept.list_last(alloc, &style, &scene, steps, &mut out)?;
-        Ok(out)
+        let mut session = self;
+        session.settle()?;
+        session.into_listing_plain(images, scripts, steps)
     }
 
     // ---- several views
@@ -250,22 +200,8 @@ impl<'a> Session<'a> {
         if self.lacks_memory {
             return Err(AllocError);
         }
-        let style = shown_style(
-            &self.document,
-            &self.layers,
-            &self.globals,
-            self.tiles.as_slice(),
-        );
-        let kept = KeptLayers::of(self.alloc, &style)?;
-        let zoom = Zoom::new(zoom);
-        let states = States::new(self.alloc);
-        Ok(View {
-            name,
-            zoom,
-            states,
-            kept,
-            last: 0,
-        })
+        note_types(&self.document);
+        self.open_view_plain(name, zoom)
     }
 
     /// As `apply`, with what is of a view in the place of the session's own, which stays. The command is one of a view. What is
@@ -302,21 +238,11 @@ impl<'a> Session<'a> {
         ensures most { steps.new ≤ steps.old + most_steps (tiles_of self.old) (test scripts.now)
             (state_in self.old view.old (test images.old)) (command_seen command.now) }
     {
-        self.exchange(view);
-        let answer = self.apply(command, images, scripts, steps);
-        self.exchange(view);
-        answer
-    }
-
-    // What is of the session's own view for what is of another.
-    fn exchange(&mut self, view: &mut View)
-        ensures session { self.new ≡ through self.old view.old }
-        ensures view { view.new ≡ with_own view.old self.old }
-    {
-        mem::swap(&mut self.zoom, &mut view.zoom);
-        mem::swap(&mut self.states, &mut view.states);
-        mem::swap(&mut self.kept, &mut view.kept);
-        mem::swap(&mut self.last, &mut view.last);
+        if self.lacks_memory {
+            return Err(AllocError);
+        }
+        let _ = self.before_ranges(command)?;
+        self.apply_in_plain(view, command, images, scripts, steps)
     }
 
     /// As `apply`, of a command of the style, which is done in each of these views of it. It is checked and refused once, and
@@ -355,16 +281,12 @@ impl<'a> Session<'a> {
         if self.lacks_memory {
             return Err(AllocError);
         }
-        let before = self.before(command);
-        let answer = self.apply(command, images, scripts, steps)?;
-        if is_done(&answer) {
-            let lacks = self.follow_in_all(views, command, &before).is_err();
-            self.lacks_memory = lacks;
-            if lacks {
-                return Err(AllocError);
-            }
-            return Ok(answer);
+        if is_range(command) {
+            return Ok(self.set_range(command));
         }
+        let before = self.before_ranges(command)?;
+        let answer = self.apply_to_all_plain(views, command, images, scripts, steps)?;
+        self.follow_ranges(&answer, command, &before);
         Ok(answer)
     }
 }

@@ -13,6 +13,7 @@ ghost use Rattle.style_edits.specs.Needs.{takes_memory};
 ghost use Rattle.style_edits.specs.Places.{places_of};
 ghost use Rattle.style_edits.specs.Taking.{HasLayers};
 ghost use Rattle.style_rules.specs.Findings.{findings};
+ghost use Rattle.style_rules.specs.Levels.{HasDistinctMembers};
 
 use crate::answer::Refusal;
 use decimal_json::Json;
@@ -43,11 +44,12 @@ pub(crate) fn finding_refusal(
     }
 }
 
-/// That each layer of a document without findings has a type, and is one of an array.
+/// That each layer of a document without findings has a type and is one of an array, and no two members of it have one name.
 pub(crate) fn note_types(document: &Json)
     requires { findings (tree_of document.now) ≡ [] }
     ensures typed { AreTyped (layer_list (tree_of document.now)) }
     ensures there { HasLayers (tree_of document.now) (layer_list (tree_of document.now)) }
+    ensures distinct { HasDistinctMembers (tree_of document.now) }
 {
     documents_have_distinct_members(document);
 }

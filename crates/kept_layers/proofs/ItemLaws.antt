@@ -118,7 +118,8 @@ limit_left : (key : List ℕ) (limit : Option ℤ) (t : Tree) → AreLeft key t 
 limit_left key (Some zoom) t other apart = object_with_other key other apart (number (number_text zoom)) t
 limit_left key None t other apart = refl
 
-range_left : (min max : Option ℤ) (t : Tree) (other : List ℕ) → bytes_eq (codes "minzoom") other ≡ false
+-- a range changes no other member
+pub range_left : (min max : Option ℤ) (t : Tree) (other : List ℕ) → bytes_eq (codes "minzoom") other ≡ false
     → bytes_eq (codes "maxzoom") other ≡ false → member other (with_range min max t) ≡ member other t
 range_left min max t other least most =
     limit_left (codes "maxzoom") max (with_limit (codes "minzoom") min (without_limits t)) other most

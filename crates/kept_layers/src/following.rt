@@ -18,7 +18,7 @@ use form_pool::FormPool;
 use layer_buckets::CellItem;
 use property_tables::{Place, row};
 use std::alloc::{AllocError, Global};
-use style_edits::EditPlaces;
+use style_edits::{EditPlaces, place_moved_to};
 
 /// Follows an edit of a style: what is kept is of its layers before the edit, where those that the edit names were
 /// at these places, and `style` is as it is after the edit. The expression of an edited item is read anew, and so are
@@ -189,19 +189,5 @@ fn move_layer(kept: &mut KeptLayers, layer: Option<usize>, before: Option<usize>
 {
     if let Some(from) = layer {
         kept.move_layer(from, place_moved_to(from, before, count));
-    }
-}
-
-// Where a layer is after it was moved before another, or to the end.
-fn place_moved_to(from: usize, before: Option<usize>, count: usize) -> usize
-    requires from { from < count }
-    requires before { IfSome before (λ i. i < count) }
-    ensures place { result ≡ place_moved_to from before count }
-    ensures within { result < count }
-{
-    match before {
-        Some(before) if from < before => before - 1,
-        Some(before) => before,
-        None => count - 1,
     }
 }

@@ -29,7 +29,7 @@ IsWithin (Moved from to) ts = (from < length ts) × (to < length ts)
 abbrev pub IsUndo : Undo → Tree → Tree → Type 0
 IsUndo undo before after = IsWithin undo (layer_list after) × (undone undo after ≡ before)
 
--- it takes back no part that was put into a layer, and no layer that was added
+-- it takes back neither a change of a layer nor a layer that was added
 abbrev pub adds_nothing : Undo → Bool
 adds_nothing (Changed place layer) = false
 adds_nothing (Added place) = false

@@ -193,8 +193,8 @@ fn move_layer(layers: &mut Items, place: Option<usize>, before: Option<usize>) -
     Undo::Moved(from, to)
 }
 
-// Where a layer comes to be that is moved before another, or to the end.
-fn place_moved_to(from: usize, before: Option<usize>, count: usize) -> usize
+/// The place to which the layer at a place moves, of so many, if it is put before another, or last.
+pub fn place_moved_to(from: usize, before: Option<usize>, count: usize) -> usize
     requires from { from < count }
     requires before { IfSome before (λ i. i < count) }
     ensures place { result ≡ place_moved_to from before count }

@@ -32,6 +32,7 @@ mod undo;
 
 pub use editing::{edit_at, edit_style};
 pub use faults::{EditFault, edit_fault};
+pub use layers::place_moved_to;
 pub use places::{
     EditPlaces, before_named, edit_places, id_added, layer_named, layer_place, text_id,
 };

@@ -1,6 +1,7 @@
 use Rattle.std.proofs.Common.{◌∙◌, sym}
 use Rattle.edit_script.specs.View.{command_seen}
-use Rattle.edit_session.specs.View.{reply_seen, session_state}
+use Rattle.edit_session.specs.View.{reply_seen}
+use Rattle.edit_session.specs.PlainView.{plain_state}
 use Rattle.edit_session.proofs.DoneLaws.{accepted, done_answered, done_kept, other_answered, other_kept, same_images}
 use Rattle.edit_session.proofs.FollowingLaws.{on_err_so}
 use Rattle.edit_session.proofs.session.Session.answer_edit.Goals as goal
@@ -11,7 +12,7 @@ follow-requires-clause-accepted g c =
     let images = goal.HostOp-dyn g c.args.images.now in
     let (scripts, k) = c.requires.kept in (
       scripts,
-      session_state s (images.test c.args.images.now.1),
+      plain_state s (images.test c.args.images.now.1),
       accepted s c.changed.new.self (images.test c.args.images.now.1) (images.test c.changed.new.images) scripts (images.changes c.args.images.now.1)
           (command_seen c.args.command.now) (reply_seen c.in_ok-answer.answer) (c.in_ok-answer.ensures.answer scripts)
           c.changed.ensures.tiles c.changed.ensures.kept (sym c.is_done.ensures ∙ c.if-is_done.true)
@@ -47,7 +48,7 @@ returns-then-is_done-clause-answer g c = λ scripts.
     let (tests, k) = c.requires.kept in
     let there = accepted s c.changed.new.self images₀ images₁ tests can_change e r (c.in_ok-answer.ensures.answer tests)
     c.changed.ensures.tiles c.changed.ensures.kept is_so c.before-before.result c.before-before.ensures.there c.before-before.ensures.places c.before-before.ensures.zoom k in
-    let followed = c.in_ok-follow.ensures.followed tests (session_state s images₀) there in
+    let followed = c.in_ok-follow.ensures.followed tests (plain_state s images₀) there in
     done_answered s c.changed.new.self images₀ images₁ scripts can_change e r (c.in_ok-answer.ensures.answer scripts)
     c.changed.ensures.tiles c.changed.ensures.kept is_so c.follow.new.self c.follow.ensures.others followed.seen
 
@@ -64,7 +65,7 @@ returns-then-is_done-clause-kept g c = λ scripts k.
     let given = c.in_ok-answer.ensures.answer scripts in
     let there = accepted s c.changed.new.self images₀ images₁ scripts can_change e r given
     c.changed.ensures.tiles c.changed.ensures.kept is_so c.before-before.result c.before-before.ensures.there c.before-before.ensures.places c.before-before.ensures.zoom k in
-    let followed = c.in_ok-follow.ensures.followed scripts (session_state s images₀) there in
+    let followed = c.in_ok-follow.ensures.followed scripts (plain_state s images₀) there in
     done_kept s c.changed.new.self images₀ images₁ scripts can_change e r given
     c.changed.ensures.tiles c.changed.ensures.kept is_so c.follow.new.self c.follow.ensures.others followed.seen followed.right
 

@@ -1,121 +1,175 @@
-use Rattle.std.proofs.Common.{◌∙◌, refl, sym}
+use Rattle.std.proofs.Common.{◌∙◌, map, sym}
 use Rattle.decimal_json.specs.View.{tree_of}
 use Rattle.edit_script.specs.View.{command_seen}
-use Rattle.style_edits.specs.Edited.{edited_layers}
-use Rattle.style_edits.specs.Layers.{layer_list}
-use Rattle.edit_session.specs.View.{reply_seen, session_state, tiles_of}
-use Rattle.edit_session.proofs.AllViewsLaws.{accepted, images_same, sound_done, sound_noted, sound_stays, sound_without, views_done, views_stay}
-use Rattle.edit_session.proofs.FollowLaws.{changed_list}
-use Rattle.edit_session.proofs.ViewLaws.{of_fault, of_fine}
+use Rattle.edit_session.specs.View.{reply_seen, session_state, tiles_of, view_seen}
+use Rattle.edit_session.proofs.RangedCalls.{IsAhead, answer_after, each_ahead, each_ranged, places_within, plain_ahead, sound_after, sound_ranged, views_after, views_ahead, views_ranged, views_without}
 use Rattle.edit_session.proofs.session.Session.apply_to_all.Goals as goal
 
-pub before-before-requires : goal.before-before-requires
-before-before-requires g c = c.requires.session.ready c.if-self.false
-
-pub returns-clause-views : goal.returns-clause-views
-returns-clause-views g c =
+pub returns-then-is_range-clause-views : goal.returns-then-is_range-clause-views
+returns-then-is_range-clause-views g c =
+    let images = (goal.HostOp-dyn g c.args.images.now).test c.args.images.now.1 in
+    let scripts = (goal.HostOp-dyn g c.args.scripts.now).test c.args.scripts.now.1 in
     let s = c.args.self.now in
+    each_ranged (tiles_of s) scripts ((goal.HostOp-dyn g c.args.images.now).changes c.args.images.now.1) (session_state s images) (command_seen c.args.command.now)
+    (sym c.is_range.ensures ∙ c.if-is_range.true) (map view_seen c.args.views.now)
+
+pub returns-then-is_range-clause-sound : goal.returns-then-is_range-clause-sound
+returns-then-is_range-clause-sound g c =
+    let images = (goal.HostOp-dyn g c.args.images.now).test c.args.images.now.1 in
+    let scripts = (goal.HostOp-dyn g c.args.scripts.now).test c.args.scripts.now.1 in
+    let s = c.args.self.now in
+    sound_ranged s c.set_range.new.self images scripts c.if-self.false c.set_range.ensures.others c.set_range.ensures.there c.set_range.ensures.slots c.requires.session
+
+pub returns-then-is_range-clause-sound_views : goal.returns-then-is_range-clause-sound_views
+returns-then-is_range-clause-sound_views g c =
+    let images = (goal.HostOp-dyn g c.args.images.now).test c.args.images.now.1 in
+    let scripts = (goal.HostOp-dyn g c.args.scripts.now).test c.args.scripts.now.1 in
+    let s = c.args.self.now in
+    views_ranged s c.set_range.new.self images scripts c.if-self.false c.set_range.ensures.others c.set_range.ensures.there c.set_range.ensures.slots c.args.views.now c.requires.views
+
+pub returns-in_err-before-clause-sound_views : goal.returns-in_err-before-clause-sound_views
+returns-in_err-before-clause-sound_views g c =
+    let images = (goal.HostOp-dyn g c.args.images.now).test c.args.images.now.1 in
+    let scripts = (goal.HostOp-dyn g c.args.scripts.now).test c.args.scripts.now.1 in
+    let s = c.args.self.now in
+    views_without c.before_ranges.new.self images scripts c.args.views.now c.in_err-before.ensures.lacks
+
+pub apply_to_all_plain-requires-clause-session : goal.apply_to_all_plain-requires-clause-session
+apply_to_all_plain-requires-clause-session g c =
     let images = goal.HostOp-dyn g c.args.images.now in
     let images₀ = images.test c.args.images.now.1 in
-    let images₁ = images.test c.apply.new.images in
     let scripts = (goal.HostOp-dyn g c.args.scripts.now).test c.args.scripts.now.1 in
-    let can_change = images.changes c.args.images.now.1 in
-    let e = command_seen c.args.command.now in
-    let r = reply_seen c.in_ok-answer.answer in
-    let p = session_state s images₀ in
-    views_stay (tiles_of s) scripts can_change p s c.apply.new.self images₀ images₁ r e c.requires.command refl refl c.apply.ensures.tiles c.in_ok-answer.ensures.answer (sym c.is_done.ensures ∙ c.if-is_done.false) c.args.views.now
-
-pub returns-clause-sound_views : goal.returns-clause-sound_views
-returns-clause-sound_views g c =
     let s = c.args.self.now in
+    let t = c.before_ranges.new.self in
+    let e = command_seen c.args.command.now in
+    let b = c.in_ok-before.before in
+    let h = c.in_ok-before.ensures in
+    let ahead : IsAhead s t e b = record {
+      same = h.same;
+      none = h.none;
+      slots = h.slots;
+      at = h.before;
+      distinct = h.distinct;
+      zooms = h.zooms;
+    } in
+    plain_ahead s t e b ahead images₀ scripts c.requires.session.kept c.if-self.false
+
+pub apply_to_all_plain-requires-clause-views : goal.apply_to_all_plain-requires-clause-views
+apply_to_all_plain-requires-clause-views g c =
     let images = goal.HostOp-dyn g c.args.images.now in
     let images₀ = images.test c.args.images.now.1 in
-    let images₁ = images.test c.apply.new.images in
     let scripts = (goal.HostOp-dyn g c.args.scripts.now).test c.args.scripts.now.1 in
-    let can_change = images.changes c.args.images.now.1 in
-    let e = command_seen c.args.command.now in
-    let r = reply_seen c.in_ok-answer.answer in
-    let p = session_state s images₀ in
-    sound_stays (tiles_of s) scripts can_change p s c.apply.new.self images₀ images₁ r e c.requires.command refl refl c.apply.ensures.tiles c.in_ok-answer.ensures.answer (sym c.is_done.ensures ∙ c.if-is_done.false) c.if-self.false c.args.views.now c.requires.views
-
-pub follow_in_all-requires-clause-ready : goal.follow_in_all-requires-clause-ready
-follow_in_all-requires-clause-ready g c = c.apply.ensures.sound.ready c.in_ok-answer.ensures.lacks
-
-pub follow_in_all-requires-clause-accepted : goal.follow_in_all-requires-clause-accepted
-follow_in_all-requires-clause-accepted g c =
     let s = c.args.self.now in
-    let images = goal.HostOp-dyn g c.args.images.now in
-    let images₀ = images.test c.args.images.now.1 in
-    let images₁ = images.test c.apply.new.images in
-    let scripts = (goal.HostOp-dyn g c.args.scripts.now).test c.args.scripts.now.1 in
-    let can_change = images.changes c.args.images.now.1 in
+    let t = c.before_ranges.new.self in
     let e = command_seen c.args.command.now in
-    let r = reply_seen c.in_ok-answer.answer in
-    let p = session_state s images₀ in
-    let d = tree_of s.document in (
-      scripts,
-      p,
-      accepted (tiles_of s) scripts can_change p s c.apply.new.self images₀ images₁ r e c.requires.command refl refl c.apply.ensures.tiles c.in_ok-answer.ensures.answer c.before-before.result (sym c.is_done.ensures ∙ c.if-is_done.true) c.if-self.false
-          (changed_list d (layer_list d) c.before-before.ensures.there (edited_layers e)) c.before-before.ensures.places c.args.views.now c.requires.views,
-    )
-
-pub returns-then-is_done-clause-views : goal.returns-then-is_done-clause-views
-returns-then-is_done-clause-views g c =
-    let s = c.args.self.now in
-    let images = goal.HostOp-dyn g c.args.images.now in
-    let images₀ = images.test c.args.images.now.1 in
-    let images₁ = images.test c.apply.new.images in
-    let scripts = (goal.HostOp-dyn g c.args.scripts.now).test c.args.scripts.now.1 in
-    let can_change = images.changes c.args.images.now.1 in
-    let e = command_seen c.args.command.now in
-    let r = reply_seen c.in_ok-answer.answer in
-    let p = session_state s images₀ in
-    let d = tree_of s.document in
-    let there = accepted (tiles_of s) scripts can_change p s c.apply.new.self images₀ images₁ r e c.requires.command refl refl c.apply.ensures.tiles c.in_ok-answer.ensures.answer c.before-before.result (sym c.is_done.ensures ∙ c.if-is_done.true) c.if-self.false
-    (changed_list d (layer_list d) c.before-before.ensures.there (edited_layers e)) c.before-before.ensures.places c.args.views.now c.requires.views in
-    views_done (tiles_of s) scripts can_change p s c.apply.new.self images₀ images₁ r e c.requires.command refl refl c.apply.ensures.tiles c.in_ok-answer.ensures.answer (sym c.is_done.ensures ∙ c.if-is_done.true) c.args.views.now c.follow_in_all.new.views
-    (of_fine c.follow_in_all.result (sym c.is_err-lacks.ensures.value ∙ c.if-lacks.false) (c.follow_in_all.ensures.followed scripts p there))
-
-pub returns-then-is_done-clause-sound_views : goal.returns-then-is_done-clause-sound_views
-returns-then-is_done-clause-sound_views g c =
-    let s = c.args.self.now in
-    let images = goal.HostOp-dyn g c.args.images.now in
-    let images₀ = images.test c.args.images.now.1 in
-    let images₁ = images.test c.apply.new.images in
-    let scripts = (goal.HostOp-dyn g c.args.scripts.now).test c.args.scripts.now.1 in
-    let can_change = images.changes c.args.images.now.1 in
-    let e = command_seen c.args.command.now in
-    let r = reply_seen c.in_ok-answer.answer in
-    let p = session_state s images₀ in
-    let d = tree_of s.document in
-    let there = accepted (tiles_of s) scripts can_change p s c.apply.new.self images₀ images₁ r e c.requires.command refl refl c.apply.ensures.tiles c.in_ok-answer.ensures.answer c.before-before.result (sym c.is_done.ensures ∙ c.if-is_done.true) c.if-self.false
-    (changed_list d (layer_list d) c.before-before.ensures.there (edited_layers e)) c.before-before.ensures.places c.args.views.now c.requires.views in
-    sound_noted c.apply.new.self _ images₁ scripts c.follow_in_all.new.views refl c.in_ok-answer.ensures.lacks
-    (sound_done (tiles_of s) scripts can_change p s c.apply.new.self images₀ images₁ r e c.requires.command refl refl c.apply.ensures.tiles c.in_ok-answer.ensures.answer (sym c.is_done.ensures ∙ c.if-is_done.true) c.args.views.now c.follow_in_all.new.views
-    (of_fine c.follow_in_all.result (sym c.is_err-lacks.ensures.value ∙ c.if-lacks.false) (c.follow_in_all.ensures.followed scripts p there)))
-
-pub returns-then-lacks-clause-lent : goal.returns-then-lacks-clause-lent
-returns-then-lacks-clause-lent g c =
-    let s = c.args.self.now in
-    let images = goal.HostOp-dyn g c.args.images.now in
-    let images₀ = images.test c.args.images.now.1 in
-    let images₁ = images.test c.apply.new.images in
-    let scripts = (goal.HostOp-dyn g c.args.scripts.now).test c.args.scripts.now.1 in
-    let can_change = images.changes c.args.images.now.1 in
-    let e = command_seen c.args.command.now in
-    let r = reply_seen c.in_ok-answer.answer in
-    let p = session_state s images₀ in
-    images_same (tiles_of s) scripts can_change p s c.apply.new.self images₀ images₁ r e c.requires.command refl refl c.apply.ensures.tiles c.in_ok-answer.ensures.answer (sym c.is_done.ensures ∙ c.if-is_done.true) (of_fault c.follow_in_all.result (sym c.is_err-lacks.ensures.value ∙ c.if-lacks.true) c.follow_in_all.ensures.images)
+    let b = c.in_ok-before.before in
+    let h = c.in_ok-before.ensures in
+    let ahead : IsAhead s t e b = record {
+      same = h.same;
+      none = h.none;
+      slots = h.slots;
+      at = h.before;
+      distinct = h.distinct;
+      zooms = h.zooms;
+    } in
+    views_ahead s t e b ahead images₀ scripts c.args.views.now c.requires.views c.if-self.false
 
 pub returns-in_err-answer-clause-sound_views : goal.returns-in_err-answer-clause-sound_views
 returns-in_err-answer-clause-sound_views g c =
     let images = goal.HostOp-dyn g c.args.images.now in
     let scripts = (goal.HostOp-dyn g c.args.scripts.now).test c.args.scripts.now.1 in
-    sound_without c.apply.new.self (images.test c.apply.new.images) scripts c.args.views.now c.in_err-answer.ensures.lacks
+    views_without c.apply_to_all_plain.new.self (images.test c.apply_to_all_plain.new.images) scripts c.apply_to_all_plain.new.views c.in_err-answer.ensures.lacks
 
-pub returns-then-lacks-clause-sound_views : goal.returns-then-lacks-clause-sound_views
-returns-then-lacks-clause-sound_views g c =
+pub follow_ranges-requires-clause-layer : goal.follow_ranges-requires-clause-layer
+follow_ranges-requires-clause-layer g c =
+    (places_within (tree_of c.before_ranges.new.self.document) (command_seen c.args.command.now) c.in_ok-before.before c.in_ok-before.ensures.before).0
+
+pub follow_ranges-requires-clause-before : goal.follow_ranges-requires-clause-before
+follow_ranges-requires-clause-before g c =
+    (places_within (tree_of c.before_ranges.new.self.document) (command_seen c.args.command.now) c.in_ok-before.before c.in_ok-before.ensures.before).1
+
+pub returns-clause-answer : goal.returns-clause-answer
+returns-clause-answer g c =
     let images = goal.HostOp-dyn g c.args.images.now in
+    let images₀ = images.test c.args.images.now.1 in
     let scripts = (goal.HostOp-dyn g c.args.scripts.now).test c.args.scripts.now.1 in
-    sound_without (record c.apply.new.self { lacks_memory = c.is_err-lacks.result }) (images.test c.apply.new.images) scripts
-    c.follow_in_all.new.views c.if-lacks.true
+    let s = c.args.self.now in
+    let t = c.before_ranges.new.self in
+    let e = command_seen c.args.command.now in
+    let b = c.in_ok-before.before in
+    let h = c.in_ok-before.ensures in
+    let ahead : IsAhead s t e b = record {
+      same = h.same;
+      none = h.none;
+      slots = h.slots;
+      at = h.before;
+      distinct = h.distinct;
+      zooms = h.zooms;
+    } in
+    answer_after s t e b ahead images₀ scripts (images.changes c.args.images.now.1) (images.test c.apply_to_all_plain.new.images) c.apply_to_all_plain.new.self c.follow_ranges.new.self
+    (reply_seen c.in_ok-answer.answer) c.in_ok-answer.ensures.answer c.apply_to_all_plain.ensures.ranges c.follow_ranges.ensures.there
+    c.follow_ranges.ensures.others c.follow_ranges.ensures.ranges
+
+pub returns-clause-views : goal.returns-clause-views
+returns-clause-views g c =
+    let images = goal.HostOp-dyn g c.args.images.now in
+    let images₀ = images.test c.args.images.now.1 in
+    let scripts = (goal.HostOp-dyn g c.args.scripts.now).test c.args.scripts.now.1 in
+    let s = c.args.self.now in
+    let t = c.before_ranges.new.self in
+    let e = command_seen c.args.command.now in
+    let b = c.in_ok-before.before in
+    let h = c.in_ok-before.ensures in
+    let ahead : IsAhead s t e b = record {
+      same = h.same;
+      none = h.none;
+      slots = h.slots;
+      at = h.before;
+      distinct = h.distinct;
+      zooms = h.zooms;
+    } in
+    c.in_ok-answer.ensures.views ∙ each_ahead s t e b ahead images₀ scripts (images.changes c.args.images.now.1) (map view_seen c.args.views.now)
+
+pub returns-clause-sound : goal.returns-clause-sound
+returns-clause-sound g c =
+    let images = goal.HostOp-dyn g c.args.images.now in
+    let images₀ = images.test c.args.images.now.1 in
+    let scripts = (goal.HostOp-dyn g c.args.scripts.now).test c.args.scripts.now.1 in
+    let s = c.args.self.now in
+    let t = c.before_ranges.new.self in
+    let e = command_seen c.args.command.now in
+    let b = c.in_ok-before.before in
+    let h = c.in_ok-before.ensures in
+    let ahead : IsAhead s t e b = record {
+      same = h.same;
+      none = h.none;
+      slots = h.slots;
+      at = h.before;
+      distinct = h.distinct;
+      zooms = h.zooms;
+    } in
+    sound_after s t e b ahead images₀ scripts (images.changes c.args.images.now.1) (images.test c.apply_to_all_plain.new.images) c.apply_to_all_plain.new.self c.follow_ranges.new.self
+    (reply_seen c.in_ok-answer.answer) c.in_ok-answer.ensures.answer c.apply_to_all_plain.ensures.ranges c.follow_ranges.ensures.there
+    c.follow_ranges.ensures.others c.follow_ranges.ensures.ranges c.apply_to_all_plain.ensures.sound
+
+pub returns-clause-sound_views : goal.returns-clause-sound_views
+returns-clause-sound_views g c =
+    let images = goal.HostOp-dyn g c.args.images.now in
+    let images₀ = images.test c.args.images.now.1 in
+    let scripts = (goal.HostOp-dyn g c.args.scripts.now).test c.args.scripts.now.1 in
+    let s = c.args.self.now in
+    let t = c.before_ranges.new.self in
+    let e = command_seen c.args.command.now in
+    let b = c.in_ok-before.before in
+    let h = c.in_ok-before.ensures in
+    let ahead : IsAhead s t e b = record {
+      same = h.same;
+      none = h.none;
+      slots = h.slots;
+      at = h.before;
+      distinct = h.distinct;
+      zooms = h.zooms;
+    } in
+    views_after s t e b ahead images₀ scripts (images.changes c.args.images.now.1) (images.test c.apply_to_all_plain.new.images) c.apply_to_all_plain.new.self c.follow_ranges.new.self
+    (reply_seen c.in_ok-answer.answer) c.in_ok-answer.ensures.answer c.apply_to_all_plain.ensures.ranges c.follow_ranges.ensures.there
+    c.follow_ranges.ensures.others c.follow_ranges.ensures.ranges c.apply_to_all_plain.new.views c.apply_to_all_plain.ensures.sound_views

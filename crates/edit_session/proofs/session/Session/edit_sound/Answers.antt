@@ -11,7 +11,8 @@ use Rattle.edit_session.specs.Applied.{done, refused}
 use Rattle.edit_session.specs.LayerMarks.{AreMarks}
 use Rattle.edit_session.specs.PreparedLayers.{ArePrepared, Follows}
 use Rattle.kept_layers.specs.View.{AreTyped}
-use Rattle.edit_session.specs.View.{session_state, tiles_of}
+use Rattle.edit_session.specs.View.{tiles_of}
+use Rattle.edit_session.specs.PlainView.{plain_state}
 use Rattle.edit_session.specs.declared.answer.Refusal.TheVariants.{CellLimit}
 use Rattle.edit_session.proofs.AppliedLaws.{accepted_is_sound, layers_accepted, layers_refused}
 use Rattle.edit_session.proofs.FollowLaws.{before_edit, few_cells, is_prepared, is_refused, is_whole, not_refused}
@@ -60,8 +61,8 @@ returns-then-is_done-clause-answer c = λ has_image scripts can_change.
     let none = ap findings c.in_ok-undo.ensures.edited ∙ c.requires.sound in
     let follows = subst (λ (tiles : List SourceTile). Follows tiles s.globals us c.in_ok-is_done.is_done s.layers c.follow.new.self)
     (ap (map tile_seen) c.as_slice.ensures.value) c.in_ok-is_done.ensures.follows in
-    (λ k. (record (session_state s has_image) { document = after; limit = follows.same_limit k }, done))
-    ∙ layers_accepted (tiles_of s) scripts can_change (session_state s has_image) (command_seen c.args.command.now)
+    (λ k. (record (plain_state s has_image) { document = after; limit = follows.same_limit k }, done))
+    ∙ layers_accepted (tiles_of s) scripts can_change (plain_state s has_image) (command_seen c.args.command.now)
     c.requires.layers c.requires.possible after c.in_ok-undo.ensures.edited
     (not_refused (tiles_of s) s.globals s.layers.limit after none c.note_types-2.ensures.typed us is (sym c.if-is_done.true ∙ follows.limit))
 
@@ -92,8 +93,8 @@ returns-clause-answer c = λ has_image scripts can_change.
     let none = ap findings c.in_ok-undo.ensures.edited ∙ c.requires.sound in
     let follows = subst (λ (tiles : List SourceTile). Follows tiles s.globals us c.in_ok-is_done.is_done s.layers c.follow.new.self)
     (ap (map tile_seen) c.as_slice.ensures.value) c.in_ok-is_done.ensures.follows in
-    (λ k. (record (session_state s has_image) { document = tree_of c.undo_edit.new.style; limit = follows.same_limit k }, refused CellLimit))
-    ∙ layers_refused (tiles_of s) scripts can_change (session_state s has_image) (command_seen c.args.command.now)
+    (λ k. (record (plain_state s has_image) { document = tree_of c.undo_edit.new.style; limit = follows.same_limit k }, refused CellLimit))
+    ∙ layers_refused (tiles_of s) scripts can_change (plain_state s has_image) (command_seen c.args.command.now)
     c.requires.layers c.requires.possible after c.in_ok-undo.ensures.edited CellLimit (tree_of c.undo_edit.new.style)
     (is_refused (tiles_of s) s.globals s.layers.limit after none c.note_types-2.ensures.typed us is (sym c.if-is_done.false ∙ follows.limit))
     (c.in_ok-undo_edit.ensures.ok ∙ c.in_ok-undo.ensures.undo.1)

@@ -1,72 +1,42 @@
-use Rattle.std.proofs.Common.{◌∙◌, ◌++◌, ap, map, refl}
-use Rattle.listing_text.specs.Listing.{listing}
-use Rattle.style_layout.specs.CodeView.{scene_seen, tile_seen}
-use Rattle.style_layout.specs.StyleLayout.{layers_layout}
-use Rattle.edit_session.specs.SessionState.{scene_of}
-use Rattle.edit_session.specs.View.{session_state, tiles_of}
-use Rattle.edit_session.proofs.ListedLaws.{kept_in, least_listed, most_listed}
+use Rattle.std.proofs.Common.{◌≡◌, ◌+◌, ◌≤◌, subst}
+use Rattle.std.specs.Prelude.{List, IfOk, OnOk}
+use Rattle.style_layout.specs.Shown.{SourceTile}
+use Rattle.edit_session.specs.Applied.{least_steps, listing_of, most_steps}
+use Rattle.edit_script.specs.Edit as edits
+use Rattle.edit_session.specs.SessionState.{SessionState}
+use Rattle.edit_session.proofs.RangedSettling.{plain_settled, state_settled}
 use Rattle.edit_session.proofs.session.Session.into_listing.Goals as goal
 
-pub list_last-requires-clause-holds : goal.list_last-requires-clause-holds
-unfolding scene_seen
-list_last-requires-clause-holds g c =
-    let s = c.args.self in
+pub into_listing_plain-requires : goal.into_listing_plain-requires
+into_listing_plain-requires g c =
     let images = (goal.HostOp-dyn g c.args.images.now).test c.args.images.now.1 in
     let scripts = (goal.HostOp-dyn g c.args.scripts.now).test c.args.scripts.now.1 in
-    let p = session_state s images in
-    let over = c.shown_style-style.ensures.tiles ∙ ap (map tile_seen) c.as_slice.ensures.value in
-    (kept_in (tiles_of s) scripts p c.shown_style-style.result c.shown_style-style.ensures.layers c.shown_style-style.ensures.globals over s.kept (c.requires.kept c.if-self.false)).0
-
-pub list_last-requires-clause-right : goal.list_last-requires-clause-right
-unfolding scene_seen
-list_last-requires-clause-right g c =
-    let s = c.args.self in
-    let images = (goal.HostOp-dyn g c.args.images.now).test c.args.images.now.1 in
-    let scripts = (goal.HostOp-dyn g c.args.scripts.now).test c.args.scripts.now.1 in
-    let p = session_state s images in
-    let over = c.shown_style-style.ensures.tiles ∙ ap (map tile_seen) c.as_slice.ensures.value in
-    (kept_in (tiles_of s) scripts p c.shown_style-style.result c.shown_style-style.ensures.layers c.shown_style-style.ensures.globals over s.kept (c.requires.kept c.if-self.false)).1
+    let e = c.in_ok-settle.ensures in
+    plain_settled c.args.self c.settle.new.self images scripts e.same e.none e.there (c.requires.kept c.if-self.false)
 
 pub returns-clause-listing : goal.returns-clause-listing
-unfolding scene_seen
 returns-clause-listing g c =
-    let s = c.args.self in
     let images = (goal.HostOp-dyn g c.args.images.now).test c.args.images.now.1 in
     let scripts = (goal.HostOp-dyn g c.args.scripts.now).test c.args.scripts.now.1 in
-    let p = session_state s images in
-    let over = c.shown_style-style.ensures.tiles ∙ ap (map tile_seen) c.as_slice.ensures.value in
-    c.in_ok-list_last.ensures.text
-    ∙ (λ k. c.new-out.ensures.items k ++ listing (layers_layout (scene_of scripts p) (over k) (c.shown_style-style.ensures.style k)))
+    let e = c.in_ok-settle.ensures in
+    let s = c.args.self in
+    subst (λ (x : SessionState × List SourceTile). IfOk c.into_listing_plain.result (λ out. out.items ≡ listing_of x.1 scripts x.0))
+    (λ k. (state_settled s c.settle.new.self images e.same e.none e.there k, e.same.tiles k)) c.into_listing_plain.ensures.listing
 
 pub returns-clause-least : goal.returns-clause-least
-unfolding scene_seen
 returns-clause-least g c =
-    let s = c.args.self in
     let images = (goal.HostOp-dyn g c.args.images.now).test c.args.images.now.1 in
     let scripts = (goal.HostOp-dyn g c.args.scripts.now).test c.args.scripts.now.1 in
-    let p = session_state s images in
-    let over = c.shown_style-style.ensures.tiles ∙ ap (map tile_seen) c.as_slice.ensures.value in
-    least_listed (tiles_of s) scripts p c.shown_style-style.result c.shown_style-style.ensures.layers c.shown_style-style.ensures.globals over s.kept s.kept refl
-    _ _ _ c.in_ok-list_last.ensures.counts.ok
+    let e = c.in_ok-settle.ensures in
+    let s = c.args.self in
+    subst (λ (x : SessionState × List SourceTile). OnOk c.into_listing_plain.result (c.args.steps.now + least_steps x.1 scripts x.0 edits.list ≤ c.into_listing_plain.new.steps))
+    (λ k. (state_settled s c.settle.new.self images e.same e.none e.there k, e.same.tiles k)) c.into_listing_plain.ensures.least
 
 pub returns-clause-most : goal.returns-clause-most
-unfolding scene_seen
 returns-clause-most g c =
-    let s = c.args.self in
     let images = (goal.HostOp-dyn g c.args.images.now).test c.args.images.now.1 in
     let scripts = (goal.HostOp-dyn g c.args.scripts.now).test c.args.scripts.now.1 in
-    let p = session_state s images in
-    let over = c.shown_style-style.ensures.tiles ∙ ap (map tile_seen) c.as_slice.ensures.value in
-    most_listed (tiles_of s) scripts p c.shown_style-style.result c.shown_style-style.ensures.layers c.shown_style-style.ensures.globals over s.kept s.kept refl
-    _ _ c.list_last.ensures.counts.most
-
-pub returns-in_err-list_last-clause-most : goal.returns-in_err-list_last-clause-most
-unfolding scene_seen
-returns-in_err-list_last-clause-most g c =
+    let e = c.in_ok-settle.ensures in
     let s = c.args.self in
-    let images = (goal.HostOp-dyn g c.args.images.now).test c.args.images.now.1 in
-    let scripts = (goal.HostOp-dyn g c.args.scripts.now).test c.args.scripts.now.1 in
-    let p = session_state s images in
-    let over = c.shown_style-style.ensures.tiles ∙ ap (map tile_seen) c.as_slice.ensures.value in
-    most_listed (tiles_of s) scripts p c.shown_style-style.result c.shown_style-style.ensures.layers c.shown_style-style.ensures.globals over s.kept s.kept refl
-    _ _ c.list_last.ensures.counts.most
+    subst (λ (x : SessionState × List SourceTile). c.into_listing_plain.new.steps ≤ c.args.steps.now + most_steps x.1 scripts x.0 edits.list)
+    (λ k. (state_settled s c.settle.new.self images e.same e.none e.there k, e.same.tiles k)) c.into_listing_plain.ensures.most

@@ -1,4 +1,6 @@
-use Rattle.std.proofs.Common.{◌∙◌, ap, map}
+use Rattle.std.proofs.Common.{◌∙◌, ap, length, map, sym}
+use Rattle.std.proofs.lemmas.List.{length-map, length-replicate}
+use Rattle.style_edits.proofs.DocumentLaws.{layers_listed}
 use Rattle.decimal_json.specs.View.{tree_of}
 use Rattle.feature_states.specs.Members.{members_at}
 use Rattle.kept_layers.specs.Changes.{nothing_kept}
@@ -39,3 +41,9 @@ returns-clause-sound c = λ has_image scripts.
           (c.shown_style-shown.ensures.tiles ∙ ap (map tile_seen) c.as_slice.ensures.value) c.in_ok-kept.kept
           c.in_ok-kept.ensures.numbered c.in_ok-kept.ensures.holds (c.in_ok-kept.ensures.right (scene_of scripts p));
     }
+
+pub returns-clause-slots : goal.returns-clause-slots
+returns-clause-slots c =
+    let js = c.layers_of.result.now in
+    ap length c.in_ok-ranges.ensures ∙ (length-replicate _ _
+    ∙ (sym (length-map js tree_of) ∙ ap length (layers_listed (tree_of c.args.style) js c.layers_of.ensures)))

@@ -1,7 +1,7 @@
-use Rattle.std.proofs.Common.{◌≡◌, ap, sym, subst}
-use Rattle.std.specs.Prelude.{IfOk}
+use Rattle.std.proofs.Common.{◌≡◌, ◌+◌, ◌≤◌, Ok, ap, sym, subst}
+use Rattle.std.specs.Prelude.{IfOk, OnOk}
 use Rattle.view_desk.specs.DeskLines.{DeskEdit}
-use Rattle.view_desk.specs.DeskState.{desk_applied}
+use Rattle.view_desk.specs.DeskState.{desk_applied, desk_least, desk_most}
 use Rattle.view_desk.specs.View.{answer_seen, desk_command_seen, desk_state, desk_tiles, IsWellSorted}
 use Rattle.view_desk.proofs.desk.Desk.obey.Goals as goal
 
@@ -39,3 +39,21 @@ apply_in-requires-clause-command g c = subst IsWellSorted c.in-InView.is c.requi
 
 pub apply-requires-clause-command : goal.apply-requires-clause-command
 apply-requires-clause-command g c = subst IsWellSorted c.in-OfStyle.is c.requires.command
+
+pub returns-in-InView-clause-least : goal.returns-in-InView-clause-least
+returns-in-InView-clause-least g c =
+    let images = goal.HostOp-dyn g c.args.images.now in
+    let has_image = images.test c.args.images.now.1 in
+    let scripts = (goal.HostOp-dyn g c.args.scripts.now).test c.args.scripts.now.1 in
+    let s = c.args.self.now in
+    subst (λ (e : DeskEdit). OnOk c.apply_in.result (c.args.steps.now + desk_least (desk_tiles s) scripts (desk_state s has_image) (Ok e) ≤ c.apply_in.new.steps))
+    (sym (ap desk_command_seen c.in-InView.is)) c.apply_in.ensures.least
+
+pub returns-in-InView-clause-most : goal.returns-in-InView-clause-most
+returns-in-InView-clause-most g c =
+    let images = goal.HostOp-dyn g c.args.images.now in
+    let has_image = images.test c.args.images.now.1 in
+    let scripts = (goal.HostOp-dyn g c.args.scripts.now).test c.args.scripts.now.1 in
+    let s = c.args.self.now in
+    subst (λ (e : DeskEdit). c.apply_in.new.steps ≤ c.args.steps.now + desk_most (desk_tiles s) scripts (desk_state s has_image) (Ok e))
+    (sym (ap desk_command_seen c.in-InView.is)) c.apply_in.ensures.most

@@ -1,0 +1,2 @@
+-- To be believed.
+pub mod Pending
