@@ -11,10 +11,10 @@ use Rattle.expr_nodes.specs.declared.boxed_node.BoxedNode.{BoxedNode}
 use Rattle.expr_nodes.specs.declared.boxed_node.BoxedNode.TheVariants.{Inner}
 use Rattle.expr_nodes.proofs.NodeLaws.{listed_again}
 
-pub boxed_children : (op : Operator) (want : Want) (ns : Vec BoxedNode Global) → children (boxed_node (Inner op want ns)) ≡ map boxed_node ns.items
+pub boxed_children : (op : Operator) (want : Want) (ns : Vec BoxedNode Global) → children (boxed_node (Inner want op ns)) ≡ map boxed_node ns.items
 boxed_children op want ns = ap children (boxed_inner op want ns) ∙ listed_again (map boxed_node ns.items)
 
-pub boxed_form : (op : Operator) (want : Want) (ns : Vec BoxedNode Global) → boxed_node (Inner op want ns) ≡ inner op want (children_of (children (boxed_node (Inner op want ns))))
+pub boxed_form : (op : Operator) (want : Want) (ns : Vec BoxedNode Global) → boxed_node (Inner want op ns) ≡ inner op want (children_of (children (boxed_node (Inner want op ns))))
 boxed_form op want ns = boxed_inner op want ns ∙ ap (λ xs. inner op want (children_of xs)) (sym (boxed_children op want ns))
 
 pub boxed_at : (ns : List BoxedNode) (k : ℕ) (n : BoxedNode) → n ≡ get_or ns k n → k < length ns → slice_get (map boxed_node ns) k ≡ Some (boxed_node n)

@@ -16,7 +16,7 @@ boxed_step (BoxedNode-F.Constant literal) = constant (Ok literal)
 boxed_step (BoxedNode-F.Faulty fault) = constant (Err fault)
 boxed_step (BoxedNode-F.Asked slot want) = asked slot want
 boxed_step (BoxedNode-F.Property key want) = property key want
-boxed_step (BoxedNode-F.Inner op want nodes) = inner op want (children_of nodes.items)
+boxed_step (BoxedNode-F.Inner want op nodes) = inner op want (children_of nodes.items)
 
 abbrev pub boxed_node : BoxedNode → Node
 boxed_node = fold-BoxedNode Node boxed_step
@@ -25,6 +25,6 @@ abbrev pub boxed_nodes : List BoxedNode → List Node
 boxed_nodes = map boxed_node
 
 pub boxed_inner : (op : Operator) (want : Want) (nodes : Vec BoxedNode Global) →
-    boxed_node (Inner op want nodes) ≡ inner op want (children_of (boxed_nodes nodes.items))
+    boxed_node (Inner want op nodes) ≡ inner op want (children_of (boxed_nodes nodes.items))
 boxed_inner op want nodes =
-    ap boxed_node (sym (rolls-Inner op want nodes)) ∙ fold-roll-BoxedNode Node boxed_step (BoxedNode-F.Inner op want nodes)
+    ap boxed_node (sym (rolls-Inner want op nodes)) ∙ fold-roll-BoxedNode Node boxed_step (BoxedNode-F.Inner want op nodes)

@@ -25,8 +25,8 @@ pub enum BoxedNode {
     Asked(usize, Want),
     /// The feature's property of a key, and what it is wanted as.
     Property(Text, Want),
-    /// An operator, what it is wanted as, and its arguments.
-    Inner(Operator, Want, Vec<BoxedNode>),
+    /// What an operator is wanted as, the operator, and its arguments: in this order a node takes 64 bytes.
+    Inner(Want, Operator, Vec<BoxedNode>),
 }
 
 impl NodeHandle for &BoxedNode {
@@ -59,7 +59,7 @@ fn form_of(node: &BoxedNode) -> NodeForm<'_>
         BoxedNode::Faulty(fault) => NodeForm::Faulty(*fault),
         BoxedNode::Asked(slot, want) => NodeForm::Asked(*slot, *want),
         BoxedNode::Property(key, want) => NodeForm::Property(key, *want),
-        BoxedNode::Inner(op, want, _) => NodeForm::Inner(op, *want),
+        BoxedNode::Inner(want, op, _) => NodeForm::Inner(op, *want),
     }
 }
 

@@ -131,7 +131,7 @@ impl Resolver {
             (boxed_nodes self.old.bindings.items)) }
     {
         let count = arguments.len();
-        let mut nodes = Vec::new(self.alloc);
+        let mut nodes = Vec::with_capacity(self.alloc, count)?;
         let mut left = marks;
         for argument in arguments {
             let wanted = argument_want(&op, count, nodes.len(), want);
@@ -140,7 +140,7 @@ impl Resolver {
             nodes.push(searched(self.alloc, &op, nodes.len(), node)?)?;
             left = later;
         }
-        Ok(BoxedNode::Inner(op, want, nodes))
+        Ok(BoxedNode::Inner(want, op, nodes))
     }
 
     #[cycle(resolving)]

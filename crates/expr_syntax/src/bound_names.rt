@@ -16,6 +16,12 @@ const FIRST: usize = 8;
 /// the last place of each.
 #[derive(Drop)]
 pub struct Names {
+    table: Box<NameTable>,
+}
+
+// On the heap, as the parts of other operators.
+#[derive(Drop)]
+struct NameTable {
     names: Vec<Text>,
     places: TextNumbers,
 }
@@ -26,9 +32,9 @@ impl Model for Names {
 
     ghost Value = { List (List ℕ) };
 
-    ghost view = { λ a. a.names.items };
+    ghost view = { λ a. a.table.value.names.items };
 
-    ghost invariant = { λ a. IsIndexOf a.places a.names.items };
+    ghost invariant = { λ a. IsIndexOf a.table.value.places a.table.value.names.items };
 }
 
 impl Names {
@@ -36,7 +42,8 @@ impl Names {
         ensures { IfOk result (λ made. made ≡ names.items) }
     {
         let places = index_of(alloc, names.as_slice())?;
-        Ok(Names { names, places })
+        let table = Box::new(alloc, NameTable { names, places })?;
+        Ok(Names { table })
     }
 
     /// How many names there are.
@@ -44,13 +51,13 @@ impl Names {
         ensures count { result ≡ length self.now }
         ensures short { result < 2 ^ 60 }
     {
-        self.names.as_slice().len()
+        self.table.names.as_slice().len()
     }
 
     pub fn as_slice(&self) -> &[Text]
         ensures { result.now ≡ self.now }
     {
-        self.names.as_slice()
+        self.table.names.as_slice()
     }
 
     /// The place of the last of the names that is this one, in logarithmic time. It takes no memory.
@@ -58,10 +65,10 @@ impl Names {
         ensures value { result ≡ last_place 0 self.now name.now }
         ensures within { IfSome result (λ place. place < length self.now) }
     {
-        if self.names.len() <= FIRST {
-            walked_place(self.names.as_slice(), name)
+        if self.table.names.len() <= FIRST {
+            walked_place(self.table.names.as_slice(), name)
         } else {
-            number_of_text(&self.places, name)
+            number_of_text(&self.table.places, name)
         }
     }
 }

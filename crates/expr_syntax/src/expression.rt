@@ -1,4 +1,4 @@
-ghost use Rattle.std.specs.Prelude.{◌≡◌, ◌<◌, ◌^◌, [], ◌∷◌, ◌++◌, OnOk, OnErr};
+ghost use Rattle.std.specs.Prelude.{◌≡◌, ◌<◌, ◌^◌, [], ◌∷◌, ◌++◌, IfOk, OnOk, OnErr};
 ghost use Rattle.expr_syntax.specs.Names.{row};
 ghost use Rattle.expr_syntax.specs.Operators.{operator_name, plain_operator, wanted_by};
 ghost use Rattle.expr_syntax.specs.ReadView.{row_view};
@@ -264,6 +264,15 @@ impl Arguments {
         Arguments {
             arguments: Vec::new(alloc),
         }
+    }
+
+    /// None yet, with room for so many.
+    pub fn with_room(alloc: Global, room: usize) -> Result<Arguments, AllocError>
+        ensures { IfOk result (λ arguments. arguments ≡ []) }
+    {
+        Ok(Arguments {
+            arguments: Vec::with_capacity(alloc, room)?,
+        })
     }
 
     /// Adds an argument at the end.

@@ -33,6 +33,12 @@ pub struct Labelled {
 /// the output of a value in logarithmic time.
 #[derive(Drop)]
 pub struct Labels {
+    table: Box<LabelTable>,
+}
+
+// The parts of an operator are on the heap, so that an expression takes little room whatever its operator.
+#[derive(Drop)]
+struct LabelTable {
     labels: LabelList,
     index: LabelIndex,
 }
@@ -44,9 +50,9 @@ impl Model for Labels {
 
     ghost Value = { List Labelled };
 
-    ghost view = { λ a. a.labels };
+    ghost view = { λ a. a.table.value.labels };
 
-    ghost invariant = { λ a. IsIndexOfLabels a.index a.labels };
+    ghost invariant = { λ a. IsIndexOfLabels a.table.value.index a.table.value.labels };
 }
 
 impl Labels {
@@ -54,16 +60,17 @@ impl Labels {
     pub(crate) fn of(alloc: Global, labels: LabelList) -> Result<Option<Labels>, AllocError>
         ensures { IfOk result (λ made. made ≡ distinct_labels labels) }
     {
-        match index_of(alloc, labels.as_slice())? {
-            Some(index) => Ok(Some(Labels { labels, index })),
-            None => Ok(None),
-        }
+        let Some(index) = index_of(alloc, labels.as_slice())? else {
+            return Ok(None);
+        };
+        let table = Box::new(alloc, LabelTable { labels, index })?;
+        Ok(Some(Labels { table }))
     }
 
     pub fn as_slice(&self) -> &[Labelled]
         ensures { result.now ≡ self.now }
     {
-        self.labels.as_slice()
+        self.table.labels.as_slice()
     }
 
     /// The number of the output of the label that is equal to a value, or the given one where none is.
@@ -71,20 +78,20 @@ impl Labels {
     pub fn output_of(&self, value: &Value, last: usize) -> usize
         ensures { result ≡ output_of self.now (data_of value.now) last }
     {
-        match value_output(&self.index, value) {
+        match value_output(&self.table.index, value) {
             Some(output) => output,
             None => last,
         }
     }
 }
 
-/// The inputs of stops. Each is below the next.
+/// The inputs of stops while they are read, in order. Each is below the next.
 #[derive(Drop)]
-pub struct Inputs {
+pub(crate) struct InputList {
     inputs: Vec<Fixed>,
 }
 
-impl Model for Inputs {
+impl Model for InputList {
     ghost use Rattle.std.specs.Prelude.{List, ℤ};
     ghost use Rattle.interpolate_fixed.specs.PlaceFacts.{IsAscending};
 
@@ -95,23 +102,54 @@ impl Model for Inputs {
     ghost invariant = { λ a. IsAscending a.inputs.items };
 }
 
-impl Inputs {
-    pub fn new(alloc: Global) -> Inputs
+impl InputList {
+    pub(crate) fn new(alloc: Global) -> InputList
         ensures { result ≡ [] }
     {
-        Inputs {
+        InputList {
             inputs: Vec::new(alloc),
         }
     }
 
     /// Adds an input at the end. It has to be above the last.
-    pub fn push(&mut self, input: Fixed) -> Result<(), AllocError>
+    pub(crate) fn push(&mut self, input: Fixed) -> Result<(), AllocError>
         requires { IsAboveLast input self.old }
         ensures ok { OnOk result (self.new ≡ self.old ++ input ∷ []) }
         ensures err { OnErr result (self.new ≡ self.old) }
     {
         self.inputs.push(input)?;
         Ok(())
+    }
+
+    pub(crate) fn as_slice(&self) -> &[Fixed]
+        ensures inputs { result.now ≡ self.now }
+        ensures ascending { IsAscending result.now }
+    {
+        self.inputs.as_slice()
+    }
+}
+
+/// The inputs of stops. Each is below the next.
+#[derive(Drop)]
+pub struct Inputs {
+    inputs: Box<InputList>,
+}
+
+impl Model for Inputs {
+    ghost use Rattle.std.specs.Prelude.{List, ℤ};
+
+    ghost Value = { List ℤ };
+
+    ghost view = { λ a. a.inputs.value };
+}
+
+impl Inputs {
+    pub(crate) fn of(alloc: Global, inputs: InputList) -> Result<Inputs, AllocError>
+        ensures { IfOk result (λ made. made ≡ inputs) }
+    {
+        Ok(Inputs {
+            inputs: Box::new(alloc, inputs)?,
+        })
     }
 
     pub fn as_slice(&self) -> &[Fixed]
@@ -126,8 +164,13 @@ impl Inputs {
 /// inputs of the stops, at least one.
 #[derive(Drop)]
 pub struct Ramp {
+    parts: Box<RampParts>,
+}
+
+#[derive(Drop)]
+struct RampParts {
     curve: Curve,
-    inputs: Inputs,
+    inputs: InputList,
 }
 
 impl Model for Ramp {
@@ -137,25 +180,27 @@ impl Model for Ramp {
 
     ghost Value = { Curve × List ℤ };
 
-    ghost view = { λ a. (a.curve, a.inputs) };
+    ghost view = { λ a. (a.parts.value.curve, a.parts.value.inputs) };
 
-    ghost invariant = { λ a. (0 < length a.inputs) × HasPositiveBase a.curve };
+    ghost invariant = { λ a. (0 < length a.parts.value.inputs) × HasPositiveBase a.parts.value.curve };
 }
 
 impl Ramp {
-    pub fn new(curve: Curve, inputs: Inputs) -> Ramp
+    pub(crate) fn of(alloc: Global, curve: Curve, inputs: InputList) -> Result<Ramp, AllocError>
         requires some { 0 < length inputs }
         requires base { HasPositiveBase curve }
-        ensures { result ≡ (curve, inputs) }
+        ensures { IfOk result (λ made. made ≡ (curve, inputs)) }
     {
-        Ramp { curve, inputs }
+        Ok(Ramp {
+            parts: Box::new(alloc, RampParts { curve, inputs })?,
+        })
     }
 
     pub fn curve(&self) -> &Curve
         ensures curve { result.now ≡ self.now.0 }
         ensures base { HasPositiveBase result.now }
     {
-        &self.curve
+        &self.parts.curve
     }
 
     pub fn inputs(&self) -> &[Fixed]
@@ -163,7 +208,7 @@ impl Ramp {
         ensures some { 0 < length result.now }
         ensures ascending { IsAscending result.now }
     {
-        self.inputs.as_slice()
+        self.parts.inputs.as_slice()
     }
 }
 
@@ -200,13 +245,13 @@ pub struct FormatPiece {
     pub role: Role,
 }
 
-/// What the arguments of a `format` are, in order. Options follow their content.
+/// What the arguments of a `format` are, in order, while they are read.
 #[derive(Drop)]
-pub struct Pieces {
+pub(crate) struct PieceList {
     pieces: Vec<FormatPiece>,
 }
 
-impl Model for Pieces {
+impl Model for PieceList {
     ghost use Rattle.std.specs.Prelude.{List};
     ghost use Rattle.expr_syntax.specs.declared.parts.FormatPiece.{FormatPiece};
 
@@ -215,22 +260,53 @@ impl Model for Pieces {
     ghost view = { λ a. a.pieces.items };
 }
 
-impl Pieces {
-    pub fn new(alloc: Global) -> Pieces
+impl PieceList {
+    pub(crate) fn new(alloc: Global) -> PieceList
         ensures { result ≡ [] }
     {
-        Pieces {
+        PieceList {
             pieces: Vec::new(alloc),
         }
     }
 
     /// Adds a piece at the end.
-    pub fn push(&mut self, piece: FormatPiece) -> Result<(), AllocError>
+    pub(crate) fn push(&mut self, piece: FormatPiece) -> Result<(), AllocError>
         ensures ok { OnOk result (self.new ≡ self.old ++ piece ∷ []) }
         ensures err { OnErr result (self.new ≡ self.old) }
     {
         self.pieces.push(piece)?;
         Ok(())
+    }
+
+    pub(crate) fn as_slice(&self) -> &[FormatPiece]
+        ensures { result.now ≡ self.now }
+    {
+        self.pieces.as_slice()
+    }
+}
+
+/// What the arguments of a `format` are, in order. Options follow their content.
+#[derive(Drop)]
+pub struct Pieces {
+    pieces: Box<PieceList>,
+}
+
+impl Model for Pieces {
+    ghost use Rattle.std.specs.Prelude.{List};
+    ghost use Rattle.expr_syntax.specs.declared.parts.FormatPiece.{FormatPiece};
+
+    ghost Value = { List FormatPiece };
+
+    ghost view = { λ a. a.pieces.value };
+}
+
+impl Pieces {
+    pub(crate) fn of(alloc: Global, pieces: PieceList) -> Result<Pieces, AllocError>
+        ensures { IfOk result (λ made. made ≡ pieces) }
+    {
+        Ok(Pieces {
+            pieces: Box::new(alloc, pieces)?,
+        })
     }
 
     pub fn as_slice(&self) -> &[FormatPiece]

@@ -1,6 +1,6 @@
 //! The reading of expressions from JSON.
 
-ghost use Rattle.std.specs.Prelude.{◌≡◌, ◌<◌, ◌^◌, IfOk};
+ghost use Rattle.std.specs.Prelude.{◌≡◌, ◌<◌, ◌≤◌, ◌^◌, IfOk};
 ghost use Rattle.decimal_json.specs.View.{path_of, tree_of, trees};
 ghost use Rattle.decimal_json.specs.Tree.{list};
 ghost use Rattle.expr_syntax.specs.Elements.{second, second_text};
@@ -129,7 +129,7 @@ fn read_node(
     }
     if is_format(shape.layout) {
         let read = read_sections(alloc, items, scope, here)?;
-        return Ok(finish_format(read));
+        return finish_format(alloc, read);
     }
     match read_operator(alloc, shape.layout, name, items, scope)? {
         Ok(op) => {
@@ -174,7 +174,7 @@ fn read_arguments<'x>(
 ) -> Result<Result<Arguments, SynFault>, AllocError>
     ensures { IfOk result (λ r. r ≡ read_at (arguments_of layout items.now (scope_of inner.now)) scope.now here.now) }
 {
-    let mut arguments = Arguments::new(alloc);
+    let mut arguments = Arguments::with_room(alloc, argument_count(layout, items.len()))?;
     for (i, item) in items.iter().enumerate() {
         if !is_part(layout, items.len(), i) {
             let there = Here::Index(i, &*here);
@@ -346,7 +346,7 @@ fn global_get(alloc: Global, name: &Text, value: Option<&Value>) -> Result<Expr,
     if let Some(value) = value {
         members.push(name.share()?, copy(value)?)?;
     }
-    let mut arguments = Arguments::new(alloc);
+    let mut arguments = Arguments::with_room(alloc, 2)?;
     arguments.push(Expr::Literal(Value::Text(name.share()?)))?;
     arguments.push(Expr::Literal(Value::Map(SharedEntries::of(alloc, members)?)))?;
     Ok(Expr::Node(Operator::Get, arguments))
@@ -359,6 +359,20 @@ fn finish(op: Operator, arguments: Result<Arguments, SynFault>) -> Result<Expr, 
         Ok(arguments) => Ok(Expr::Node(op, arguments)),
         Err(fault) => Err(fault),
     }
+}
+
+// How many arguments are among so many elements, for which room is made.
+fn argument_count(layout: ElementLayout, elements: usize) -> usize
+    requires { elements < 2 ^ 63 }
+    ensures { result ≤ elements }
+{
+    let mut count = 0;
+    for at in 0..elements {
+        if !is_part(layout, elements, at) {
+            count += 1;
+        }
+    }
+    count
 }
 
 fn is_part(layout: ElementLayout, elements: usize, at: usize) -> bool

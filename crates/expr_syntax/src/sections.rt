@@ -7,13 +7,13 @@ ghost use Rattle.expr_syntax.specs.TermView.{term_of};
 
 use crate::expression::{Arguments, Expr, Operator};
 use crate::fault::SynFault;
-use crate::parts::{FormatPiece, Pieces, Role};
+use crate::parts::{FormatPiece, PieceList, Pieces, Role};
 use std::alloc::{AllocError, Global};
 
 /// The arguments of a `format`, and what each is.
 #[derive(Drop)]
 pub(crate) struct FormatArguments {
-    pieces: Pieces,
+    pieces: PieceList,
     arguments: Arguments,
 }
 
@@ -29,7 +29,7 @@ impl FormatArguments {
         ensures { result ≡ no_sections }
     {
         FormatArguments {
-            pieces: Pieces::new(alloc),
+            pieces: PieceList::new(alloc),
             arguments: Arguments::new(alloc),
         }
     }
@@ -54,14 +54,18 @@ impl FormatArguments {
 }
 
 /// The `format` of arguments that were read.
-pub(crate) fn finish_format(read: Result<FormatArguments, SynFault>) -> Result<Expr, SynFault>
-    ensures { read_of result ≡ then_format read }
+pub(crate) fn finish_format(
+    alloc: Global,
+    read: Result<FormatArguments, SynFault>,
+) -> Result<Result<Expr, SynFault>, AllocError>
+    ensures { IfOk result (λ r. read_of r ≡ then_format read) }
 {
     match read {
         Ok(found) => {
             let FormatArguments { pieces, arguments } = found;
-            Ok(Expr::Node(Operator::Format(pieces), arguments))
+            let pieces = Pieces::of(alloc, pieces)?;
+            Ok(Ok(Expr::Node(Operator::Format(pieces), arguments)))
         }
-        Err(fault) => Err(fault),
+        Err(fault) => Ok(Err(fault)),
     }
 }

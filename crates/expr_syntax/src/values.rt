@@ -20,7 +20,7 @@ use crate::expression::{Operator, plain_operator};
 use crate::fault::SynCode;
 use crate::labels::read_match;
 use crate::names::Name;
-use crate::parts::{Inputs, Ramp, Role};
+use crate::parts::{InputList, Inputs, Ramp, Role};
 use crate::rows::{ElementLayout, is_binder, is_input};
 use crate::scope::{Scope, knows};
 use decimal_json::Json;
@@ -137,7 +137,7 @@ fn read_step(alloc: Global, items: &[Json]) -> Result<Result<Operator, SynCode>,
     ensures { IfOk result (λ read. read ≡ step_operator (length items.now) (trees items.now)) }
 {
     match read_inputs(alloc, items)? {
-        Ok(inputs) => Ok(Ok(Operator::Step(inputs))),
+        Ok(inputs) => Ok(Ok(Operator::Step(Inputs::of(alloc, inputs)?))),
         Err(code) => Ok(Err(code)),
     }
 }
@@ -151,17 +151,17 @@ fn read_interpolate(alloc: Global, items: &[Json]) -> Result<Result<Operator, Sy
         return Ok(Err(SynCode::Part));
     };
     match read_inputs(alloc, items)? {
-        Ok(inputs) => Ok(Ok(Operator::Interpolate(Ramp::new(curve, inputs)))),
+        Ok(inputs) => Ok(Ok(Operator::Interpolate(Ramp::of(alloc, curve, inputs)?))),
         Err(code) => Ok(Err(code)),
     }
 }
 
 // The inputs of stops among the elements of a node.
 #[tactic(auto, using(crate::proofs::StopLaws::input_rules))]
-fn read_inputs(alloc: Global, items: &[Json]) -> Result<Result<Inputs, SynCode>, AllocError>
+fn read_inputs(alloc: Global, items: &[Json]) -> Result<Result<InputList, SynCode>, AllocError>
     ensures { IfOk result (λ read. read ≡ inputs_among (length items.now) (trees items.now)) }
 {
-    let mut inputs = Inputs::new(alloc);
+    let mut inputs = InputList::new(alloc);
     let mut before: Option<Fixed> = None;
     let mut past = false;
     for (i, item) in items.iter().enumerate() {

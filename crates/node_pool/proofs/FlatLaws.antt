@@ -174,7 +174,7 @@ boxed_length (x ∷ xs) = ap suc (boxed_length xs)
 
 pub flat_inner : (op : Operator) (want : Want) (arguments : Vec BoxedNode Global) (first count : ℕ) (old new : List PooledNode) →
     count ≡ length arguments.items → AreSideBySide first (boxed_nodes arguments.items) old new →
-    IsFlattened (Inner op want first count) (boxed_node (boxed.Inner op want arguments)) old new
+    IsFlattened (Inner op want first count) (boxed_node (boxed.Inner want op arguments)) old new
 flat_inner op want arguments first count old new c put =
     let ns = boxed_nodes arguments.items in
     let l = boxed_length arguments.items in
@@ -188,9 +188,9 @@ flat_inner op want arguments first count old new c put =
     }
 
 pub inner_weight : (op : Operator) (want : Want) (arguments : Vec BoxedNode Global) →
-    size (boxed_node (boxed.Inner op want arguments)) ≡ 1 + total_size (boxed_nodes arguments.items)
+    size (boxed_node (boxed.Inner want op arguments)) ≡ 1 + total_size (boxed_nodes arguments.items)
 inner_weight op want arguments =
-    inner_size (boxed_node (boxed.Inner op want arguments)) op want (boxed_form op want arguments)
+    inner_size (boxed_node (boxed.Inner want op arguments)) op want (boxed_form op want arguments)
     ∙ ap (λ xs. 1 + total_size xs) (boxed_children op want arguments)
 
 -- ---- an expression

@@ -35,7 +35,7 @@ fn put_side_by_side(
     ensures { IfOk result (λ first.
         AreSideBySide first (boxed_nodes boxed.items) nodes.old.items nodes.new.items) }
 {
-    let mut last = Vec::new(alloc);
+    let mut last = Vec::with_capacity(alloc, boxed.len())?;
     for node in boxed {
         last.push(flat_node(alloc, node, nodes)?)?;
     }
@@ -59,7 +59,7 @@ fn flat_node(
         BoxedNode::Faulty(fault) => Ok(PooledNode::Faulty(fault)),
         BoxedNode::Asked(slot, want) => Ok(PooledNode::Asked(slot, want)),
         BoxedNode::Property(key, want) => Ok(PooledNode::Property(key, want)),
-        BoxedNode::Inner(op, want, arguments) => {
+        BoxedNode::Inner(want, op, arguments) => {
             let count = arguments.as_slice().len();
             let first = put_side_by_side(alloc, arguments, nodes)?;
             Ok(PooledNode::Inner(op, want, first, count))

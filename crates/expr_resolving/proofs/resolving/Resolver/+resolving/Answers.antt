@@ -153,7 +153,7 @@ resolve_inner-returns t c =
     let nodes = c.loop-argument.nodes in
     let done = boxed_nodes nodes.items in
     let with_so_far : Node → Numbered = λ n. (n, so_far) in
-    (λ i. with_so_far (boxed_node (Inner (before.2 i) c.args.want nodes)))
+    (λ i. with_so_far (boxed_node (Inner c.args.want (before.2 i) nodes)))
     ∙ (ap with_so_far (boxed_inner c.args.op c.args.want nodes)
     ∙ (inner_end c.args.op c.len-count.result c.args.want left scope done so_far
     ∙ (ap (λ xs. inner_after c.args.op c.len-count.result c.args.want left scope done (terms xs) so_far)

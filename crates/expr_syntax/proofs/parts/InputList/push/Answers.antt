@@ -2,7 +2,7 @@ use Rattle.std.proofs.Common.{sym, subst}
 use Rattle.expr_syntax.specs.Stops.{IsAboveLast}
 use Rattle.interpolate_fixed.specs.PlaceFacts.{IsAscending}
 use Rattle.expr_syntax.proofs.StopLaws.{ascending_push}
-use Rattle.expr_syntax.proofs.parts.Inputs.push.Goals as goal
+use Rattle.expr_syntax.proofs.parts.InputList.push.Goals as goal
 
 pub invariant_of-self-2 : goal.invariant_of-self-2
 invariant_of-self-2 c =
