@@ -75,7 +75,16 @@ abbrev pub section_of : ℕ → Bool → Tree → Scope → List PathPart → Fo
 section_of i follows t scope path found = section_read i follows (options t) (read t) scope path found
 
 abbrev pub row_view : CodeRow → OperatorRow
-row_view r = record { text = r.text.now; is_outside = r.is_outside; arity = r.arity; layout = r.layout; wants = r.wants; sequence = r.sequence; manner = r.manner; reads = r.reads }
+row_view r = record {
+  text = r.text.now;
+  is_outside = r.is_outside;
+  arity = r.arity;
+  layout = r.layout;
+  wants = r.wants;
+  sequence = r.sequence;
+  manner = r.manner;
+  reads = r.reads;
+}
 
 -- whether an expression contains a `global-state` node
 abbrev pub uses_globals : Tree → Bool

@@ -65,7 +65,9 @@ global_object name (Some d) = pair name d no_pairs
 global_object name None = no_pairs
 
 abbrev pub global_term : List ℕ → Option Data → Term
-global_term name value = node operators.Get (term (literal (values.text name)) (term (literal (values.map (global_object name value))) no_terms))
+global_term name value =
+    node operators.Get
+    (term (literal (values.text name)) (term (literal (values.map (global_object name value))) no_terms))
 
 abbrev pub global_read : Option (List ℕ) → Scope → List PathPart → Read
 global_read (Some s) scope path = Ok (global_term s (global_at scope s))
@@ -83,11 +85,13 @@ and_term (Ok t) (Ok ts) = Ok (t ∷ ts)
 and_term (Ok t) (Err f) = Err f
 and_term (Err f) later = Err f
 
-abbrev pub arguments : ElementLayout → ℕ → ℕ → List (Element Reader) → Scope → Scope → List PathPart → Result (List Term) SynFault
+abbrev pub arguments : ElementLayout → ℕ → ℕ → List (Element Reader) → Scope → Scope → List PathPart
+    → Result (List Term) SynFault
 arguments layout n i [] inner scope path = Ok []
 arguments layout n i (e ∷ es) inner scope path =
     if is_part (element_place layout n i) then arguments layout n (i + 1) es inner scope path
-    else and_term (e.0 (if is_last n i then inner else scope) (at path i)) (arguments layout n (i + 1) es inner scope path)
+    else and_term (e.0 (if is_last n i then inner else scope) (at path i))
+    (arguments layout n (i + 1) es inner scope path)
 
 abbrev pub names_in : Operator → Scope → Scope
 names_in (operators.Let names) scope = frame names scope
@@ -98,7 +102,8 @@ then_node op (Ok ts) = Ok (node op (terms_of ts))
 then_node op (Err f) = Err f
 
 abbrev pub with_operator : ElementLayout → List (Element Reader) → Result Operator SynCode → Reader
-with_operator layout es (Ok op) scope path = then_node op (arguments layout (length es) 0 es (names_in op scope) scope path)
+with_operator layout es (Ok op) scope path =
+    then_node op (arguments layout (length es) 0 es (names_in op scope) scope path)
 with_operator layout es (Err c) scope path = fault path c
 
 -- ---- the arguments of `format`: contents, and the members of an object directly after one, each with its
@@ -108,32 +113,45 @@ abbrev pub then_term : {A : Type 0} → Read → (Term → Result A SynFault) �
 then_term (Ok t) go = go t
 then_term (Err f) go = Err f
 
-abbrev pub then_sections : Result FormatArguments SynFault → (FormatArguments → Result FormatArguments SynFault) → Result FormatArguments SynFault
+abbrev pub then_sections : Result FormatArguments SynFault → (FormatArguments → Result FormatArguments SynFault)
+    → Result FormatArguments SynFault
 then_sections (Ok found) go = go found
 then_sections (Err f) go = Err f
 
 abbrev pub with_piece : ℕ → Role → FormatArguments → Term → FormatArguments
-with_piece i role found t = record { pieces = found.pieces ++ record { at = i; role = role } ∷ []; arguments = found.arguments ++ t ∷ [] }
+with_piece i role found t = record {
+  pieces = found.pieces ++ record { at = i; role = role } ∷ [];
+  arguments = found.arguments ++ t ∷ [];
+}
 
-abbrev pub option_read : ℕ → Option Role → List ℕ → Reader → Scope → List PathPart → FormatArguments → Result FormatArguments SynFault
-option_read i (Some role) key r scope path found = then_term (r scope (path ++ parts.Key key ∷ [])) (λ t. Ok (with_piece i role found t))
+abbrev pub option_read : ℕ → Option Role → List ℕ → Reader → Scope → List PathPart
+    → FormatArguments → Result FormatArguments SynFault
+option_read i (Some role) key r scope path found =
+    then_term (r scope (path ++ parts.Key key ∷ [])) (λ t. Ok (with_piece i role found t))
 option_read i None key r scope path found = fault path code.BareObject
 
 -- the options in the object at element i, whose path this is
-abbrev pub options_read : ℕ → List (List ℕ × Reader) → Scope → List PathPart → FormatArguments → Result FormatArguments SynFault
+abbrev pub options_read : ℕ → List (List ℕ × Reader) → Scope → List PathPart
+    → FormatArguments → Result FormatArguments SynFault
 options_read i [] scope path found = Ok found
-options_read i (m ∷ ms) scope path found = then_sections (option_read i (option_named m.0) m.0 m.1 scope path found) (options_read i ms scope path)
+options_read i (m ∷ ms) scope path found =
+    then_sections (option_read i (option_named m.0) m.0 m.1 scope path found) (options_read i ms scope path)
 
-abbrev pub section_read : ℕ → Bool → Option (List (List ℕ × Reader)) → Reader → Scope → List PathPart → FormatArguments → Result FormatArguments SynFault
-section_read i follows (Some ms) r scope path found = if follows then options_read i ms scope path found else fault path code.BareObject
-section_read i follows None r scope path found = then_term (r scope path) (λ t. Ok (with_piece i Content found t))
+abbrev pub section_read : ℕ → Bool → Option (List (List ℕ × Reader)) → Reader → Scope → List PathPart
+    → FormatArguments → Result FormatArguments SynFault
+section_read i follows (Some ms) r scope path found =
+    if follows then options_read i ms scope path found else fault path code.BareObject
+section_read i follows None r scope path found =
+    then_term (r scope path) (λ t. Ok (with_piece i Content found t))
 
 -- from element i on; `follows` says whether the one before is a content, and the name is at 0
-abbrev pub sections_read : ℕ → Bool → List (Element Reader) → Scope → List PathPart → FormatArguments → Result FormatArguments SynFault
+abbrev pub sections_read : ℕ → Bool → List (Element Reader) → Scope → List PathPart
+    → FormatArguments → Result FormatArguments SynFault
 sections_read i follows [] scope path found = Ok found
 sections_read i follows (e ∷ es) scope path found =
     if nat_eq i 0 then sections_read (i + 1) false es scope path found
-    else then_sections (section_read i follows e.1 e.0 scope (at path i) found) (sections_read (i + 1) (is_none e.1) es scope path)
+    else then_sections (section_read i follows e.1 e.0 scope (at path i) found)
+    (sections_read (i + 1) (is_none e.1) es scope path)
 
 abbrev pub no_sections : FormatArguments
 no_sections = record { pieces = []; arguments = [] }

@@ -29,7 +29,16 @@ pub record OperatorRow : Type 0 where
 
 -- an operator all of whose elements are arguments, which are all evaluated and are all that it reads
 abbrev pub plain : List ℕ → Arity → Wants → OperatorRow
-plain text arity wants = record { text = text; is_outside = false; arity = arity; layout = Arguments; wants = wants; sequence = None; manner = manners.Each; reads = reading.Nothing }
+plain text arity wants = record {
+  text = text;
+  is_outside = false;
+  arity = arity;
+  layout = Arguments;
+  wants = wants;
+  sequence = None;
+  manner = manners.Each;
+  reads = reading.Nothing;
+}
 
 abbrev pub outside : List ℕ → OperatorRow
 outside text = record (plain text (AtLeast 0) (wanting.Each wants.Any)) { is_outside = true }

@@ -8,7 +8,9 @@ use Rattle.expr_syntax.specs.Names.{names}
 -- length
 abbrev pub slot_of : List ℕ → ℕ
 slot_of [] = 0
-slot_of (b ∷ bs) = (3 * b + 82 * slice_index (b ∷ bs) (length (b ∷ bs) - 1) + 48 * slice_index (b ∷ bs) (length (b ∷ bs) / 2) + 38 * (length (b ∷ bs) % 256)) % 256
+slot_of (b ∷ bs) =
+    (3 * b + 82 * slice_index (b ∷ bs) (length (b ∷ bs) - 1) + 48 * slice_index (b ∷ bs) (length (b ∷ bs) / 2)
+    + 38 * (length (b ∷ bs) % 256)) % 256
 
 -- the place among the names of the one that has a slot; where none has it, any place
 unfoldable pub slots : List ℕ

@@ -92,7 +92,9 @@ in_element Output w sought format = w sought format
 
 abbrev pub some_element : ElementLayout → ℕ → ℕ → List (Element Walker) → Walker
 some_element layout n i [] sought format = false
-some_element layout n i (e ∷ es) sought format = in_element (element_place layout n i) e.0 sought format || some_element layout n (i + 1) es sought format
+some_element layout n i (e ∷ es) sought format =
+    in_element (element_place layout n i) e.0 sought format
+    || some_element layout n (i + 1) es sought format
 
 abbrev pub some_option : List (List ℕ × Walker) → Sought → Bool
 some_option [] sought = false

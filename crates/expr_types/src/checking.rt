@@ -61,8 +61,10 @@ impl Checking {
         scope: &'x KindScope<'x>,
         here: &'x Here<'x>,
     ) -> Result<Result<Kinded, TypeFault>, AllocError>
-        ensures node { IfOk result (λ r. r ≡ root_of (typed_of expression.now is_sequence want.now scope.now here.now)) }
-        ensures places { IfOk result (λ r. IfOk r (λ _. Ok self.new.places.items ≡ added self.old.places.items (typed_of expression.now is_sequence want.now scope.now here.now))) }
+        ensures node { IfOk result (λ r. r
+            ≡ root_of (typed_of expression.now is_sequence want.now scope.now here.now)) }
+        ensures places { IfOk result (λ r. IfOk r (λ _. Ok self.new.places.items
+            ≡ added self.old.places.items (typed_of expression.now is_sequence want.now scope.now here.now))) }
     {
         match expression {
             Expr::Literal(value) => match literal_node(self.alloc, value, want, here)? {
@@ -93,7 +95,8 @@ impl Checking {
         arguments: &'x [Expr],
     ) -> Result<Result<Kinded, TypeFault>, AllocError>
         ensures node { IfOk result (λ r. r ≡ root_of (node_of context.now arguments.now)) }
-        ensures places { IfOk result (λ r. IfOk r (λ _. Ok self.new.places.items ≡ added self.old.places.items (node_of context.now arguments.now))) }
+        ensures places { IfOk result (λ r. IfOk r (λ _. Ok self.new.places.items
+            ≡ added self.old.places.items (node_of context.now arguments.now))) }
     {
         let at = count(&self.places);
         self.places.push(Placed {
@@ -118,7 +121,8 @@ impl Checking {
         arguments: &'x [Expr],
     ) -> Result<Result<Kinded, TypeFault>, AllocError>
         ensures node { IfOk result (λ r. r ≡ root_of (node_of context.now arguments.now)) }
-        ensures places { IfOk result (λ r. IfOk r (λ _. Ok self.new.places.items ≡ added_below self.old.places.items (node_of context.now arguments.now))) }
+        ensures places { IfOk result (λ r. IfOk r (λ _. Ok self.new.places.items
+            ≡ added_below self.old.places.items (node_of context.now arguments.now))) }
     {
         match context.op {
             Operator::Let(names) => self.check_let(context, names, arguments),
@@ -141,7 +145,8 @@ impl Checking {
         arguments: &'x [Expr],
     ) -> Result<Result<Kinded, TypeFault>, AllocError>
         ensures node { IfOk result (λ r. r ≡ root_of (plain_of context.now arguments.now)) }
-        ensures places { IfOk result (λ r. IfOk r (λ _. Ok self.new.places.items ≡ added_below self.old.places.items (plain_of context.now arguments.now))) }
+        ensures places { IfOk result (λ r. IfOk r (λ _. Ok self.new.places.items
+            ≡ added_below self.old.places.items (plain_of context.now arguments.now))) }
     {
         match self.check_arguments(context, arguments.len(), arguments)? {
             Ok(found) => {
@@ -168,7 +173,8 @@ impl Checking {
     ) -> Result<Result<Kinded, TypeFault>, AllocError>
         requires { context.now.op.now ≡ operators.Let names.now }
         ensures node { IfOk result (λ r. r ≡ root_of (let_of context.now names.now arguments.now)) }
-        ensures places { IfOk result (λ r. IfOk r (λ _. Ok self.new.places.items ≡ added_below self.old.places.items (let_of context.now names.now arguments.now))) }
+        ensures places { IfOk result (λ r. IfOk r (λ _. Ok self.new.places.items
+            ≡ added_below self.old.places.items (let_of context.now names.now arguments.now))) }
     {
         let (bindings, rest) = cut(arguments, names);
         match self.check_arguments(&*context, arguments.len(), bindings)? {
@@ -197,7 +203,8 @@ impl Checking {
     ) -> Result<Result<Kinded, TypeFault>, AllocError>
         requires each { length names.now ≡ length kinds.now }
         ensures node { IfOk result (λ r. r ≡ root_of (body_of context.now names.now kinds.now body.now)) }
-        ensures places { IfOk result (λ r. IfOk r (λ _. Ok self.new.places.items ≡ added self.old.places.items (body_of context.now names.now kinds.now body.now))) }
+        ensures places { IfOk result (λ r. IfOk r (λ _. Ok self.new.places.items
+            ≡ added self.old.places.items (body_of context.now names.now kinds.now body.now))) }
     {
         let count = names.len();
         let scope = KindScope::Inside(Bound { names, kinds }, &*context.scope);
@@ -220,8 +227,10 @@ impl Checking {
         count: usize,
         arguments: &'x [Expr],
     ) -> Result<Result<ArgumentKinds, TypeFault>, AllocError>
-        ensures kinds { IfOk result (λ r. kinds_of r ≡ kinds_after [] no_faults (founds_in context.now count 0 arguments.now)) }
-        ensures places { IfOk result (λ r. IfOk r (λ _. Ok self.new.places.items ≡ all_added self.old.places.items (founds_in context.now count 0 arguments.now))) }
+        ensures kinds { IfOk result (λ r. kinds_of r
+            ≡ kinds_after [] no_faults (founds_in context.now count 0 arguments.now)) }
+        ensures places { IfOk result (λ r. IfOk r (λ _. Ok self.new.places.items
+            ≡ all_added self.old.places.items (founds_in context.now count 0 arguments.now))) }
     {
         let mut kinds = Vec::with_capacity(self.alloc, arguments.len())?;
         let mut may = FaultSet::empty();
@@ -248,7 +257,8 @@ impl Checking {
     ) -> Result<Result<Kinded, TypeFault>, AllocError>
         requires short { place < 2 ^ 60 }
         ensures node { IfOk result (λ r. r ≡ root_of (argument_found context.now count place argument.now)) }
-        ensures places { IfOk result (λ r. IfOk r (λ _. Ok self.new.places.items ≡ added self.old.places.items (argument_found context.now count place argument.now))) }
+        ensures places { IfOk result (λ r. IfOk r (λ _. Ok self.new.places.items
+            ≡ added self.old.places.items (argument_found context.now count place argument.now))) }
     {
         let element = Here::Index(element_at(context.op, count, place), &*context.here);
         match key_at(context.op, place) {
@@ -272,8 +282,10 @@ impl Checking {
         there: &'x Here<'x>,
     ) -> Result<Result<Kinded, TypeFault>, AllocError>
         requires short { place < 2 ^ 60 }
-        ensures node { IfOk result (λ r. r ≡ root_of (found_at context.now count place argument.now (path_of there.now))) }
-        ensures places { IfOk result (λ r. IfOk r (λ _. Ok self.new.places.items ≡ added self.old.places.items (found_at context.now count place argument.now (path_of there.now)))) }
+        ensures node { IfOk result (λ r. r
+            ≡ root_of (found_at context.now count place argument.now (path_of there.now))) }
+        ensures places { IfOk result (λ r. IfOk r (λ _. Ok self.new.places.items
+            ≡ added self.old.places.items (found_at context.now count place argument.now (path_of there.now)))) }
     {
         let own = argument_want(context.op, count, place, &context.want);
         let asked = is_sequence(context.op, place);
@@ -290,7 +302,9 @@ fn finished(
     own: Own,
     may: FaultSet,
 ) -> Result<Result<Kinded, TypeFault>, AllocError>
-    ensures { IfOk result (λ node. node ≡ finished_node context.now.op.now context.now.want (own_where context.now.is_sequence own) may (path_of context.now.here.now)) }
+    ensures { IfOk result (λ node. node
+        ≡ finished_node context.now.op.now context.now.want (own_where context.now.is_sequence own) may
+        (path_of context.now.here.now)) }
 {
     let own = own_where(context.is_sequence, own);
     if is_branching(context.op) {
