@@ -43,8 +43,8 @@ pub fn is_passed(value: Option<Result<&Value, EvalFault>>) -> bool
     }
 }
 
-/// A sum of evaluations. Each evaluated cell takes memory, so one beyond `u64::MAX` is refused as a failed
-/// allocation is.
+/// A sum of evaluations. One beyond `u64::MAX`, for which no run lasts long enough, is refused as a failed allocation
+/// is.
 pub fn sum_of(first: u64, second: u64) -> Result<u64, AllocError>
     ensures { IfOk result (λ sum. sum ≡ first + second) }
 {

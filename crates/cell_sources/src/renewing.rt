@@ -20,8 +20,8 @@ use layer_buckets::{Buckets, CellItem};
 use property_tables::row_count;
 use std::alloc::{AllocError, Global};
 
-/// Takes all expressions out of the evaluator. Each source stays as it is, and so does what is kept. The numbers of the
-/// sources are those of no expression until `renew_sources` gives them others.
+/// Takes all expressions out of the evaluator. Each source stays as it is, and so does what is kept. The numbers of
+/// sources point to nothing until `renew_sources` gives them others.
 pub fn clear_expressions(alloc: Global, buckets: &mut Buckets<FormPool>)
     requires { IsSound buckets.old }
     ensures sound { IsSound buckets.new }
