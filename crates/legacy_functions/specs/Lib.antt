@@ -4,6 +4,7 @@ pub mod Function
 pub mod Form
 pub mod Meaning
 pub mod ToExpression
+pub mod AskedParts
 pub mod Parts
 pub mod View
 -- What only contracts of private functions use.

@@ -19,15 +19,18 @@
 //! `specs/Form.antt`, or says that it is outside, or that it is none. `value` is the meaning of
 //! `specs/Meaning.antt`, faults included, which goes by the list of stops and names no expression. `to_expr`
 //! gives the expression of `specs/ToExpression.antt`; texts and numbers are in it as they were in the
-//! function. `has_tokens`, `token_text` and `token_expr` go by the pieces of `specs/Tokens.antt`.
+//! function. `asks_zoom` and `asks_feature` say which parts of the world a function asks for, by
+//! `specs/AskedParts.antt`. `has_tokens`, `token_text` and `token_expr` go by the pieces of
+//! `specs/Tokens.antt`.
 //!
 //! A function is read in n log n of its stops. Its stops are found by halving, and its categories by an
 //! ordered index, so that a feature takes time logarithmic in their number. No list of stops is copied.
 //!
-//! The text to believe is in `specs/`: `Tokens`, `Function`, `Form`, `Meaning`, `ToExpression`, `Parts`,
-//! `View`.
+//! The text to believe is in `specs/`: `Tokens`, `Function`, `Form`, `Meaning`, `ToExpression`, `AskedParts`,
+//! `Parts`, `View`.
 #![tactic(auto)]
 
+mod asked_parts;
 mod categories;
 mod expression;
 mod function;
