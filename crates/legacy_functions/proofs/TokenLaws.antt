@@ -2,12 +2,17 @@
 use Rattle.std.proofs.Common.{◌≡◌, ◌∙◌, ℕ, zero, suc, ◌+◌, ◌-◌, ◌<◌, ◌≤◌, List, [], ◌∷◌, ◌++◌, append_assoc, length, take, drop, get_or, nat_lt, arith, add-one, sym, subst, ap, refl, true, false}
 use Rattle.std.proofs.lemmas.Bool.{lt-ltb, eqb-true}
 use Rattle.std.proofs.Math.Dec.{eqb-suc-zero}
-use Rattle.std.specs.Prelude.{flat_map, Bool, ◌||◌, nat_eq, if◌then◌else◌, Option, Some, None, is_some}
+use Rattle.std.proofs.lemmas.List.{take-append-drop}
+use Rattle.std.proofs.lemmas.Str.{IsCharBoundary-after_ascii, IsCharBoundary-before_ascii, IsUtf8-between}
+use Rattle.std.specs.Prelude.{flat_map, map, IsUtf8, Bool, ◌||◌, nat_eq, if◌then◌else◌, Option, Some, None, is_some}
 use Rattle.std.specs.List.{list_any}
+use Rattle.std.specs.Str.{IsCharBoundary}
+use Rattle.decimal_json.specs.Tree.{Tree}
+use Rattle.shared_text.specs.Ranges.{IsRest}
 use Rattle.tile_reader.specs.declared.tile.Feature.{Feature}
 use Rattle.legacy_functions.specs.declared.tokens.TokenPiece.{TokenPiece}
 use Rattle.legacy_functions.specs.declared.tokens.TokenPiece.TheVariants.{Plain, Token}
-use Rattle.legacy_functions.specs.Tokens.{piece_text, token_text, is_brace, before_brace, closes, closed_name, token_name, token_at, with_byte, with_piece, rest_of_token, pieces_behind, pieces, is_token, has_tokens}
+use Rattle.legacy_functions.specs.Tokens.{piece_text, token_text, piece_expression, is_brace, before_brace, closes, closed_name, token_name, token_at, with_byte, with_piece, rest_of_token, pieces_behind, pieces, is_token, has_tokens}
 use Rattle.legacy_functions.specs.TokenSize.{size_of, token_size, plain_size, begins_token, any_token}
 
 any_with_byte : (b : ℕ) (ps : List TokenPiece) → list_any is_token (with_byte b ps) ≡ list_any is_token ps
@@ -214,9 +219,35 @@ plain_after (b ∷ bs) (suc i) h = plain_after bs i (omega arith)
 pub plain_from : (bs : List ℕ) (i : ℕ) → i < length bs → plain_size (drop i bs) ≡ (if begins_token (drop i bs) then 0 else plain_size (drop (i + 1) bs) + 1)
 plain_from bs i h = plain_after bs i h ∙ ap (λ n. if begins_token (drop i bs) then 0 else plain_size (drop n bs) + 1) (sym (add-one i))
 
+-- one piece fewer after the first
+pub fewer_after_token : (bs : List ℕ) (size : ℕ) → size ≡ token_size bs → 0 < size → length (pieces bs) ≡ length (pieces (drop size bs)) + 1
+fewer_after_token bs size is some = ap length (begins bs size is some).first ∙ sym (add-one (length (pieces (drop size bs))))
+
+pub fewer_after_plain : (bs : List ℕ) (size : ℕ) → token_size bs ≡ 0 → 0 < length bs → size ≡ plain_size bs → (0 < size) × (length (pieces bs) ≡ length (pieces (drop size bs)) + 1)
+fewer_after_plain bs size none any is =
+    let some : 0 < size = omega (arith, is, plain_positive bs none any) in
+    (some, ap length (begins_plain bs size is some).first ∙ sym (add-one (length (pieces (drop size bs)))))
+
+-- what follows some bytes of what is left is left too
+pub left_after : (rest document : List ℕ) (n : ℕ) → IsRest rest document → IsRest (drop n rest) document
+left_after rest document n (front, cut) =
+    (front ++ take n rest, cut ∙ (ap (λ bs. front ++ bs) (sym (take-append-drop n rest)) ∙ sym (append_assoc front (take n rest) (drop n rest))))
+
+-- the name in a token is a text
+pub name_is_text : (bs : List ℕ) (size : ℕ) → IsUtf8 bs → BeginsToken bs size → IsUtf8 (take (size - 2) (drop 1 bs))
+name_is_text bs size utf8 token =
+    let opens = token.opens in
+    let closed = token.closed in
+    let less : size - 1 - 1 ≡ size - 2 = omega arith in
+    let from : IsCharBoundary bs (0 + 1) = IsCharBoundary-after_ascii bs 0 utf8 (omega (arith, token.least, token.within)) (omega (arith, opens)) in
+    let to : IsCharBoundary bs (size - 1) = IsCharBoundary-before_ascii bs (size - 1) (omega (arith, token.least, token.within)) (omega (arith, closed)) in
+    subst (λ n. IsUtf8 (take n (drop 1 bs))) less (IsUtf8-between bs 1 (size - 1) utf8 (omega (arith, token.least)) from to)
+
 -- a piece that was added, before the pieces of what follows
-pub piece_added : (old new : List TokenPiece) (p : TokenPiece) (rest later : List ℕ) → new ≡ old ++ p ∷ [] → pieces rest ≡ p ∷ pieces later → new ++ pieces later ≡ old ++ pieces rest
-piece_added old new p rest later e f = ap (λ ps. ps ++ pieces later) e ∙ (append_assoc old (p ∷ []) (pieces later) ∙ ap (λ ps. old ++ ps) (sym f))
+pub piece_added : (old new : List Tree) (p : TokenPiece) (made : Tree) (rest later : List ℕ) → new ≡ old ++ made ∷ [] → made ≡ piece_expression p → pieces rest ≡ p ∷ pieces later → new ++ map piece_expression (pieces later) ≡ old ++ map piece_expression (pieces rest)
+piece_added old new p made rest later e is f =
+    ap (λ ts. ts ++ map piece_expression (pieces later)) (e ∙ ap (λ t. old ++ t ∷ []) is)
+    ∙ (append_assoc old (piece_expression p ∷ []) (map piece_expression (pieces later)) ∙ ap (λ ps. old ++ map piece_expression ps) (sym f))
 
 -- the text of a piece that was added, before that of what follows
 pub text_added : (old new : List ℕ) (p : TokenPiece) (rest later : List ℕ) (feature : Feature) → new ≡ old ++ piece_text feature p → pieces rest ≡ p ∷ pieces later → new ++ token_text later feature ≡ old ++ token_text rest feature

@@ -52,7 +52,7 @@ fn each_stop(
     ensures { IfOk result (λ found. option_map (λ v. map placed_stop_seen v.items) found
         ≡ each_stop (row_seen row.now) any (trees items.now)) }
 {
-    let mut stops = Vec::new(alloc);
+    let mut stops = Vec::with_capacity(alloc, items.len())?;
     for item in items {
         match stop_form(alloc, any, item, row)? {
             Some(stop) => stops.push(stop)?,

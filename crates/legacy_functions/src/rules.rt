@@ -24,7 +24,7 @@ pub(crate) fn plain_stops(
     ensures { IfOk result (λ found. option_map (λ v. map category_seen v.items) found
         ≡ plain_stops (map placed_stop_seen stops.items)) }
 {
-    let mut plain = Vec::new(alloc);
+    let mut plain = Vec::with_capacity(alloc, stops.len())?;
     for placed in stops {
         let PlacedStop { zoom, stop } = placed;
         if zoom.is_some() {
@@ -101,7 +101,7 @@ fn kept_stops(alloc: Global, stops: Vec<Category>) -> Result<Vec<NumberStop>, Al
     ensures { IfOk result (λ kept.
         map stop_seen kept.items ≡ without_repeated None (number_stops (map category_seen stops.items))) }
 {
-    let mut kept = Vec::new(alloc);
+    let mut kept = Vec::with_capacity(alloc, stops.len())?;
     let mut before: Option<Fixed> = None;
     for stop in stops {
         before = keep_stop(&mut kept, before, stop)?;

@@ -189,7 +189,7 @@ impl ZoomRules {
 fn stop_inputs(alloc: Global, stops: &[NumberStop]) -> Result<Vec<Fixed>, AllocError>
     ensures { IfOk result (λ inputs. inputs.items ≡ inputs_in stops.now) }
 {
-    let mut inputs = Vec::new(alloc);
+    let mut inputs = Vec::with_capacity(alloc, stops.len())?;
     for stop in stops {
         inputs.push(stop.input.value)?;
     }
@@ -199,7 +199,7 @@ fn stop_inputs(alloc: Global, stops: &[NumberStop]) -> Result<Vec<Fixed>, AllocE
 fn rule_zooms(alloc: Global, rules: &[ZoomRule]) -> Result<Vec<Fixed>, AllocError>
     ensures { IfOk result (λ zooms. zooms.items ≡ zooms_seen rules.now) }
 {
-    let mut zooms = Vec::new(alloc);
+    let mut zooms = Vec::with_capacity(alloc, rules.len())?;
     for rule in rules {
         zooms.push(rule.zoom.value)?;
     }

@@ -1,13 +1,17 @@
 //! Token texts, whose tokens represent properties.
 
-ghost use Rattle.std.specs.Prelude.{◌≡◌, ◌++◌, ◌∷◌, ◌+◌, ◌<◌, ◌≤◌, List, length, IfOk, OnOk};
+ghost use Rattle.std.specs.Prelude.{◌≡◌, ◌++◌, ◌+◌, ◌<◌, ◌≤◌, length, map, drop, IfOk, OnOk};
 ghost use Rattle.std.specs.String.{string_bytes};
 ghost use Rattle.decimal_json.specs.View.{tree_of};
+ghost use Rattle.shared_text.specs.Ranges.{IsRest};
 ghost use Rattle.legacy_functions.specs.TokenSize.{token_size, plain_size, size_of, begins_token, any_token};
-ghost use Rattle.legacy_functions.specs.Tokens.{before_brace, token_name, has_tokens, pieces, property_text, piece_expression, property_expression, token_text, token_expression, call};
+ghost use Rattle.legacy_functions.specs.Tokens.{before_brace, token_name, has_tokens, pieces, property_text, piece_expression, property_expression, token_text, token_expression};
 
+use crate::expression::{call, call_one};
+use crate::names::CallNames;
 use decimal_json::{Items, Json, Text};
 use prop_values::to_text;
+use shared_text::Document;
 use std::alloc::{AllocError, Global};
 use tile_reader::Feature;
 
@@ -96,65 +100,98 @@ fn push_property(
 pub fn token_expr(alloc: Global, text: &str) -> Result<Json, AllocError>
     ensures { IfOk result (λ made. tree_of made ≡ token_expression text.now) }
 {
-    let pieces = pieces_of(alloc, text)?;
-    let mut items = Items::with_room(alloc, pieces.len() + 1)?;
-    items.push(Json::Text(Text::copy_of(alloc, "concat")?))?;
-    for piece in pieces.as_slice() {
-        items.push(piece_expression(alloc, piece)?)?;
+    let names = CallNames::of(alloc)?;
+    pieces_expression(alloc, &names, text)
+}
+
+/// The expression of a token text. The texts of its pieces are ranges of one copy of the text.
+pub(crate) fn pieces_expression(
+    alloc: Global,
+    names: &CallNames,
+    text: &str,
+) -> Result<Json, AllocError>
+    ensures { IfOk result (λ made. tree_of made ≡ token_expression text.now) }
+{
+    let document = Document::copy_of(alloc, text.as_bytes())?;
+    let mut items = call(alloc, names.concat(), piece_count(text.as_bytes()))?;
+    let mut rest = text;
+    while rest.len() > 0 {
+        rest = push_piece(alloc, names, &mut items, &document, rest)?;
     }
     Ok(Json::List(items))
 }
 
-fn piece_expression(alloc: Global, piece: &TokenPiece) -> Result<Json, AllocError>
-    ensures { IfOk result (λ made. tree_of made ≡ piece_expression piece.now) }
+// How many pieces a text has.
+fn piece_count(bytes: &[u8]) -> usize
+    ensures { result ≡ length (pieces bytes.now) }
+{
+    let mut count = 0;
+    let mut rest = bytes;
+    while rest.len() > 0 {
+        rest = &rest[first_length(rest)..];
+        count += 1;
+    }
+    count
+}
+
+// How many bytes the first piece of a text has.
+fn first_length(bytes: &[u8]) -> usize
+    requires { 0 < length bytes.now }
+    ensures some { 0 < result }
+    ensures within { result ≤ length bytes.now }
+    ensures one { length (pieces bytes.now) ≡ length (pieces (drop result bytes.now)) + 1 }
+{
+    let size = token_length(bytes);
+    if size > 0 { size } else { plain_length(bytes) }
+}
+
+// Adds the expression of the first piece of what is left of a text, and gives the text after it.
+fn push_piece<'a>(
+    alloc: Global,
+    names: &CallNames,
+    items: &mut Items,
+    document: &Document,
+    rest: &'a str,
+) -> Result<&'a str, AllocError>
+    requires some { 0 < length rest.now }
+    requires left { IsRest rest.now document.now }
+    ensures pieces { IfOk result (λ later. items.new ++ map piece_expression (pieces later.now)
+        ≡ items.old ++ map piece_expression (pieces rest.now)) }
+    ensures shorter { IfOk result (λ later. length later.now < length rest.now) }
+    ensures left { IfOk result (λ later. IsRest later.now document.now) }
+{
+    let bytes = rest.as_bytes();
+    let size = token_length(bytes);
+    if size > 0 {
+        let name = Text::of_rest(document, &bytes[1..], size - 2)?;
+        items.push(piece_expression(alloc, names, TokenPiece::Token(name))?)?;
+        Ok(&rest[size..])
+    } else {
+        let size = plain_length(bytes);
+        let part = Text::of_rest(document, bytes, size)?;
+        items.push(piece_expression(alloc, names, TokenPiece::Plain(part))?)?;
+        Ok(&rest[size..])
+    }
+}
+
+fn piece_expression(alloc: Global, names: &CallNames, piece: TokenPiece) -> Result<Json, AllocError>
+    ensures { IfOk result (λ made. tree_of made ≡ piece_expression piece) }
 {
     match piece {
-        TokenPiece::Plain(part) => Ok(Json::Text(part.share()?)),
-        TokenPiece::Token(name) => property_expression(alloc, name),
+        TokenPiece::Plain(part) => Ok(Json::Text(part)),
+        TokenPiece::Token(name) => call_one(alloc, names.get(), Json::Text(name)),
     }
 }
 
 /// `get` of a property.
-pub(crate) fn property_expression(alloc: Global, name: &Text) -> Result<Json, AllocError>
+pub(crate) fn property_expression(
+    alloc: Global,
+    names: &CallNames,
+    name: &Text,
+) -> Result<Json, AllocError>
     ensures { IfOk result (λ made. tree_of made ≡ property_expression name.now) }
 {
-    let mut items = Items::with_room(alloc, 2)?;
-    items.push(Json::Text(Text::copy_of(alloc, "get")?))?;
-    items.push(Json::Text(name.share()?))?;
-    Ok(Json::List(items))
-}
-
-// The pieces of a text from the left.
-fn pieces_of(alloc: Global, text: &str) -> Result<Vec<TokenPiece>, AllocError>
-    ensures { IfOk result (λ made. made.items ≡ pieces text.now) }
-{
-    let mut made = Vec::new(alloc);
-    let mut rest = text;
-    while rest.len() > 0 {
-        rest = push_piece(alloc, &mut made, rest)?;
-    }
-    Ok(made)
-}
-
-// Adds the first piece of a text, and gives the text after it.
-fn push_piece<'a>(
-    alloc: Global,
-    made: &mut Vec<TokenPiece>,
-    rest: &'a str,
-) -> Result<&'a str, AllocError>
-    requires { 0 < length rest.now }
-    ensures pieces { IfOk result (λ later. made.new.items ++ pieces later.now ≡ made.old.items ++ pieces rest.now) }
-    ensures shorter { IfOk result (λ later. length later.now < length rest.now) }
-{
-    let size = token_length(rest.as_bytes());
-    if size > 0 {
-        made.push(TokenPiece::Token(Text::copy_of(alloc, &rest[1..size - 1])?))?;
-        Ok(&rest[size..])
-    } else {
-        let size = plain_length(rest.as_bytes());
-        made.push(TokenPiece::Plain(Text::copy_of(alloc, &rest[..size])?))?;
-        Ok(&rest[size..])
-    }
+    call_one(alloc, names.get(), Json::Text(name.share()?))
 }
 
 // How many bytes are before the first token.

@@ -38,7 +38,7 @@ pub(crate) fn zoomed_stops(
     ensures { IfOk result (λ found. option_map (λ v. map zoomed_stop_seen v.items) found
         ≡ zoomed_stops (map placed_stop_seen stops.items)) }
 {
-    let mut zoomed = Vec::new(alloc);
+    let mut zoomed = Vec::with_capacity(alloc, stops.len())?;
     for placed in stops {
         let PlacedStop { zoom, stop } = placed;
         let Some(zoom) = zoom else {
@@ -175,7 +175,7 @@ fn put_first(alloc: Global, groups: &mut Vec<ZoomGroup>, stop: ZoomedStop) -> Re
         ≡ map group_seen groups.old.items ++ new_group (zoomed_stop_seen stop) ∷ []) }
 {
     let ZoomedStop { zoom, stop } = stop;
-    let mut stops = Vec::new(alloc);
+    let mut stops = Vec::with_capacity(alloc, 1)?;
     stops.push(stop)?;
     groups.push(ZoomGroup { zoom, stops })?;
     Ok(())
@@ -192,7 +192,7 @@ fn rules_form(
         option_map (λ v. map (zoom_rule_seen (way_seen_for found.now)) v.items) rules
         ≡ rules_form (way_read found.now) (map group_seen groups.items)) }
 {
-    let mut rules = Vec::new(alloc);
+    let mut rules = Vec::with_capacity(alloc, groups.len())?;
     for group in groups {
         let ZoomGroup { zoom, stops } = group;
         match rule_form(alloc, stops, found)? {
