@@ -3,14 +3,17 @@
 ghost use Rattle.std.specs.Prelude.{◌≡◌, [], Some, option_map, IfOk};
 ghost use Rattle.decimal_json.specs.View.{tree_of};
 ghost use Rattle.property_tables.specs.RowView.{row_seen};
+ghost use Rattle.expr_syntax.specs.Reading.{reading};
+ghost use Rattle.expr_syntax.specs.ReadView.{reading_of};
 ghost use Rattle.legacy_functions.specs.Form.{form};
+ghost use Rattle.legacy_functions.specs.ToExpression.{function_expression};
 ghost use Rattle.legacy_functions.specs.View.{function_of, row_of};
 ghost use Rattle.style_rules.specs.CodeView.{judged_mark};
-ghost use Rattle.style_rules.specs.Values.{value_mark, literal_mark, expression_mark, rule_of, function_mark, function_reads, faults_reports};
+ghost use Rattle.style_rules.specs.Values.{value_mark, literal_mark, read_mark, expression_mark, rule_of, function_mark, function_reads, faults_reports};
 
 use crate::diagnostics::Mark;
 use decimal_json::{Json, Path};
-use expr_syntax::{Reading, read_expr};
+use expr_syntax::{Reading, SynFault, read_expr};
 use expr_types::{TypeCode, TypeFault, Typed, check};
 use legacy_functions::{Function, FunctionReading, read};
 use prop_values::{FaultSet, Want};
@@ -47,7 +50,6 @@ fn literal_mark(alloc: Global, row: &Row, json: &Json) -> Result<Mark, AllocErro
 }
 
 /// What is reported of an expression, as the value of a row, or as a filter where there is none.
-#[tactic(auto, using(crate::proofs::ValueLaws::judged_typed))]
 pub(crate) fn expression_mark(
     alloc: Global,
     want: &Want,
@@ -56,7 +58,21 @@ pub(crate) fn expression_mark(
 ) -> Result<Mark, AllocError>
     ensures { IfOk result (λ mark. mark ≡ expression_mark want.now (option_map (λ r. row_seen r.now) row.entry) (tree_of json.now)) }
 {
-    match read_expr(alloc, json)? {
+    let read = read_expr(alloc, json)?;
+    read_mark(alloc, want, row, read)
+}
+
+// What is reported of what an expression reads as.
+#[tactic(auto, using(crate::proofs::ValueLaws::judged_typed))]
+fn read_mark(
+    alloc: Global,
+    want: &Want,
+    row: Option<&Row>,
+    read: Result<Reading, SynFault>,
+) -> Result<Mark, AllocError>
+    ensures { IfOk result (λ mark. mark ≡ read_mark want.now (option_map (λ r. row_seen r.now) row.entry) (reading_of read)) }
+{
+    match read {
         Ok(Reading::Inside(expression)) => { Ok(typed_mark(check(alloc, &expression, want, row)?)) }
         Ok(Reading::Outside) => Ok(Mark::Outside),
         Err(fault) => Ok(Mark::Broken(fault.path, 16)),
@@ -88,23 +104,40 @@ fn function_mark(alloc: Global, row: &Row, json: &Json) -> Result<Mark, AllocErr
     ensures { IfOk result (λ mark. mark ≡ function_mark (row_seen row.now) (form (row_seen row.now) (tree_of json.now))) }
 {
     match read(alloc, json, row)? {
-        Ok(FunctionReading::Inside(function)) => inside_mark(alloc, row, &function),
+        Ok(FunctionReading::Inside(function)) => inside_mark(alloc, row, function),
         Ok(FunctionReading::Outside) => Ok(Mark::Outside),
         Err(_) => Ok(broken(alloc, 19)),
     }
 }
 
-/// A function reads what its row may, and may have the faults of its expression.
-fn inside_mark(alloc: Global, row: &Row, function: &Function) -> Result<Mark, AllocError>
-    requires { row_of function.now ≡ row_seen row.now }
-    ensures { IfOk result (λ mark. mark ≡ function_mark (row_seen row.now) (Some (Some (function_of function.now)))) }
+/// A function reads what its row may, and may have the faults of its expression. The function is freed before
+/// its expression is read, and the expression's JSON before it is checked: each is many times as large as the
+/// function's text.
+fn inside_mark(alloc: Global, row: &Row, function: Function) -> Result<Mark, AllocError>
+    requires { row_of function ≡ row_seen row.now }
+    ensures { IfOk result (λ mark. mark ≡ function_mark (row_seen row.now) (Some (Some (function_of function)))) }
 {
-    if !reads_allowed(row, function) {
+    if !reads_allowed(row, &function) {
         return Ok(broken(alloc, 17));
     }
-    let expression = function.to_expr(alloc)?;
-    let mark = expression_mark(alloc, &row.want, Some(row), &expression)?;
+    let json = function_json(alloc, function)?;
+    let read = read_json(alloc, json)?;
+    let mark = read_mark(alloc, &row.want, Some(row), read)?;
     Ok(Mark::Sound(faults_reports(&mark)))
+}
+
+// The expression of a function, which is freed.
+fn function_json(alloc: Global, function: Function) -> Result<Json, AllocError>
+    ensures { IfOk result (λ json. tree_of json ≡ function_expression (row_of function) (function_of function)) }
+{
+    function.to_expr(alloc)
+}
+
+// What JSON reads as, which is freed.
+fn read_json(alloc: Global, json: Json) -> Result<Result<Reading, SynFault>, AllocError>
+    ensures { IfOk result (λ read. reading_of read ≡ reading (tree_of json)) }
+{
+    read_expr(alloc, &json)
 }
 
 fn reads_allowed(row: &Row, function: &Function) -> bool
