@@ -192,7 +192,7 @@ fn rules_form(
         option_map (λ v. map (zoom_rule_seen (way_seen_for found.now)) v.items) rules
         ≡ rules_form (way_read found.now) (map group_seen groups.items)) }
 {
-    let mut rules = Vec::with_capacity(alloc, groups.len())?;
+    let mut rules = Vec::new(alloc);
     for group in groups {
         let ZoomGroup { zoom, stops } = group;
         match rule_form(alloc, stops, found)? {
