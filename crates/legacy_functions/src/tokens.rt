@@ -114,11 +114,26 @@ pub(crate) fn pieces_expression(
 {
     let document = Document::copy_of(alloc, text.as_bytes())?;
     let mut items = call(alloc, names.concat(), piece_count(text.as_bytes()))?;
+    push_pieces(alloc, names, &mut items, &document, text)?;
+    Ok(Json::List(items))
+}
+
+// Adds the expressions of the pieces of what is left of a text.
+fn push_pieces(
+    alloc: Global,
+    names: &CallNames,
+    items: &mut Items,
+    document: &Document,
+    text: &str,
+) -> Result<(), AllocError>
+    requires { IsRest text.now document.now }
+    ensures { OnOk result (items.new ≡ items.old ++ map piece_expression (pieces text.now)) }
+{
     let mut rest = text;
     while rest.len() > 0 {
-        rest = push_piece(alloc, names, &mut items, &document, rest)?;
+        rest = push_piece(alloc, names, items, document, rest)?;
     }
-    Ok(Json::List(items))
+    Ok(())
 }
 
 // How many pieces a text has.
