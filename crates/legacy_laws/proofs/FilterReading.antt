@@ -15,6 +15,7 @@ use Rattle.expr_syntax.specs.declared.fault.SynFault.{SynFault}
 use Rattle.expr_syntax.specs.declared.rows.ElementLayout.TheVariants.{Arguments}
 use Rattle.expr_syntax.specs.declared.rows.ElementPlace.TheVariants.{Part, Argument}
 use Rattle.expr_syntax.specs.Elements.{Element}
+use Rattle.expr_syntax.specs.ReadView.{uses_globals}
 use Rattle.expr_syntax.specs.Reading.{Read, Reader, read, options, elements, Reading, number_read, data_read, and_term, arguments}
 use Rattle.expr_syntax.specs.Reading.{then_node, is_part, inside, at, reading_with, fault}
 use Rattle.expr_syntax.specs.declared.fault.SynCode.TheVariants as code
@@ -392,6 +393,9 @@ walks_agree v w h sought = λ i. h i sought true
 
 pub outside_nowhere : (t : Tree) → stands t ≡ nowhere → is_outside t ≡ false
 outside_nowhere t h = walks_agree (stands t) nowhere h _
+
+pub globals_nowhere : (t : Tree) → stands t ≡ nowhere → uses_globals t ≡ false
+globals_nowhere t h = walks_agree (stands t) nowhere h _
 
 pub filter_reading : (f : Filter) → IsSound f → (globals_at : List (List ℕ × values.Data))
     → reading_with (expression f) globals_at ≡ Ok (Some (filter_term f))

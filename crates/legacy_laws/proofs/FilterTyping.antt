@@ -33,7 +33,8 @@ use Rattle.legacy_filters.specs.declared.filter.Test.{Test}
 use Rattle.legacy_filters.specs.declared.filter.Test.TheVariants.{Has, HasNot, Equal, NotEqual, Ordered, Among, NotAmong}
 use Rattle.legacy_filters.specs.Filter.{Filter, flag, test, group, Filters, no_filters, filter}
 use Rattle.legacy_filters.specs.Scalars.{scalar_data}
-use Rattle.legacy_laws.specs.LegacyFilterLaw.{is_order_of, is_order, has_order, some_order}
+use Rattle.legacy_filters.specs.AskedParts.{is_order_of}
+use Rattle.legacy_laws.specs.LegacyFilterLaw.{is_order, has_order, some_order}
 use Rattle.legacy_laws.proofs.FilterTerms.{one_term, two_terms, value_term, has_term, order_operator, guarded_term}
 use Rattle.legacy_laws.proofs.FilterTerms.{order_term, among_term, test_term, filter_term, filter_terms}
 use Rattle.legacy_laws.proofs.SoundFilters.{IsScalarOf, IsOrderedOf, IsTestOf, IsSound, AreSound}

@@ -11,6 +11,7 @@ use Rattle.expr_syntax.specs.declared.expression.Operator.TheVariants as operato
 use Rattle.expr_syntax.specs.declared.world_parts.Mentions.{Mentions}
 use Rattle.expr_syntax.specs.Mentioned.{nothing, either, of_operator, count, mentions, all_mentions}
 use Rattle.expr_syntax.specs.Term.{Term, literal, node, terms_of}
+use Rattle.legacy_functions.specs.AskedParts.{asks_input, body_asks_zoom, output_asks_feature, outputs_ask_feature, stops_ask_feature}
 use Rattle.legacy_functions.specs.Function.{Spelled, Input, Output, literal as literal_output, tokens, Way, even, curved, stepped}
 use Rattle.legacy_functions.specs.Function.{PropertyRule, numeric, categorical, Body, plain, zoomed, identity}
 use Rattle.legacy_functions.specs.Meaning.{zoom_way}
@@ -18,7 +19,6 @@ use Rattle.legacy_functions.specs.ToExpression.{form_name}
 use Rattle.legacy_functions.specs.Tokens.{pieces, is_token, has_tokens}
 use Rattle.legacy_functions.proofs.PieceViews.{Part, part_of, parts}
 use Rattle.legacy_functions.proofs.SoundRules.{AreRulesOf, IsRuleOf, IsBodyOf}
-use Rattle.legacy_laws.specs.LegacyFunctionLaw.{asks_input, asks_zoom, output_asks_feature, outputs_ask_feature}
 use Rattle.legacy_laws.proofs.FilterTerms.{one_term, kind_term}
 use Rattle.legacy_laws.proofs.FunctionTerms.{property_term, part_term, token_term, output_term, default_term}
 use Rattle.legacy_laws.proofs.FunctionTerms.{TermBranches, branch_inputs, branch_terms, way_curve, ramp_term, step_term, way_term}
@@ -116,8 +116,7 @@ stops_still : (ss : List (Spelled × Output)) → AreStill (branch_terms (stop_t
 stops_still [] = tt
 stops_still (s ∷ ss) = (output_still s.1, stops_still ss)
 
-stops_ask : (ss : List (Spelled × Output))
-    → some_feature (branch_terms (stop_terms ss)) ≡ list_any (λ (s : Spelled × Output). output_asks_feature s.1) ss
+stops_ask : (ss : List (Spelled × Output)) → some_feature (branch_terms (stop_terms ss)) ≡ stops_ask_feature ss
 stops_ask [] = refl
 stops_ask (s ∷ ss) =
     let one = output_asks s.1 in
@@ -262,7 +261,7 @@ module _ (default : Term) (k : IsStill default) where
       way_mentions way (stop_terms ss) (stops_still ss) ∙ (λ i. seen (input i) (asked i))
 
   abbrev mentioned : RowData → Option (List ℕ) → Body → Mentions
-  mentioned row property body = seen (asks_zoom row property body) (is_some property || outputs_ask_feature body)
+  mentioned row property body = seen (body_asks_zoom row property body) (is_some property || outputs_ask_feature body)
 
   pub body_mentions : (row : RowData) (property : Option (List ℕ)) (body : Body) → IsBodyOf row body → GoesBy property body
       → mentions (body_term row default property body) ≡ mentioned row property body

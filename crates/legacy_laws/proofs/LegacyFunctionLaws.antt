@@ -17,6 +17,8 @@ use Rattle.legacy_functions.proofs.SoundFunctions.{read_is_sound}
 use Rattle.legacy_laws.specs.LegacyFunctionLaw.{GivesAlways, ExpressionsMeanTheirFunctions, function_mentions}
 use Rattle.legacy_laws.specs.LegacyFunctionLaw.{MigratedFunctionsAreTyped, MigratedTokenTextsAreTyped}
 use Rattle.legacy_laws.specs.LegacyFunctionLaw.{MigratedFunctionsMentionTheSame, MigratedTokenTextsMentionTheFeature}
+use Rattle.legacy_laws.specs.LegacyFunctionLaw.{MigratedFunctionsUseNoGlobals, MigratedTokenTextsUseNoGlobals}
+use Rattle.legacy_laws.proofs.FilterReading.{globals_nowhere}
 use Rattle.legacy_laws.proofs.FunctionTerms.{default_term, function_term, token_term}
 use Rattle.legacy_laws.proofs.TableRows.{table_rows}
 use Rattle.legacy_laws.proofs.TokenLaws.{reads_always, read_tokens}
@@ -97,3 +99,10 @@ token_texts_mention s e values is =
     let same_reading : Ok (Some x) ≡ Ok (Some e) = sym reads ∙ is in
     let same : x ≡ e = cc in
     subst (λ y. mentions y ≡ record nothing { feature = has_tokens s }) same (tokens_mention s)
+
+pub functions_use_no_globals : MigratedFunctionsUseNoGlobals
+functions_use_no_globals row t f of_table read =
+    globals_nowhere (function_expression row f) (read_function row (table_rows row of_table) f (read_is_sound row t f read)).inside
+
+pub token_texts_use_no_globals : MigratedTokenTextsUseNoGlobals
+token_texts_use_no_globals s = globals_nowhere (token_expression s) (read_tokens s).inside

@@ -3,6 +3,7 @@ pub mod SoundFilters
 pub mod FilterReading
 pub mod FilterMeaning
 pub mod FilterTyping
+pub mod FilterMentions
 pub mod LegacyFilterLaws
 pub mod FunctionTerms
 pub mod FunctionReading

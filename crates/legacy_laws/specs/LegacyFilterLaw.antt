@@ -6,6 +6,8 @@ use Rattle.prop_values.specs.declared.fault.EvalFault.TheVariants.{NotOrdered}
 use Rattle.prop_values.specs.declared.kinds.Kind.TheVariants as kinds
 use Rattle.prop_values.specs.declared.kinds.Want.TheVariants as wants
 use Rattle.tile_reader.specs.declared.tile.Feature.{Feature}
+use Rattle.expr_syntax.specs.Mentioned.{nothing, mentions}
+use Rattle.expr_syntax.specs.ReadView.{uses_globals}
 use Rattle.expr_syntax.specs.Reading.{reading_with}
 use Rattle.expr_syntax.specs.Term.{Term}
 use Rattle.expr_types.specs.Checked.{checked}
@@ -15,8 +17,7 @@ use Rattle.eval_face.specs.Meaning.{mean}
 use Rattle.eval_face.specs.World.{feature_world}
 use Rattle.legacy_filters.specs.declared.filter.Test.{Test}
 use Rattle.legacy_filters.specs.declared.filter.Test.TheVariants.{Ordered}
-use Rattle.legacy_filters.specs.declared.scalars.Scalar.{Scalar}
-use Rattle.legacy_filters.specs.declared.scalars.Scalar.TheVariants.{Flag, Number, Text}
+use Rattle.legacy_filters.specs.AskedParts.{asks_feature, is_order_of}
 use Rattle.legacy_filters.specs.Filter.{Filter, flag, test, group, Filters, no_filters, filter}
 use Rattle.legacy_filters.specs.Form as legacy
 use Rattle.legacy_filters.specs.Meaning.{passes}
@@ -42,12 +43,7 @@ ExpressionsMeanTheirFilters =
 
 -- ---- types
 
--- an order with a number or a text; nothing is ordered with a boolean, so that the expression is `false`
-abbrev pub is_order_of : Scalar → Bool
-is_order_of (Flag b) = false
-is_order_of (Number n z) = true
-is_order_of (Text s) = true
-
+-- an order with a number or a text; with a boolean the expression is `false`
 abbrev pub is_order : Test → Bool
 is_order (Ordered order v) = is_order_of v
 is_order t = false
@@ -73,6 +69,20 @@ MigratedFiltersAreTyped =
     (e : Term) (values : List (List ℕ × Data)) → reading_with (expression f) values ≡ Ok (Some e) →
     (found : TypedNodes) × (checked e wants.Boolean None ≡ Ok found) × (found.node.kind ≡ kinds.Boolean)
     × (found.node.may ≡ faults_if (has_order f) NotOrdered)
+
+-- ---- what is read of the world
+
+-- The expression of a filter that was read mentions the feature where the filter asks for it, and nothing
+-- else.
+abbrev pub MigratedFiltersMentionTheFeature : Type 0
+MigratedFiltersMentionTheFeature =
+    (t : Tree) (f : Filter) → legacy.reading t ≡ Ok f →
+    (e : Term) (values : List (List ℕ × Data)) → reading_with (expression f) values ≡ Ok (Some e) →
+    mentions e ≡ record nothing { feature = asks_feature f }
+
+-- It has no node of the global state.
+abbrev pub MigratedFiltersUseNoGlobals : Type 0
+MigratedFiltersUseNoGlobals = (t : Tree) (f : Filter) → legacy.reading t ≡ Ok f → uses_globals (expression f) ≡ false
 
 -- ---- migrating again
 

@@ -1,7 +1,5 @@
 -- A legacy function and its expression say the same, and so do a token text and its expression. Source: own.
-use Rattle.std.specs.Prelude.{◌≡◌, ℕ, ℤ, List, [], ◌∷◌, Bool, true, false, ◌||◌}
-use Rattle.std.specs.Prelude.{Option, Some, None, is_some, Ok}
-use Rattle.std.specs.List.{list_any}
+use Rattle.std.specs.Prelude.{◌≡◌, ℕ, ℤ, List, [], Bool, true, false, Some, is_some, Ok}
 use Rattle.decimal_json.specs.Tree.{Tree}
 use Rattle.prop_values.specs.Data.{Data, text}
 use Rattle.prop_values.specs.declared.kinds.Want.{Want}
@@ -11,6 +9,7 @@ use Rattle.property_tables.specs.declared.layer_type.LayerType.{LayerType}
 use Rattle.property_tables.specs.declared.property_row.Place.{Place}
 use Rattle.tile_reader.specs.declared.tile.Feature.{Feature}
 use Rattle.expr_syntax.specs.Mentioned.{nothing, mentions}
+use Rattle.expr_syntax.specs.ReadView.{uses_globals}
 use Rattle.expr_syntax.specs.Reading.{reading_with}
 use Rattle.expr_syntax.specs.Term.{Term}
 use Rattle.expr_syntax.specs.declared.world_parts.Mentions.{Mentions}
@@ -19,11 +18,10 @@ use Rattle.expr_types.specs.Typing.{TypedNodes}
 use Rattle.operator_values.specs.Evaluated.{Evaluated}
 use Rattle.eval_face.specs.Meaning.{mean}
 use Rattle.eval_face.specs.World.{feature_world}
-use Rattle.legacy_functions.specs.Function.{Spelled, Output, literal, tokens, Way, even, curved, stepped}
-use Rattle.legacy_functions.specs.Function.{PropertyRule, numeric, categorical, Body, plain, zoomed, identity}
-use Rattle.legacy_functions.specs.Function.{Function, has_zooms}
+use Rattle.legacy_functions.specs.AskedParts.{asks_feature, asks_zoom}
 use Rattle.legacy_functions.specs.Form as legacy
-use Rattle.legacy_functions.specs.Meaning.{value_of, zoom_way}
+use Rattle.legacy_functions.specs.Function.{Function, has_zooms}
+use Rattle.legacy_functions.specs.Meaning.{value_of}
 use Rattle.legacy_functions.specs.ToExpression.{function_expression}
 use Rattle.legacy_functions.specs.Tokens.{has_tokens, token_text, token_expression}
 
@@ -86,45 +84,12 @@ MigratedTokenTextsAreTyped =
 
 -- ---- what is read of the world
 
-abbrev pub has_several : {A : Type 0} → List A → Bool
-has_several (x ∷ y ∷ zs) = true
-has_several xs = false
-
--- Whether stops ask for their input. Steps with one stop do not: its output is the result for each input.
-abbrev pub asks_input : {A : Type 0} → Way → List A → Bool
-asks_input even stops = true
-asks_input (curved base) stops = true
-asks_input stepped stops = has_several stops
-
--- one rule is over the zoom where there is no property
-abbrev pub rule_asks_zoom : Option (List ℕ) → PropertyRule → Bool
-rule_asks_zoom (Some name) rule = false
-rule_asks_zoom None (numeric way stops) = asks_input way stops
-rule_asks_zoom None (categorical stops) = false
-
-abbrev pub asks_zoom : RowData → Option (List ℕ) → Body → Bool
-asks_zoom row property (plain rule) = rule_asks_zoom property rule
-asks_zoom row property (zoomed rules) = asks_input (zoom_way row) rules
-asks_zoom row property identity = false
-
--- an output asks for the feature where it is a text that has tokens
-abbrev pub output_asks_feature : Output → Bool
-output_asks_feature (literal t d) = false
-output_asks_feature (tokens s) = has_tokens s
-
--- a function without a property has one rule over numbers, which gives what its outputs say, never the
--- default
-abbrev pub outputs_ask_feature : Body → Bool
-outputs_ask_feature (plain (numeric way stops)) =
-    list_any (λ (s : Spelled × Output). output_asks_feature s.1) stops
-outputs_ask_feature body = false
-
 -- What a function mentions of the world: the zoom where its stops ask for it, and the feature where it has a
 -- property or an output that asks for it; never the state of the feature, nor the images.
 abbrev pub function_mentions : RowData → Function → Mentions
 function_mentions row f = record {
-  zoom = asks_zoom row f.property f.body;
-  feature = is_some f.property || outputs_ask_feature f.body;
+  zoom = asks_zoom row f;
+  feature = asks_feature f;
   state = false;
   image = false;
 }
@@ -144,3 +109,13 @@ MigratedTokenTextsMentionTheFeature =
     (s : List ℕ) (e : Term) (values : List (List ℕ × Data)) →
     reading_with (token_expression s) values ≡ Ok (Some e) →
     mentions e ≡ record nothing { feature = has_tokens s }
+
+-- No expression of a function that was read, nor of a token text, has a node of the global state.
+abbrev pub MigratedFunctionsUseNoGlobals : Type 0
+MigratedFunctionsUseNoGlobals =
+    (row : RowData) (t : Tree) (f : Function) → IsTableRow row →
+    legacy.form row t ≡ Some (Some f) →
+    uses_globals (function_expression row f) ≡ false
+
+abbrev pub MigratedTokenTextsUseNoGlobals : Type 0
+MigratedTokenTextsUseNoGlobals = (s : List ℕ) → uses_globals (token_expression s) ≡ false

@@ -1,8 +1,10 @@
 //! What the definitions mean, each law on a function that does nothing.
 ghost use Rattle.legacy_laws.specs.LegacyFilterLaw.{ExpressionsMeanTheirFilters, MigratedFiltersAreTyped, MigratedFiltersStay};
+ghost use Rattle.legacy_laws.specs.LegacyFilterLaw.{MigratedFiltersMentionTheFeature, MigratedFiltersUseNoGlobals};
 ghost use Rattle.legacy_laws.specs.LegacyFunctionLaw.{ExpressionsMeanTheirFunctions, TokenExpressionsMeanTheirTexts};
 ghost use Rattle.legacy_laws.specs.LegacyFunctionLaw.{MigratedFunctionsAreTyped, MigratedTokenTextsAreTyped};
 ghost use Rattle.legacy_laws.specs.LegacyFunctionLaw.{MigratedFunctionsMentionTheSame, MigratedTokenTextsMentionTheFeature};
+ghost use Rattle.legacy_laws.specs.LegacyFunctionLaw.{MigratedFunctionsUseNoGlobals, MigratedTokenTextsUseNoGlobals};
 
 use legacy_filters::expressions_are_not_legacy;
 
@@ -18,6 +20,19 @@ pub fn expressions_mean_their_filters()
 #[tactic(auto, using(crate::proofs::LegacyFilterLaws::migrated_filters))]
 pub fn migrated_filters_are_typed()
     ensures { MigratedFiltersAreTyped }
+{}
+
+/// The expression of a filter that was read mentions the feature where the filter asks for it, and nothing
+/// else.
+#[tactic(auto, using(crate::proofs::LegacyFilterLaws::filters_mention))]
+pub fn migrated_filters_mention_the_feature()
+    ensures { MigratedFiltersMentionTheFeature }
+{}
+
+/// The expression of a filter that was read has no node of the global state.
+#[tactic(auto, using(crate::proofs::LegacyFilterLaws::filters_use_no_globals))]
+pub fn migrated_filters_use_no_globals()
+    ensures { MigratedFiltersUseNoGlobals }
 {}
 
 /// Migrating a filter that was migrated changes nothing, since no expression of a filter is a legacy filter.
@@ -62,4 +77,16 @@ pub fn migrated_functions_mention_the_same()
 #[tactic(auto, using(crate::proofs::LegacyFunctionLaws::token_texts_mention))]
 pub fn migrated_token_texts_mention_the_feature()
     ensures { MigratedTokenTextsMentionTheFeature }
+{}
+
+/// The expression of a legacy function of a row has no node of the global state.
+#[tactic(auto, using(crate::proofs::LegacyFunctionLaws::functions_use_no_globals))]
+pub fn migrated_functions_use_no_globals()
+    ensures { MigratedFunctionsUseNoGlobals }
+{}
+
+/// The expression of a token text has no node of the global state.
+#[tactic(auto, using(crate::proofs::LegacyFunctionLaws::token_texts_use_no_globals))]
+pub fn migrated_token_texts_use_no_globals()
+    ensures { MigratedTokenTextsUseNoGlobals }
 {}
