@@ -16,3 +16,5 @@ pub mod BorrowedLaws
 pub mod SumLaws
 pub mod SearchLaws
 pub mod BoxedLaws
+pub mod FilledLaws
+pub mod TurnLaws

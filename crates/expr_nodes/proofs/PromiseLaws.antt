@@ -99,7 +99,7 @@ promises_length (binding ∷ bindings) before world =
     let q = length_last before own in
     omega arith
 
-promises_both : (before : List Evaluated) (bindings later : List Node) (world : World) →
+pub promises_both : (before : List Evaluated) (bindings later : List Node) (world : World) →
     promises_after before (bindings ++ later) world
     ≡ promises_after (promises_after before bindings world) later world
 promises_both before [] later world = refl

@@ -13,4 +13,5 @@ pub mod Searched
 pub mod Boxed
 pub mod MovedInput
 pub mod Slots
+pub mod Filled
 pub mod EvaluatesNode

@@ -16,7 +16,9 @@ use prop_values::{EvalFault, Value, Want};
 pub enum NodeForm<'a> {
     /// A literal that is fitted already.
     Constant(&'a Value),
-    /// A literal that cannot be fitted.
+    /// A value that is known already, and what it is wanted as.
+    Given(&'a Value, Want),
+    /// A literal that cannot be fitted, or a fault that is known already.
     Faulty(EvalFault),
     /// The binding of a number, and what it is wanted as.
     Asked(usize, Want),

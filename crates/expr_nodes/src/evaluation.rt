@@ -1,10 +1,11 @@
-//! The value of a node. Each binding is evaluated when it is first asked for, and never again.
+//! The value of a node. Each of a few bindings is evaluated when it is first asked for, and never again.
 
 ghost use Rattle.std.specs.Prelude.{◌≡◌, ◌<◌, ◌≤◌, ◌+◌, [], length, false, IfOk};
 ghost use Rattle.eval_face.specs.Meaning.{node_meaning};
 ghost use Rattle.eval_face.specs.Rules.{rule_of};
 ghost use Rattle.property_tables.specs.Fitting.{fit};
-ghost use Rattle.operator_values.specs.Evaluated.{GivesValue, then_value};
+ghost use Rattle.operator_values.specs.Evaluated.{Evaluated, GivesValue, then_value};
+ghost use Rattle.prop_values.specs.ViewParts.{evaluated_of};
 ghost use Rattle.expr_nodes.specs.Node.{children, size, total_size};
 ghost use Rattle.expr_nodes.specs.Outcome.{outcome, promises};
 ghost use Rattle.expr_nodes.specs.Limits.{AsksBelow, EachAsksBelow, AskEarlier, has_names};
@@ -18,12 +19,13 @@ use expr_syntax::Operator;
 use operator_rules::{OperatorRule, WorldView, fitted, fitted_copy, rule_of};
 use operator_values::Halt;
 use outside_io::Steps;
-use prop_values::{Value, Want};
+use prop_values::{EvalFault, Value, Want};
+use std::alloc::AllocError;
 use std::sync::ledger::Ledger;
 
-/// How many bindings are evaluated inside one another at most. With no bound a hostile expression would overflow the
-/// stack. A deeper evaluation ends as one does for which there is no memory.
-const MOST_OPEN: u8 = 64;
+/// So many bindings are evaluated where they are first asked for, each inside of the evaluation that asks, so that no
+/// more are open at once. More are evaluated in turn: with no bound a hostile expression would overflow the stack.
+const FEW: usize = 4;
 
 /// What a node is evaluated in: the bindings, the world, and the number below which bindings are asked for.
 #[derive(Drop)]
@@ -31,13 +33,11 @@ pub(crate) struct Surroundings<'x, B, W> {
     pub(crate) bindings: &'x B,
     pub(crate) world: &'x W,
     pub(crate) limit: usize,
-    /// How many more bindings are evaluated inside one another at most.
-    pub(crate) open_left: u8,
 }
 
 /// The value of a node, with its bindings, in a world. At least one step is counted, and at most as many as
-/// all of them have nodes: a binding is evaluated at most once, and only where it is asked for. What the workspace
-/// holds before does not matter.
+/// all of them have nodes: a binding is evaluated at most once, and one of few only where it is asked for. What the
+/// workspace holds before does not matter.
 pub fn evaluate<N: NodeHandle, B: Bindings<N>, W: WorldView, L: Ledger>(
     workspace: &mut Workspace,
     tree: N,
@@ -53,6 +53,9 @@ pub fn evaluate<N: NodeHandle, B: Bindings<N>, W: WorldView, L: Ledger>(
     ensures most { steps.new ≤ steps.old + size (N.node tree) + total_size (B.listed bindings.now) }
 {
     let limit = bindings.count();
+    if limit > FEW {
+        return workspace.evaluate_in_turn(tree, bindings, world, steps);
+    }
     let Ok(()) = workspace.begin(limit) else {
         steps.tick();
         return Err(Halt::NoMemory);
@@ -61,9 +64,21 @@ pub fn evaluate<N: NodeHandle, B: Bindings<N>, W: WorldView, L: Ledger>(
         bindings: &*bindings,
         world: &*world,
         limit,
-        open_left: MOST_OPEN,
     };
     workspace.evaluate_node(tree, &around, steps)
+}
+
+/// What an evaluation gave, a value or a fault, unless an allocation failed.
+pub fn value_or_fault(
+    evaluated: Result<Value, Halt>,
+) -> Result<Result<Value, EvalFault>, AllocError>
+    ensures { IfOk result (λ given. (meant : Evaluated) → GivesValue evaluated meant → meant ≡ evaluated_of given) }
+{
+    match evaluated {
+        Ok(value) => Ok(Ok(value)),
+        Err(Halt::Fault(fault)) => Ok(Err(fault)),
+        Err(Halt::NoMemory) => Err(AllocError),
+    }
 }
 
 impl Workspace {
@@ -90,6 +105,7 @@ impl Workspace {
         steps.tick();
         match tree.form() {
             NodeForm::Constant(value) => fitted_copy(self.alloc, value, &Want::Any),
+            NodeForm::Given(value, want) => fitted_copy(self.alloc, value, &want),
             NodeForm::Faulty(fault) => Err(Halt::Fault(fault)),
             NodeForm::Asked(slot, want) => self.evaluate_asked::<N, B, W, L>(
                 slot, &want, around, steps,
@@ -134,14 +150,10 @@ impl Workspace {
         if let Some(value) = constant_in(&binding) {
             return fitted_copy(self.alloc, value, want);
         }
-        if around.open_left == 0 {
-            return Err(Halt::NoMemory);
-        }
         let inner = Surroundings {
             bindings: &*around.bindings,
             world: &*around.world,
             limit: slot,
-            open_left: around.open_left - 1,
         };
         let value = self.evaluate_node(binding, &inner, steps)?;
         self.keep(slot, &value)?;

@@ -57,6 +57,7 @@ impl Workspace {
     {
         match node.form() {
             NodeForm::Constant(value) => number_in_value(value),
+            NodeForm::Given(value, want) if takes_numbers(&want) => number_in_value(value),
             NodeForm::Asked(slot, want) if takes_numbers(&want) => match self.kept(slot) {
                 Some(value) => number_in_value(value),
                 None => constant_number(&around.bindings.binding(slot)),

@@ -15,7 +15,7 @@ ghost use Rattle.expr_nodes.specs.declared.workspace.PromiseSlot.TheVariants.{Wa
 use expr_syntax::Operator;
 use operator_rules::{WorldView, node_value};
 use operator_values::Halt;
-use prop_values::{Value, Want, copy};
+use prop_values::{EvalFault, Value, Want, copy};
 use std::alloc::{AllocError, Global};
 
 /// What a binding gave when it was asked for, or nothing yet.
@@ -32,6 +32,8 @@ pub struct Workspace {
     pub(crate) alloc: Global,
     /// A slot for each binding.
     pub(crate) slots: Vec<PromiseSlot>,
+    /// What bindings gave that were evaluated in turn.
+    pub(crate) given: Vec<Result<Value, EvalFault>>,
     /// The stack of the values of arguments whose node is not evaluated yet.
     pub(crate) values: Vec<Value>,
 }
@@ -42,6 +44,7 @@ impl Workspace {
         Workspace {
             alloc,
             slots: Vec::new(alloc),
+            given: Vec::new(alloc),
             values: Vec::new(alloc),
         }
     }
@@ -50,8 +53,7 @@ impl Workspace {
     pub(crate) fn begin(&mut self, count: usize) -> Result<(), AllocError>
         ensures { IfOk result (λ _. self.new.slots.items ≡ replicate count Waiting) }
     {
-        empty(&mut self.values);
-        empty(&mut self.slots);
+        self.clear();
         if count == 0 {
             return Ok(());
         }
@@ -60,6 +62,14 @@ impl Workspace {
             self.slots.push(PromiseSlot::Waiting)?;
         }
         Ok(())
+    }
+
+    /// Begins the evaluation of a node that asks for no binding.
+    pub(crate) fn clear(&mut self)
+        ensures { self.new.slots.items ≡ [] }
+    {
+        empty(&mut self.values);
+        empty(&mut self.slots);
     }
 
     /// What a binding gave, where it was asked for.
@@ -108,9 +118,9 @@ impl Workspace {
     }
 }
 
-// Lets go of all items. Most evaluations leave none.
+/// Lets go of all items. Most evaluations leave none.
 #[tactic(auto, using(crate::proofs::SlotLaws::none_there))]
-fn empty<T: Drop>(items: &mut Vec<T>)
+pub(crate) fn empty<T: Drop>(items: &mut Vec<T>)
     ensures { items.new.items ≡ [] }
 {
     if !items.is_empty() {

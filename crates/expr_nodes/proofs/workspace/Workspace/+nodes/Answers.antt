@@ -83,6 +83,16 @@ evaluate_node-returns-in-Constant-clause-all g t c =
     let e = subst F c.in-Constant.is c.form.ensures in
     given 1 (size n) c.requires.ready (ticked c.requires.ready c.tick.ensures) (size_pos n) (subst (GivesValue c.fitted_copy.result) (sym (ap (λ x. outcome x (promises bs world) world) e)) c.fitted_copy.ensures) refl
 
+pub evaluate_node-returns-in-Given-clause-all : goal.evaluate_node-returns-in-Given-clause-all
+evaluate_node-returns-in-Given-clause-all g t c =
+    let n = g.N.NodeHandle.node c.args.tree in
+    let bs = g.B.Bindings.listed c.args.around.now.bindings.now in
+    let world = g.W.WorldView.world c.args.around.now.world.now in
+    let cs = children n in
+    let F : NodeForm → Type 0 = λ f. IsForm f n in
+    let e = subst F c.in-Given.is c.form.ensures in
+    given 1 (size n) c.requires.ready (ticked c.requires.ready c.tick.ensures) (size_pos n) (subst (GivesValue c.fitted_copy-in-Given.result) (sym (ap (λ x. outcome x (promises bs world) world) e)) c.fitted_copy-in-Given.ensures) refl
+
 pub evaluate_node-returns-in-Faulty-clause-all : goal.evaluate_node-returns-in-Faulty-clause-all
 evaluate_node-returns-in-Faulty-clause-all g t c =
     let n = g.N.NodeHandle.node c.args.tree in

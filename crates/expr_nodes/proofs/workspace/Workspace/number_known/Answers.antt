@@ -3,7 +3,8 @@ use Rattle.std.specs.Prelude.{Some}
 use Rattle.std.proofs.lemmas.Option.{IfSome_then}
 use Rattle.prop_values.specs.Data.{Data}
 use Rattle.expr_nodes.specs.NodeForms.{IsForm}
-use Rattle.expr_nodes.specs.Outcome.{promises}
+use Rattle.property_tables.specs.Fitting.{fit}
+use Rattle.expr_nodes.specs.Outcome.{outcome, promises}
 use Rattle.expr_nodes.specs.declared.access.NodeForm.{NodeForm}
 use Rattle.expr_nodes.proofs.BindingParts.{asked_number, constant_asked, slot_within}
 use Rattle.expr_nodes.proofs.NodeLaws.{asked_below}
@@ -14,6 +15,16 @@ kept-requires g c =
     let n = g.N.NodeHandle.node c.args.node.now in
     let F : NodeForm → Type 0 = λ f. IsForm f n in
     slot_within c.in-Asked.slot (asked_below c.args.around.now.limit n c.in-Asked.slot c.in-Asked.want (subst F c.in-Asked.is c.form.ensures) c.requires.below) c.requires.ready
+
+pub returns-in-Given : goal.returns-in-Given
+returns-in-Given g c =
+    let n = g.N.NodeHandle.node c.args.node.now in
+    let bs = g.B.Bindings.listed c.args.around.now.bindings.now in
+    let world = g.W.WorldView.world c.args.around.now.world.now in
+    let F : NodeForm → Type 0 = λ f. IsForm f n in
+    IfSome_then c.number_in_value-in-Given.result c.number_in_value-in-Given.ensures
+    (λ z is. ap (λ x. outcome x (promises bs world) world) (subst F c.in-Given.is c.form.ensures)
+    ∙ (ap (fit c.in-Given.want) is ∙ c.takes_numbers.ensures c.if-takes_numbers.true z))
 
 pub returns-in-Some : goal.returns-in-Some
 returns-in-Some g c =
