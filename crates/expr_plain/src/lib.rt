@@ -16,7 +16,8 @@
 //! for them, and the values of more are on one stack. The recursion is as deep as the expression, and deeper where bindings ask one
 //! another; an evaluation of more than 2,400 nodes inside one another ends as one does for which there is no memory.
 //!
-//! `value` and the folding of `simplify` evaluate by it. Listings evaluate by the counted evaluators of `expr_nodes`.
+//! No command evaluates by it: listings evaluate by the counted evaluators of `expr_nodes`, and `value` and `simplify` by
+//! `expr_once`. The program `node_rows` compares these with it.
 //!
 //! A new operator has its row in `expr_syntax`, its rule in `eval_face` and its line in `operator_rules`. One whose parts decide has a
 //! function here, which `nodes.rt` calls.

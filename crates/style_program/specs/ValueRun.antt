@@ -1,5 +1,5 @@
 -- The run of `value`: the value of an expression, or the fault of its evaluation.
-use Rattle.std.specs.Prelude.{ℕ, pos, List, [], ◌++◌, codes, Bool, Some, None, Result, Ok, Err}
+use Rattle.std.specs.Prelude.{ℕ, pos, List, [], ◌++◌, codes, Bool, Option, Some, None, Result, Ok, Err}
 use Rattle.prop_values.specs.Data.{Data}
 use Rattle.prop_values.specs.Faults.{fault_name}
 use Rattle.prop_values.specs.ValueText.{listed_text}
@@ -41,7 +41,11 @@ module _ (images scripts : List ℕ → Bool) where
   abbrev pub value_run : List ℕ → Run
   value_run text = parses (codes "expr") text (λ t. ends (expression_outcome (reading t)))
 
-  -- ---- for proofs: the same, by what the check answers
-  abbrev pub judged_outcome : Term → Result Judged TypeFault → RunOutcome
-  judged_outcome t (Ok pair) = value_outcome (mean t Any [] value_world)
-  judged_outcome t (Err fault) = no_type fault
+  -- ---- for proofs: the same, by the fault that the check answers
+  abbrev pub judged_outcome : Term → Option TypeFault → RunOutcome
+  judged_outcome t None = value_outcome (mean t Any [] value_world)
+  judged_outcome t (Some fault) = no_type fault
+
+abbrev pub fault_in : Result Judged TypeFault → Option TypeFault
+fault_in (Ok pair) = None
+fault_in (Err fault) = Some fault

@@ -6,11 +6,11 @@ ghost use Rattle.expr_syntax.specs.ReadView.{reading_of};
 ghost use Rattle.expr_syntax.specs.TermView.{term_of};
 ghost use Rattle.program_runs.specs.Progress.{outcome_of, HaltsAt};
 ghost use Rattle.program_runs.specs.Runs.{HasOutcome};
-ghost use Rattle.style_program.specs.ValueRun.{value_run, expression_outcome, judged_outcome, value_outcome};
+ghost use Rattle.style_program.specs.ValueRun.{value_run, expression_outcome, fault_in, judged_outcome, value_outcome};
 
 use crate::refusals::{no_expression, no_type, outside};
 use eval_face::Context;
-use expr_plain::eval_plain;
+use expr_once::evaluated_once;
 use expr_syntax::{Expr, Reading, SynFault, read_expr};
 use expr_types::{TypeFault, Typed, check_free};
 use fixed_num::Fixed;
@@ -47,36 +47,53 @@ fn answer_expression(
 {
     match read {
         Ok(Reading::Inside(expression)) => {
-            let checked = check_free(alloc, &expression)?;
-            answer_checked(alloc, &expression, checked, images, scripts)
+            let fault = type_fault(check_free(alloc, &expression)?);
+            answer_checked(alloc, expression, fault, images, scripts)
         }
         Ok(Reading::Outside) => outside(alloc),
         Err(fault) => no_expression(alloc, &fault),
     }
 }
 
+// Why an expression that was checked is refused.
+fn type_fault(checked: Result<Typed<'_>, TypeFault>) -> Option<TypeFault>
+    ensures { result ≡ fault_in checked.entry }
+{
+    match checked {
+        Ok(_) => None,
+        Err(fault) => Some(fault),
+    }
+}
+
 // The answer to an expression that was checked.
-fn answer_checked<'a>(
+fn answer_checked(
     alloc: Global,
-    expression: &'a Expr,
-    checked: Result<Typed<'a>, TypeFault>,
+    expression: Expr,
+    fault: Option<TypeFault>,
     images: &dyn HostOp,
     scripts: &dyn HostOp,
 ) -> Result<RunOutput, AllocError>
     ensures { IfOk result (λ answer. outcome_of answer
-        ≡ judged_outcome (test images.now) (test scripts.now) (term_of expression.now) checked.entry) }
+        ≡ judged_outcome (test images.now) (test scripts.now) (term_of expression) fault) }
 {
-    match checked {
-        Ok(_) => {
+    match fault {
+        None => {
             let context = Context {
                 zoom: zero(),
                 feature: None,
                 state: None,
             };
-            let evaluated = eval_plain(alloc, expression, &Want::Any, &context, images, scripts)?;
+            let evaluated = evaluated_once(
+                alloc,
+                expression,
+                Want::Any,
+                &context,
+                images,
+                scripts,
+            )?;
             answer_evaluated(alloc, &evaluated)
         }
-        Err(fault) => no_type(alloc, &fault),
+        Some(fault) => no_type(alloc, &fault),
     }
 }
 

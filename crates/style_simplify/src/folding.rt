@@ -13,7 +13,7 @@ use crate::element::SimpleElement;
 use crate::literals::{bare_literal, literal_element};
 use decimal_json::Json;
 use eval_face::Context;
-use expr_plain::eval_plain;
+use expr_once::evaluated_once;
 use expr_syntax::{Expr, Reading, SynFault, read_expr};
 use fixed_num::Fixed;
 use host_ops::ScriptTest;
@@ -72,7 +72,7 @@ fn literal_of_reading(
 {
     match read {
         Ok(Reading::Inside(expression)) => {
-            let evaluated = evaluated(alloc, &expression, &folding_want(want))?;
+            let evaluated = evaluated(alloc, expression, folding_want(want))?;
             bare_or_none(alloc, evaluated)
         }
         Ok(Reading::Outside) => Ok(None),
@@ -92,10 +92,10 @@ fn folding_want(want: &Want) -> Want
 // In a world that is not read.
 fn evaluated(
     alloc: Global,
-    expression: &Expr,
-    want: &Want,
+    expression: Expr,
+    want: Want,
 ) -> Result<Result<Value, EvalFault>, AllocError>
-    ensures { IfOk result (λ evaluated. evaluated_of evaluated ≡ mean (term_of expression.now) want.now [] unread_world) }
+    ensures { IfOk result (λ evaluated. evaluated_of evaluated ≡ mean (term_of expression) want [] unread_world) }
 {
     let test = ScriptTest::new();
     let context = Context {
@@ -103,7 +103,7 @@ fn evaluated(
         feature: None,
         state: None,
     };
-    eval_plain(alloc, expression, want, &context, &test, &test)
+    evaluated_once(alloc, expression, want, &context, &test, &test)
 }
 
 fn bare_or_none(
