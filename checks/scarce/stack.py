@@ -1,19 +1,17 @@
-"""Runs the program with a small stack on the deepest inputs that its limits allow: each has to end as it does with a large one.
+"""Runs the program with a stack of 1 MiB on the deepest inputs that its limits allow: each has to end as it does with a large one.
 
-The stack is of 1 MiB, and of 4 MiB where bindings ask for one another: a binding is evaluated where it is first asked for, so that the
-evaluation of a binding that asks for another is open until that of the other has ended. At most 2,400 nodes are under way at once; where
-bindings would need more, a run ends as one does that gets no memory.
+Bindings that ask for one another, in turn or crosswise, are among them: more than four are evaluated in turn, so that no evaluation of one
+is inside of that of another.
 """
 
 import itertools
 import resource
 
-from memory import NO_MEMORY, least
+from memory import least
 from running import LONGEST_WORD, Folder, Given, given_rows
 
 KB = 1024
 STACK = 1024 * KB
-STACK_OF_BINDINGS = 4096 * KB
 LARGE = 1 << 30
 # The least stack that is looked at, and the steps in which it grows.
 LOWEST = 64 * KB
@@ -72,7 +70,8 @@ def bindings(form, inner, asked='["var","a"]'):
 
 def crosswise(levels, length):
     """A `let` in others: its body asks for the innermost binding, and each binding is such a node again, one level less high, that asks
-    at its end for the binding of the `let` around. So nearly all are open at once, though the text is less than 64 deep."""
+    at its end for the binding of the `let` around. Where a binding is evaluated inside of what asks for it, nearly all are open at once,
+    though the text is less than 64 deep."""
     count = itertools.count()
 
     def made(height, asked):
@@ -182,7 +181,7 @@ def asking_bindings():
 
 
 def crosswise_bindings():
-    """Runs in which bindings ask for one another crosswise, some of which need more than there may be under way."""
+    """Runs in which bindings ask for one another crosswise."""
     for levels, length in ((3, 20), (5, 50), (10, 50), (14, 1)):
         text = crosswise(levels, length)
         files = {"s": style(radius(text)).encode(), "a": TILE, "e": b'["list"]\n', "d": b'["open-view","v",1]\n["view","v",["list"]]\n'}
@@ -199,25 +198,25 @@ def run_deep(program, short, times, is_wanted):
     """Runs the deepest inputs, and without --short all rows, and gives how many ended wrong; `times` prints the greatest stack that one of
     each command needs."""
     failed, runs, needs = 0, 0, {}
-    cases = [(given, STACK, ENDS) for given in deepest()]
-    cases += [(given, STACK_OF_BINDINGS, (*ENDS, NO_MEMORY)) for given in itertools.chain(asking_bindings(), crosswise_bindings())]
+    cases = [(given, "") for given in deepest()]
+    cases += [(given, " with bindings that ask") for given in itertools.chain(asking_bindings(), crosswise_bindings())]
     if not short:
-        cases += [(given, STACK, ENDS) for given in given_rows(lambda name: not name.startswith("a tower of 63 let"))]
-    for given, most, ends in cases:
+        cases += [(given, "") for given in given_rows(lambda name: not name.startswith("a tower of 63 let"))]
+    for given, of_bindings in cases:
         if not is_wanted("stack: " + given.name):
             continue
         with Folder(given) as folder:
             plain = folder.run(program, [(resource.RLIMIT_STACK, LARGE)])
-            got = folder.run(program, [(resource.RLIMIT_STACK, most)])
+            got = folder.run(program, [(resource.RLIMIT_STACK, STACK)])
             runs += 1
-            if plain[0] not in ends or got != plain:
+            if plain[0] not in ENDS or got != plain:
                 failed += 1
-                print(f"hostile: stack: {given.name}: status {got[0]} with {most // KB} kB, {plain[0]} else")
+                print(f"hostile: stack: {given.name}: status {got[0]} with {STACK // KB} kB, {plain[0]} else")
             elif times:
-                kind = (given.words or ["no words"])[0] + (" with bindings that ask" if most == STACK_OF_BINDINGS else "")
+                kind = (given.words or ["no words"])[0] + of_bindings
                 low, _ = needs.setdefault(kind, (LOWEST, "all"))
                 if folder.run(program, [(resource.RLIMIT_STACK, low)]) != plain:
-                    need = least(resource.RLIMIT_STACK, lambda limits: folder.run(program, limits) == plain, low, most, STEP)
+                    need = least(resource.RLIMIT_STACK, lambda limits: folder.run(program, limits) == plain, low, STACK, STEP)
                     needs[kind] = need, given.name
     for kind, (need, name) in sorted(needs.items()):
         print(f"hostile: stack: {kind} ends right with {need // KB} kB: {name}")
