@@ -3,6 +3,7 @@
 ghost use Rattle.std.specs.Prelude.{◌≡◌, IfSome, List, Ok};
 ghost use Rattle.prop_values.specs.Data.{number};
 ghost use Rattle.prop_values.specs.View.{data_of};
+ghost use Rattle.property_tables.specs.Fitting.{fit};
 ghost use Rattle.operator_values.specs.Evaluated.{Evaluated};
 ghost use Rattle.eval_face.specs.World.{World};
 ghost use Rattle.expr_nodes.specs.Limits.{AsksBelow};
@@ -15,7 +16,7 @@ use crate::evaluation::Surroundings;
 use crate::workspace::Workspace;
 use fixed_num::Fixed;
 use operator_rules::WorldView;
-use prop_values::Value;
+use prop_values::{Value, Want};
 
 impl Workspace {
     /// The numbers that two arguments give, where both are known. The second is looked at first: most often it is a constant.
@@ -57,7 +58,7 @@ impl Workspace {
     {
         match node.form() {
             NodeForm::Constant(value) => number_in_value(value),
-            NodeForm::Given(value, want) if takes_numbers(&want) => number_in_value(value),
+            NodeForm::Given(value, want) => number_given(value, &want),
             NodeForm::Asked(slot, want) if takes_numbers(&want) => match self.kept(slot) {
                 Some(value) => number_in_value(value),
                 None => constant_number(&around.bindings.binding(slot)),
@@ -66,6 +67,16 @@ impl Workspace {
             _ => None,
         }
     }
+}
+
+// The number that a given value is where it is fitted.
+fn number_given(value: &Value, want: &Want) -> Option<Fixed>
+    ensures { IfSome result (λ known. fit want.now (data_of value.now) ≡ Ok (number known)) }
+{
+    if !takes_numbers(want) {
+        return None;
+    }
+    number_in_value(value)
 }
 
 fn number_in_value(value: &Value) -> Option<Fixed>

@@ -1,4 +1,4 @@
-use Rattle.std.proofs.Common.{◌≡◌, ◌∙◌, map, arith, sym, ap, subst}
+use Rattle.std.proofs.Common.{◌∙◌, map, arith, ap, subst}
 use Rattle.prop_values.specs.ViewParts.{evaluated_of}
 use Rattle.operator_values.specs.Evaluated.{GivesValue}
 use Rattle.expr_nodes.proofs.FilledLaws.{filled_size}
@@ -11,19 +11,19 @@ evaluate_alone-requires g c =
     let bs = g.B.Bindings.listed c.args.bindings.now in
     let world = g.W.WorldView.world c.args.world.now in
     let n = g.N.NodeHandle.node c.args.tree in
-    root_below bs _ world n c.requires.below (ap (map evaluated_of) c.as_slice.ensures.value ∙ c.in-Ok.ensures.given)
+    root_below bs _ world n c.requires.below (ap (map evaluated_of) c.as_slice-known.ensures.value ∙ c.in-Ok.ensures.given)
 
 pub returns-clause-meaning : goal.returns-clause-meaning
 returns-clause-meaning g c =
     let bs = g.B.Bindings.listed c.args.bindings.now in
     let world = g.W.WorldView.world c.args.world.now in
     let n = g.N.NodeHandle.node c.args.tree in
-    let e = root_gives bs _ world n c.requires.below (ap (map evaluated_of) c.as_slice.ensures.value ∙ c.in-Ok.ensures.given) in
+    let e = root_gives bs _ world n c.requires.below (ap (map evaluated_of) c.as_slice-known.ensures.value ∙ c.in-Ok.ensures.given) in
     subst (GivesValue c.evaluate_alone.result) e c.evaluate_alone.ensures.meaning
 
 pub returns-clause-most : goal.returns-clause-most
 returns-clause-most g c =
-    let f = filled_size (g.N.NodeHandle.node c.args.tree) (map evaluated_of c.as_slice.result.now) in
+    let f = filled_size (g.N.NodeHandle.node c.args.tree) (map evaluated_of c.as_slice-known.result.now) in
     omega (arith, f, c.evaluate_alone.ensures.most, c.in-Ok.ensures.most)
 
 pub returns-in_default-clause-most : goal.returns-in_default-clause-most

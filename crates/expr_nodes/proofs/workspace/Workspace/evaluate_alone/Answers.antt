@@ -1,4 +1,4 @@
-use Rattle.std.proofs.Common.{◌≡◌, arith, [], sym, subst}
+use Rattle.std.proofs.Common.{arith, [], sym, subst}
 use Rattle.expr_nodes.specs.Slots.{HoldPromises}
 use Rattle.expr_nodes.proofs.workspace.Workspace.evaluate_alone.Goals as goal
 

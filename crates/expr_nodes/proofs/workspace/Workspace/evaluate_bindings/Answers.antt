@@ -1,4 +1,4 @@
-use Rattle.std.proofs.Common.{◌≡◌, ◌∙◌, ◌++◌, [], ◌∷◌, map, arith, sym, ap, List}
+use Rattle.std.proofs.Common.{◌∙◌, ◌++◌, [], ◌∷◌, map, arith, sym, ap, List}
 use Rattle.std.proofs.lemmas.List.{map-append}
 use Rattle.operator_values.specs.Evaluated.{Evaluated}
 use Rattle.prop_values.specs.ViewParts.{evaluated_of}
@@ -36,12 +36,12 @@ loop-slot-preserved g c =
     let own = evaluated_of c.in_ok-outcome.outcome in
     let same = ap (map evaluated_of) c.as_slice.ensures.value in
     let next = turn_gives bs given world c.loop-slot.slot b own c.requires.earlier c.binding.ensures (same ∙ c.loop-slot.invariant.gives)
-      (c.in_ok-outcome.ensures (outcome (filled given b) [] world) c.evaluate_alone.ensures.meaning) in
+    (c.in_ok-outcome.ensures (outcome (filled given b) [] world) c.evaluate_alone.ensures.meaning) in
     record {
       gives = ap (map evaluated_of) c.in_ok-push.ensures.items
-      ∙ (map-append evaluated_of c.loop-slot.given.items (c.in_ok-outcome.outcome ∷ [])
-      ∙ (ap (λ (xs : List Evaluated). xs ++ own ∷ []) (sym same) ∙ next));
+          ∙ (map-append evaluated_of c.loop-slot.given.items (c.in_ok-outcome.outcome ∷ [])
+          ∙ (ap (λ (xs : List Evaluated). xs ++ own ∷ []) (sym same) ∙ next));
       rises = omega (arith, c.evaluate_alone.ensures.least, c.loop-slot.invariant.rises);
       paid = turn_paid bs given c.loop-slot.slot b c.args.steps.now c.loop-slot.steps c.evaluate_alone.new.steps
-      c.binding.ensures c.loop-slot.invariant.paid c.evaluate_alone.ensures.most;
+          c.binding.ensures c.loop-slot.invariant.paid c.evaluate_alone.ensures.most;
     }

@@ -3,7 +3,6 @@ use Rattle.std.specs.Prelude.{Some}
 use Rattle.std.proofs.lemmas.Option.{IfSome_then}
 use Rattle.prop_values.specs.Data.{Data}
 use Rattle.expr_nodes.specs.NodeForms.{IsForm}
-use Rattle.property_tables.specs.Fitting.{fit}
 use Rattle.expr_nodes.specs.Outcome.{outcome, promises}
 use Rattle.expr_nodes.specs.declared.access.NodeForm.{NodeForm}
 use Rattle.expr_nodes.proofs.BindingParts.{asked_number, constant_asked, slot_within}
@@ -22,9 +21,8 @@ returns-in-Given g c =
     let bs = g.B.Bindings.listed c.args.around.now.bindings.now in
     let world = g.W.WorldView.world c.args.around.now.world.now in
     let F : NodeForm → Type 0 = λ f. IsForm f n in
-    IfSome_then c.number_in_value-in-Given.result c.number_in_value-in-Given.ensures
-    (λ z is. ap (λ x. outcome x (promises bs world) world) (subst F c.in-Given.is c.form.ensures)
-    ∙ (ap (fit c.in-Given.want) is ∙ c.takes_numbers.ensures c.if-takes_numbers.true z))
+    IfSome_then c.number_given.result c.number_given.ensures
+    (λ z is. ap (λ x. outcome x (promises bs world) world) (subst F c.in-Given.is c.form.ensures) ∙ is)
 
 pub returns-in-Some : goal.returns-in-Some
 returns-in-Some g c =
