@@ -19,9 +19,8 @@ use crate::categories::Categories;
 use crate::function::{
     Body, Category, Function, Input, NumberStop, Output, PropertyRule, Way, ZoomRule,
 };
-use crate::names::CallNames;
 use crate::stops::{NumberStops, ZoomRules};
-use crate::tokens::{pieces_expression, property_expression};
+use crate::tokens::{property_expression, token_expr};
 use decimal_json::{Items, Json, NumText, Text, copy};
 use fixed_num::Fixed;
 use prop_values::Want;
@@ -34,14 +33,13 @@ impl Function {
     pub fn to_expr(&self, alloc: Global) -> Result<Json, AllocError>
         ensures { IfOk result (λ made. tree_of made ≡ function_expression (row_of self.now) (function_of self.now)) }
     {
-        let names = CallNames::of(alloc)?;
         match &self.body {
             Body::Plain(rule) => match &self.property {
-                Some(_) => rule_expression(alloc, &names, self, rule),
-                None => zoom_rule_expression(alloc, &names, self, rule),
+                Some(_) => rule_expression(alloc, self, rule),
+                None => zoom_rule_expression(alloc, self, rule),
             },
-            Body::Zoomed(rules) => zoomed_expression(alloc, &names, self, rules),
-            Body::Identity => identity_expression(alloc, &names, self),
+            Body::Zoomed(rules) => zoomed_expression(alloc, self, rules),
+            Body::Identity => identity_expression(alloc, self),
         }
     }
 }
@@ -49,11 +47,11 @@ impl Function {
 // ---- calls
 
 // A call that has room for so many arguments.
-pub(crate) fn call(alloc: Global, name: &Text, arguments: usize) -> Result<Items, AllocError>
+pub(crate) fn call(alloc: Global, name: &str, arguments: usize) -> Result<Items, AllocError>
     ensures { IfOk result (λ items. items ≡ text_tree name.now ∷ []) }
 {
     let mut items = Items::with_room(alloc, arguments.saturating_add(1))?;
-    items.push(Json::Text(name.share()?))?;
+    items.push(text(alloc, name)?)?;
     Ok(items)
 }
 
@@ -63,7 +61,7 @@ fn text(alloc: Global, name: &str) -> Result<Json, AllocError>
     Ok(Json::Text(Text::copy_of(alloc, name)?))
 }
 
-pub(crate) fn call_one(alloc: Global, name: &Text, element: Json) -> Result<Json, AllocError>
+pub(crate) fn call_one(alloc: Global, name: &str, element: Json) -> Result<Json, AllocError>
     ensures { IfOk result (λ made. tree_of made ≡ call name.now (tree_of element ∷ [])) }
 {
     let mut items = call(alloc, name, 1)?;
@@ -71,7 +69,7 @@ pub(crate) fn call_one(alloc: Global, name: &Text, element: Json) -> Result<Json
     Ok(Json::List(items))
 }
 
-fn call_two(alloc: Global, name: &Text, first: Json, second: Json) -> Result<Json, AllocError>
+fn call_two(alloc: Global, name: &str, first: Json, second: Json) -> Result<Json, AllocError>
     ensures { IfOk result (λ made. tree_of made ≡ call name.now (tree_of first ∷ tree_of second ∷ [])) }
 {
     let mut items = call(alloc, name, 2)?;
@@ -80,49 +78,45 @@ fn call_two(alloc: Global, name: &Text, first: Json, second: Json) -> Result<Jso
     Ok(Json::List(items))
 }
 
-fn zoom_json(alloc: Global, names: &CallNames) -> Result<Json, AllocError>
+fn zoom_json(alloc: Global) -> Result<Json, AllocError>
     ensures { IfOk result (λ made. tree_of made ≡ zoom_expression) }
 {
-    Ok(Json::List(call(alloc, names.zoom(), 0)?))
+    Ok(Json::List(call(alloc, "zoom", 0)?))
 }
 
 // ---- outputs and defaults
 
 // An array is in `literal`.
-fn as_literal(alloc: Global, names: &CallNames, json: Json) -> Result<Json, AllocError>
+fn as_literal(alloc: Global, json: Json) -> Result<Json, AllocError>
     ensures { IfOk result (λ made. tree_of made ≡ as_literal (tree_of json)) }
 {
     match json {
-        Json::List(items) => call_one(alloc, names.literal(), Json::List(items)),
+        Json::List(items) => call_one(alloc, "literal", Json::List(items)),
         json => Ok(json),
     }
 }
 
-fn output_expression(alloc: Global, names: &CallNames, output: &Output) -> Result<Json, AllocError>
+fn output_expression(alloc: Global, output: &Output) -> Result<Json, AllocError>
     ensures { IfOk result (λ made. tree_of made ≡ output_expression (output_seen output.now)) }
 {
     match output {
         Output::Literal(json, _) => {
             let json = copy(alloc, json)?;
-            as_literal(alloc, names, json)
+            as_literal(alloc, json)
         }
-        Output::Tokens(text) => pieces_expression(alloc, names, text.as_str()),
+        Output::Tokens(text) => token_expr(alloc, text.as_str()),
     }
 }
 
 // The function's default, else the row's, else null.
-fn default_expression(
-    alloc: Global,
-    names: &CallNames,
-    function: &Function,
-) -> Result<Json, AllocError>
+fn default_expression(alloc: Global, function: &Function) -> Result<Json, AllocError>
     ensures { IfOk result (λ made. tree_of made ≡ default_tree function.now) }
 {
     match &function.fallback {
-        Some(output) => output_expression(alloc, names, output),
+        Some(output) => output_expression(alloc, output),
         None => {
             let written = written_json(alloc, &function.row.fallback)?;
-            as_literal(alloc, names, written)
+            as_literal(alloc, written)
         }
     }
 }
@@ -162,7 +156,7 @@ fn ascii_text(bytes: &[u8]) -> &str
 fn zeros_json(alloc: Global, count: u32) -> Result<Json, AllocError>
     ensures { IfOk result (λ made. tree_of made ≡ written_tree (zeros count)) }
 {
-    let mut items = Items::with_room(alloc, count as usize)?;
+    let mut items = Items::new(alloc);
     for _ in 0..count {
         items.push(zero_json(alloc)?)?;
     }
@@ -178,7 +172,7 @@ fn zero_json(alloc: Global) -> Result<Json, AllocError>
 fn fonts_json(alloc: Global) -> Result<Json, AllocError>
     ensures { IfOk result (λ made. tree_of made ≡ written_tree fonts) }
 {
-    let mut items = Items::with_room(alloc, 2)?;
+    let mut items = Items::new(alloc);
     items.push(text(alloc, "Open Sans Regular")?)?;
     items.push(text(alloc, "Arial Unicode MS Regular")?)?;
     Ok(Json::List(items))
@@ -189,7 +183,6 @@ fn fonts_json(alloc: Global) -> Result<Json, AllocError>
 // Stops over an expression of a number.
 fn way_expression(
     alloc: Global,
-    names: &CallNames,
     way: &Way,
     input: Json,
     stops: &NumberStops,
@@ -197,22 +190,20 @@ fn way_expression(
     ensures { IfOk result (λ made. tree_of made ≡ way_expression (way_seen way.now) (tree_of input) (branches_in stops.now)) }
 {
     match way {
-        Way::Stepped => step_expression(alloc, names, input, stops.as_slice()),
+        Way::Stepped => step_expression(alloc, input, stops.as_slice()),
         Way::Even => {
-            let curve = Json::List(call(alloc, names.linear(), 0)?);
-            ramp_expression(alloc, names, curve, input, stops.as_slice())
+            let curve = Json::List(call(alloc, "linear", 0)?);
+            ramp_expression(alloc, curve, input, stops.as_slice())
         }
         Way::Curved(base) => {
-            let base = Json::Num(base.spelled().share()?);
-            let curve = call_one(alloc, names.exponential(), base)?;
-            ramp_expression(alloc, names, curve, input, stops.as_slice())
+            let curve = call_one(alloc, "exponential", Json::Num(base.spelled().share()?))?;
+            ramp_expression(alloc, curve, input, stops.as_slice())
         }
     }
 }
 
 fn ramp_expression(
     alloc: Global,
-    names: &CallNames,
     curve: Json,
     input: Json,
     stops: &[NumberStop],
@@ -221,46 +212,36 @@ fn ramp_expression(
         ≡ call (codes "interpolate") (tree_of curve ∷ tree_of input ∷ branch_elements (branches_in stops.now))) }
 {
     let room = stops.len().saturating_mul(2).saturating_add(2);
-    let mut items = call(alloc, names.interpolate(), room)?;
+    let mut items = call(alloc, "interpolate", room)?;
     items.push(curve)?;
     items.push(input)?;
-    push_stops(alloc, names, &mut items, stops)?;
+    push_stops(alloc, &mut items, stops)?;
     Ok(Json::List(items))
 }
 
 // The first output has no input, and is alone where it is the only one.
 #[tactic(auto, using(crate::proofs::ExpressionLaws::step_one, crate::proofs::ExpressionLaws::step_more))]
-fn step_expression(
-    alloc: Global,
-    names: &CallNames,
-    input: Json,
-    stops: &[NumberStop],
-) -> Result<Json, AllocError>
+fn step_expression(alloc: Global, input: Json, stops: &[NumberStop]) -> Result<Json, AllocError>
     requires { 0 < length stops.now }
     ensures { IfOk result (λ made. tree_of made ≡ step_expression (tree_of input) (branches_in stops.now)) }
 {
-    let first = output_expression(alloc, names, &stops[0].output)?;
+    let first = output_expression(alloc, &stops[0].output)?;
     if stops.len() == 1 {
         return Ok(first);
     }
-    let mut items = call(alloc, names.step(), stops.len().saturating_mul(2))?;
+    let mut items = call(alloc, "step", stops.len().saturating_mul(2))?;
     items.push(input)?;
     items.push(first)?;
-    push_stops(alloc, names, &mut items, &stops[1..])?;
+    push_stops(alloc, &mut items, &stops[1..])?;
     Ok(Json::List(items))
 }
 
 // Adds inputs with their outputs.
-fn push_stops(
-    alloc: Global,
-    names: &CallNames,
-    items: &mut Items,
-    stops: &[NumberStop],
-) -> Result<(), AllocError>
+fn push_stops(alloc: Global, items: &mut Items, stops: &[NumberStop]) -> Result<(), AllocError>
     ensures { OnOk result (items.new ≡ items.old ++ branch_elements (branches_in stops.now)) }
 {
     for stop in stops {
-        let output = output_expression(alloc, names, &stop.output)?;
+        let output = output_expression(alloc, &stop.output)?;
         push_branch(items, &stop.input.spelled, output)?;
     }
     Ok(())
@@ -276,11 +257,11 @@ fn push_branch(items: &mut Items, number: &NumText, output: Json) -> Result<(), 
 
 // ---- rules
 
-fn property_json(alloc: Global, names: &CallNames, function: &Function) -> Result<Json, AllocError>
+fn property_json(alloc: Global, function: &Function) -> Result<Json, AllocError>
     ensures { IfOk result (λ made. tree_of made ≡ property_tree function.now) }
 {
     match &function.property {
-        Some(name) => property_expression(alloc, names, name),
+        Some(name) => property_expression(alloc, name),
         None => Ok(Json::Null),
     }
 }
@@ -288,7 +269,6 @@ fn property_json(alloc: Global, names: &CallNames, function: &Function) -> Resul
 // An expression where the property is of a kind, else the default.
 fn kind_case(
     alloc: Global,
-    names: &CallNames,
     function: &Function,
     kind: &str,
     expression: Json,
@@ -296,21 +276,20 @@ fn kind_case(
     ensures { IfOk result (λ made. tree_of made
         ≡ kind_case kind.now (property_tree function.now) (tree_of expression) (default_tree function.now)) }
 {
-    let property = property_json(alloc, names, function)?;
-    let found = call_one(alloc, names.type_of(), property)?;
+    let property = property_json(alloc, function)?;
+    let found = call_one(alloc, "typeof", property)?;
     let wanted = text(alloc, kind)?;
-    let test = call_two(alloc, names.equals(), found, wanted)?;
-    let mut items = call(alloc, names.case(), 3)?;
+    let test = call_two(alloc, "==", found, wanted)?;
+    let mut items = call(alloc, "case", 3)?;
     items.push(test)?;
     items.push(expression)?;
-    items.push(default_expression(alloc, names, function)?)?;
+    items.push(default_expression(alloc, function)?)?;
     Ok(Json::List(items))
 }
 
 // A rule by the property.
 fn rule_expression(
     alloc: Global,
-    names: &CallNames,
     function: &Function,
     rule: &PropertyRule,
 ) -> Result<Json, AllocError>
@@ -319,13 +298,12 @@ fn rule_expression(
 {
     match rule {
         PropertyRule::Numeric(stops) => {
-            let input = property_json(alloc, names, function)?;
-            let expression = way_expression(alloc, names, &function.way, input, stops)?;
-            kind_case(alloc, names, function, "number", expression)
+            let input = property_json(alloc, function)?;
+            let expression = way_expression(alloc, &function.way, input, stops)?;
+            kind_case(alloc, function, "number", expression)
         }
         PropertyRule::Categorical(stops) => categories_expression(
             alloc,
-            names,
             function,
             stops.as_slice(),
         ),
@@ -334,7 +312,6 @@ fn rule_expression(
 
 fn categories_expression(
     alloc: Global,
-    names: &CallNames,
     function: &Function,
     stops: &[Category],
 ) -> Result<Json, AllocError>
@@ -342,18 +319,17 @@ fn categories_expression(
         (category_elements (property_tree function.now) (map category_seen stops.now) ++ default_tree function.now ∷ [])) }
 {
     let room = stops.len().saturating_mul(2).saturating_add(1);
-    let mut items = call(alloc, names.case(), room)?;
+    let mut items = call(alloc, "case", room)?;
     for stop in stops {
-        push_category(alloc, names, &mut items, function, stop)?;
+        push_category(alloc, &mut items, function, stop)?;
     }
-    items.push(default_expression(alloc, names, function)?)?;
+    items.push(default_expression(alloc, function)?)?;
     Ok(Json::List(items))
 }
 
 // Adds the test of an input, and its output.
 fn push_category(
     alloc: Global,
-    names: &CallNames,
     items: &mut Items,
     function: &Function,
     stop: &Category,
@@ -361,10 +337,10 @@ fn push_category(
     ensures { OnOk result (items.new
         ≡ items.old ++ category_elements (property_tree function.now) (category_seen stop.now ∷ [])) }
 {
-    let property = property_json(alloc, names, function)?;
+    let property = property_json(alloc, function)?;
     let input = input_json(&stop.input)?;
-    items.push(call_two(alloc, names.equals(), property, input)?)?;
-    items.push(output_expression(alloc, names, &stop.output)?)?;
+    items.push(call_two(alloc, "==", property, input)?)?;
+    items.push(output_expression(alloc, &stop.output)?)?;
     Ok(())
 }
 
@@ -381,7 +357,6 @@ fn input_json(input: &Input) -> Result<Json, AllocError>
 // A rule by the zoom.
 fn zoom_rule_expression(
     alloc: Global,
-    names: &CallNames,
     function: &Function,
     rule: &PropertyRule,
 ) -> Result<Json, AllocError>
@@ -389,10 +364,10 @@ fn zoom_rule_expression(
 {
     match rule {
         PropertyRule::Numeric(stops) => {
-            let input = zoom_json(alloc, names)?;
-            way_expression(alloc, names, &function.way, input, stops)
+            let input = zoom_json(alloc)?;
+            way_expression(alloc, &function.way, input, stops)
         }
-        PropertyRule::Categorical(_) => default_expression(alloc, names, function),
+        PropertyRule::Categorical(_) => default_expression(alloc, function),
     }
 }
 
@@ -400,7 +375,6 @@ fn zoom_rule_expression(
 
 fn zoomed_expression(
     alloc: Global,
-    names: &CallNames,
     function: &Function,
     rules: &ZoomRules,
 ) -> Result<Json, AllocError>
@@ -408,15 +382,14 @@ fn zoomed_expression(
         (rule_branches (property_tree function.now) (default_tree function.now) (rules_in function.now rules.now))) }
 {
     if function.row.ramps {
-        zoom_ramp_expression(alloc, names, function, rules.as_slice())
+        zoom_ramp_expression(alloc, function, rules.as_slice())
     } else {
-        zoom_step_expression(alloc, names, function, rules.as_slice())
+        zoom_step_expression(alloc, function, rules.as_slice())
     }
 }
 
 fn zoom_ramp_expression(
     alloc: Global,
-    names: &CallNames,
     function: &Function,
     rules: &[ZoomRule],
 ) -> Result<Json, AllocError>
@@ -424,17 +397,16 @@ fn zoom_ramp_expression(
         (rule_branches (property_tree function.now) (default_tree function.now) (rules_in function.now rules.now))) }
 {
     let room = rules.len().saturating_mul(2).saturating_add(2);
-    let mut items = call(alloc, names.interpolate(), room)?;
-    items.push(Json::List(call(alloc, names.linear(), 0)?))?;
-    items.push(zoom_json(alloc, names)?)?;
-    push_rules(alloc, names, &mut items, function, rules)?;
+    let mut items = call(alloc, "interpolate", room)?;
+    items.push(Json::List(call(alloc, "linear", 0)?))?;
+    items.push(zoom_json(alloc)?)?;
+    push_rules(alloc, &mut items, function, rules)?;
     Ok(Json::List(items))
 }
 
 #[tactic(auto, using(crate::proofs::ExpressionLaws::zoom_one, crate::proofs::ExpressionLaws::zoom_more))]
 fn zoom_step_expression(
     alloc: Global,
-    names: &CallNames,
     function: &Function,
     rules: &[ZoomRule],
 ) -> Result<Json, AllocError>
@@ -442,21 +414,20 @@ fn zoom_step_expression(
     ensures { IfOk result (λ made. tree_of made ≡ step_expression zoom_expression
         (rule_branches (property_tree function.now) (default_tree function.now) (rules_in function.now rules.now))) }
 {
-    let first = rule_expression(alloc, names, function, &rules[0].rule)?;
+    let first = rule_expression(alloc, function, &rules[0].rule)?;
     if rules.len() == 1 {
         return Ok(first);
     }
-    let mut items = call(alloc, names.step(), rules.len().saturating_mul(2))?;
-    items.push(zoom_json(alloc, names)?)?;
+    let mut items = call(alloc, "step", rules.len().saturating_mul(2))?;
+    items.push(zoom_json(alloc)?)?;
     items.push(first)?;
-    push_rules(alloc, names, &mut items, function, &rules[1..])?;
+    push_rules(alloc, &mut items, function, &rules[1..])?;
     Ok(Json::List(items))
 }
 
 // Adds zooms with their rules.
 fn push_rules(
     alloc: Global,
-    names: &CallNames,
     items: &mut Items,
     function: &Function,
     rules: &[ZoomRule],
@@ -465,7 +436,7 @@ fn push_rules(
         (rule_branches (property_tree function.now) (default_tree function.now) (rules_in function.now rules.now))) }
 {
     for rule in rules {
-        let output = rule_expression(alloc, names, function, &rule.rule)?;
+        let output = rule_expression(alloc, function, &rule.rule)?;
         push_branch(items, &rule.zoom.spelled, output)?;
     }
     Ok(())
@@ -473,21 +444,17 @@ fn push_rules(
 
 // ---- identity
 
-fn identity_expression(
-    alloc: Global,
-    names: &CallNames,
-    function: &Function,
-) -> Result<Json, AllocError>
+fn identity_expression(alloc: Global, function: &Function) -> Result<Json, AllocError>
     ensures { IfOk result (λ made. tree_of made
         ≡ identity_expression (row_of function.now).want (property_tree function.now) (default_tree function.now)) }
 {
-    let property = property_json(alloc, names, function)?;
+    let property = property_json(alloc, function)?;
     match &function.row.want {
         Want::Shown => {
-            let default = default_expression(alloc, names, function)?;
-            call_two(alloc, names.coalesce(), property, default)
+            let default = default_expression(alloc, function)?;
+            call_two(alloc, "coalesce", property, default)
         }
-        want => kind_case(alloc, names, function, form_name(want), property),
+        want => kind_case(alloc, function, form_name(want), property),
     }
 }
 

@@ -37,7 +37,6 @@ mod function;
 mod leaves;
 mod meaning;
 mod members;
-mod names;
 mod placed;
 mod reading;
 mod rules;

@@ -8,7 +8,6 @@ ghost use Rattle.legacy_functions.specs.TokenSize.{token_size, plain_size, size_
 ghost use Rattle.legacy_functions.specs.Tokens.{before_brace, token_name, has_tokens, pieces, property_text, piece_expression, property_expression, token_text, token_expression};
 
 use crate::expression::{call, call_one};
-use crate::names::CallNames;
 use decimal_json::{Items, Json, Text};
 use prop_values::to_text;
 use shared_text::Document;
@@ -96,32 +95,20 @@ fn push_property(
     }
 }
 
-/// The expression that means the same: `concat` of the pieces in order, a token as `get` of its property.
+/// The expression that means the same: `concat` of the pieces in order, a token as `get` of its property. The texts of
+/// the pieces are ranges of one copy of the text.
 pub fn token_expr(alloc: Global, text: &str) -> Result<Json, AllocError>
     ensures { IfOk result (λ made. tree_of made ≡ token_expression text.now) }
 {
-    let names = CallNames::of(alloc)?;
-    pieces_expression(alloc, &names, text)
-}
-
-/// The expression of a token text. The texts of its pieces are ranges of one copy of the text.
-pub(crate) fn pieces_expression(
-    alloc: Global,
-    names: &CallNames,
-    text: &str,
-) -> Result<Json, AllocError>
-    ensures { IfOk result (λ made. tree_of made ≡ token_expression text.now) }
-{
     let document = Document::copy_of(alloc, text.as_bytes())?;
-    let mut items = call(alloc, names.concat(), piece_count(text.as_bytes()))?;
-    push_pieces(alloc, names, &mut items, &document, text)?;
+    let mut items = call(alloc, "concat", piece_count(text.as_bytes()))?;
+    push_pieces(alloc, &mut items, &document, text)?;
     Ok(Json::List(items))
 }
 
 // Adds the expressions of the pieces of what is left of a text.
 fn push_pieces(
     alloc: Global,
-    names: &CallNames,
     items: &mut Items,
     document: &Document,
     text: &str,
@@ -131,7 +118,7 @@ fn push_pieces(
 {
     let mut rest = text;
     while rest.len() > 0 {
-        rest = push_piece(alloc, names, items, document, rest)?;
+        rest = push_piece(alloc, items, document, rest)?;
     }
     Ok(())
 }
@@ -163,7 +150,6 @@ fn first_length(bytes: &[u8]) -> usize
 // Adds the expression of the first piece of what is left of a text, and gives the text after it.
 fn push_piece<'a>(
     alloc: Global,
-    names: &CallNames,
     items: &mut Items,
     document: &Document,
     rest: &'a str,
@@ -179,34 +165,30 @@ fn push_piece<'a>(
     let size = token_length(bytes);
     if size > 0 {
         let name = Text::of_rest(document, &bytes[1..], size - 2)?;
-        items.push(piece_expression(alloc, names, TokenPiece::Token(name))?)?;
+        items.push(piece_expression(alloc, TokenPiece::Token(name))?)?;
         Ok(&rest[size..])
     } else {
         let size = plain_length(bytes);
         let part = Text::of_rest(document, bytes, size)?;
-        items.push(piece_expression(alloc, names, TokenPiece::Plain(part))?)?;
+        items.push(piece_expression(alloc, TokenPiece::Plain(part))?)?;
         Ok(&rest[size..])
     }
 }
 
-fn piece_expression(alloc: Global, names: &CallNames, piece: TokenPiece) -> Result<Json, AllocError>
+fn piece_expression(alloc: Global, piece: TokenPiece) -> Result<Json, AllocError>
     ensures { IfOk result (λ made. tree_of made ≡ piece_expression piece) }
 {
     match piece {
         TokenPiece::Plain(part) => Ok(Json::Text(part)),
-        TokenPiece::Token(name) => call_one(alloc, names.get(), Json::Text(name)),
+        TokenPiece::Token(name) => call_one(alloc, "get", Json::Text(name)),
     }
 }
 
 /// `get` of a property.
-pub(crate) fn property_expression(
-    alloc: Global,
-    names: &CallNames,
-    name: &Text,
-) -> Result<Json, AllocError>
+pub(crate) fn property_expression(alloc: Global, name: &Text) -> Result<Json, AllocError>
     ensures { IfOk result (λ made. tree_of made ≡ property_expression name.now) }
 {
-    call_one(alloc, names.get(), Json::Text(name.share()?))
+    call_one(alloc, "get", Json::Text(name.share()?))
 }
 
 // How many bytes are before the first token.
