@@ -2,4 +2,5 @@ pub mod OrderedLists
 pub mod CellLaws
 pub mod RowLists
 pub mod Defaults
-mod TokenTexts
+mod LegacyReads
+pub mod TableRows

@@ -9,3 +9,4 @@ pub mod StyleLayout
 pub mod Tests
 pub mod CodeView
 pub mod Walk
+pub mod ReadValues

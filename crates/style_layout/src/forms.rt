@@ -8,17 +8,21 @@ ghost use Rattle.expr_syntax.specs.Mentioned.{mentions};
 ghost use Rattle.expr_syntax.specs.Reading.{reading_with};
 ghost use Rattle.expr_syntax.specs.TermView.{term_of};
 ghost use Rattle.legacy_functions.specs.Form.{form};
-ghost use Rattle.legacy_functions.specs.Tokens.{token_expression};
+ghost use Rattle.legacy_functions.specs.View.{function_of, row_of};
 ghost use Rattle.property_tables.specs.Literals.{literal_of};
 ghost use Rattle.style_layout.specs.CodeView.{value_seen, filter_seen};
-ghost use Rattle.style_layout.specs.Forms.{property_value, is_per_feature, layer_filter, literal_value, expression_value, function_value, text_value, reads_feature, expression_mentions};
+ghost use Rattle.style_layout.specs.Forms.{property_value, is_per_feature, layer_filter, legacy_function, literal_value, expression_value, function_value, text_value, token_text, reads_feature};
+ghost use Rattle.style_layout.specs.ReadValues.{IsReadFunction, IsReadValue};
 
 use decimal_json::{Json, Text};
 use dependency_sets::mentions;
 use expr_syntax::{Expr, Reading, read_with};
 use legacy_filters::LegacyFilter;
 use legacy_functions::{Function, FunctionReading, has_tokens};
-use legacy_laws::{migrated_token_texts_mention_the_feature, token_expressions_mean_their_texts};
+use legacy_laws::{
+    expressions_mean_their_functions, migrated_functions_mention_the_same,
+    migrated_token_texts_mention_the_feature, token_expressions_mean_their_texts,
+};
 use prop_values::{Entries, Value};
 use property_tables::{Row, literal};
 use std::alloc::{AllocError, Global};
@@ -102,43 +106,38 @@ fn function_value(alloc: Global, row: &Row, json: &Json) -> Result<PropertyValue
     }
 }
 
-/// Whether a value is listed with each feature. A function and a token text read what their expressions read.
-pub(crate) fn is_per_feature(
-    alloc: Global,
-    globals: &Entries,
-    value: &PropertyValue,
-) -> Result<bool, AllocError>
-    ensures { IfOk result (λ reads. reads ≡ is_per_feature globals.now (value_seen value.now)) }
+/// Whether a value is listed with each feature. A function and a token text read what their expressions read, which
+/// are not made.
+pub(crate) fn is_per_feature(value: &PropertyValue) -> bool
+    requires { IsReadValue (value_seen value.now) }
+    ensures { (globals : List (List ℕ × Data)) → result ≡ is_per_feature globals (value_seen value.now) }
 {
     match value {
-        PropertyValue::Expression(expression) => Ok(reads_feature(expression)),
-        PropertyValue::Function(function) => {
-            let expression = function.to_expr(alloc)?;
-            reads_feature_as(alloc, globals, &expression)
-        }
-        PropertyValue::TokenText(text) => Ok(tokens_read_feature(text)),
-        _ => Ok(false),
+        PropertyValue::Expression(expression) => reads_feature(expression),
+        PropertyValue::Function(function) => function_reads_feature(function),
+        PropertyValue::TokenText(text) => tokens_read_feature(text),
+        _ => false,
     }
 }
 
-// The expression of a text with tokens is not made: it reads the feature where the text has tokens.
-#[tactic(auto, using(crate::proofs::TokenTexts::tokens_read))]
-fn tokens_read_feature(text: &Text) -> bool
+#[tactic(auto, using(crate::proofs::LegacyReads::function_reads))]
+fn function_reads_feature(function: &Function) -> bool
+    requires { IsReadFunction (row_of function.now) (function_of function.now) }
     ensures { (globals : List (List ℕ × Data)) → result
-        ≡ reads_feature (expression_mentions (expression_value (reading_with (token_expression text.now) globals))) }
+        ≡ is_per_feature globals (legacy_function (row_of function.now) (function_of function.now)) }
+{
+    expressions_mean_their_functions();
+    migrated_functions_mention_the_same();
+    function.asks_feature()
+}
+
+#[tactic(auto, using(crate::proofs::LegacyReads::tokens_read))]
+fn tokens_read_feature(text: &Text) -> bool
+    ensures { (globals : List (List ℕ × Data)) → result ≡ is_per_feature globals (token_text text.now) }
 {
     token_expressions_mean_their_texts();
     migrated_token_texts_mention_the_feature();
     has_tokens(text.as_str())
-}
-
-fn reads_feature_as(alloc: Global, globals: &Entries, json: &Json) -> Result<bool, AllocError>
-    ensures { IfOk result (λ reads. reads ≡ reads_feature (expression_mentions (expression_value (reading_with (tree_of json.now) globals.now)))) }
-{
-    match read_with(alloc, json, globals)? {
-        Ok(Reading::Inside(expression)) => Ok(reads_feature(&expression)),
-        _ => Ok(false),
-    }
 }
 
 /// Whether an expression reads the feature or its state.

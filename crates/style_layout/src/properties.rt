@@ -5,6 +5,7 @@ ghost use Rattle.decimal_json.specs.Tree.{object, fields_of};
 ghost use Rattle.decimal_json.specs.View.{tree_of, tree_at};
 ghost use Rattle.property_tables.specs.RowView.{row_seen};
 ghost use Rattle.property_tables.specs.Rows.{RowData, rows_of};
+ghost use Rattle.legacy_laws.specs.LegacyFunctionLaw.{IsTableRow};
 ghost use Rattle.style_layout.specs.CodeView.{property_seen};
 ghost use Rattle.style_layout.specs.Forms.{property_of};
 ghost use Rattle.style_layout.specs.Layers.{properties_of, set_property, set_value};
@@ -12,7 +13,9 @@ ghost use Rattle.style_layout.specs.Layers.{properties_of, set_property, set_val
 use crate::forms::{PropertyValue, is_per_feature, property_value};
 use decimal_json::{Json, Members};
 use prop_values::{Entries, Value};
-use property_tables::{LayerType, Place, Row, default_value, row_count, row_numbered};
+use property_tables::{
+    LayerType, Place, Row, default_value, row_count, row_numbered, tables_keep_their_rules,
+};
 use std::alloc::{AllocError, Global};
 
 /// The property that says whether a layer is shown.
@@ -45,6 +48,7 @@ pub(crate) fn properties_of(
     Ok(properties)
 }
 
+#[tactic(auto, using(crate::proofs::TableRows::table_row_at))]
 fn push_numbered(
     alloc: Global,
     globals: &Entries,
@@ -57,6 +61,7 @@ fn push_numbered(
     ensures { (other : RowData) → OnOk result (map property_seen properties.new.items ≡ map property_seen properties.old.items
         ++ set_property globals.now (object (fields_of layer.now)) (get_or (rows_of layer_type) number other)) }
 {
+    tables_keep_their_rules();
     match row_at(layer_type, number) {
         Some(row) => push_if_set(alloc, globals, layer, &row, properties),
         None => Ok(()),
@@ -78,6 +83,7 @@ fn push_if_set(
     row: &Row,
     properties: &mut Vec<Property>,
 ) -> Result<(), AllocError>
+    requires { IsTableRow (row_seen row.now) }
     ensures { OnOk result (map property_seen properties.new.items
         ≡ map property_seen properties.old.items ++ set_property globals.now (object (fields_of layer.now)) (row_seen row.now)) }
 {
@@ -105,16 +111,18 @@ pub fn set_value<'a>(layer: &'a Members, place: Place, name: &str) -> Option<&'a
     placed.and_then(|properties| properties.get(name))
 }
 
+#[tactic(auto, using(crate::proofs::LegacyReads::value_is_read))]
 fn read_property(
     alloc: Global,
     globals: &Entries,
     row: &Row,
     json: &Json,
 ) -> Result<Property, AllocError>
+    requires { IsTableRow (row_seen row.now) }
     ensures { IfOk result (λ property. property_seen property ≡ property_of (row_seen row.now) globals.now (tree_of json.now)) }
 {
     let value = property_value(alloc, row, globals, json)?;
-    let is_per_feature = is_per_feature(alloc, globals, &value)?;
+    let is_per_feature = is_per_feature(&value);
     let fallback = default_value(alloc, row)?;
     Ok(Property {
         row: row.copy(),
