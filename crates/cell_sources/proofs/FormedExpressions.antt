@@ -1,110 +1,73 @@
--- An expression that was read of a legacy form is the expression of the form, and of a text with tokens none is read.
-use Rattle.std.proofs.Common.{◌≡◌, ℕ, List, [], Bool, true, false, refl, ap, sym, subst, ◌∙◌}
-use Rattle.std.specs.Prelude.{IfSome, Ok, Option, Some, None, option_map, unwrap_or}
-use Rattle.decimal_json.specs.Tree.{Tree}
+-- What is said of the expression of a legacy form, of which none is read: it is the form's, and mentions what the form does.
+use Rattle.std.proofs.Common.{◌≡◌, ℕ, List, [], Bool, false, refl, ap, sym, subst, ◌∙◌}
+use Rattle.std.specs.Prelude.{Ok, Some, option_map, unwrap_or}
 use Rattle.prop_values.specs.Data.{Data, null}
 use Rattle.prop_values.specs.declared.kinds.Want.{Want}
+use Rattle.prop_values.specs.declared.kinds.Want.TheVariants as wants
 use Rattle.property_tables.specs.Rows.{RowData}
 use Rattle.expr_syntax.specs.Mentioned.{mentions, nothing}
-use Rattle.expr_syntax.specs.Reading.{reading_with}
 use Rattle.expr_syntax.specs.ReadView.{uses_globals}
-use Rattle.expr_syntax.specs.Standing.{stands}
 use Rattle.expr_syntax.specs.Term.{Term, literal}
+use Rattle.legacy_filters.specs.AskedParts.{asks_feature}
+use Rattle.legacy_filters.specs.ToExpression.{expression}
 use Rattle.legacy_filters.specs.View.{filter_of}
 use Rattle.legacy_filters.specs.declared.filter.LegacyFilter.{LegacyFilter}
+use Rattle.legacy_functions.specs.ToExpression.{function_expression}
 use Rattle.legacy_functions.specs.Tokens.{has_tokens, token_expression}
 use Rattle.legacy_functions.specs.View.{function_of, row_of}
 use Rattle.legacy_functions.specs.declared.function.Function.{Function as FunctionValue}
-use Rattle.legacy_laws.specs.LegacyFilterLaw.{ExpressionsMeanTheirFilters}
-use Rattle.legacy_laws.specs.LegacyFunctionLaw.{ExpressionsMeanTheirFunctions, MigratedTokenTextsMentionTheFeature, ReadsAlways, TokenExpressionsMeanTheirTexts}
-use Rattle.legacy_laws.proofs.FilterReading.{nowhere}
-use Rattle.legacy_laws.proofs.TokenLaws.{read_tokens}
-use Rattle.form_pool.specs.LegacyForms.{IsReadForm, form_tree, form_want}
+use Rattle.legacy_laws.specs.LegacyFilterLaw.{ExpressionsMeanTheirFilters, MigratedFiltersMentionTheFeature, MigratedFiltersUseNoGlobals}
+use Rattle.legacy_laws.specs.LegacyFunctionLaw.{ExpressionsMeanTheirFunctions, MigratedFunctionsMentionTheSame, MigratedFunctionsUseNoGlobals, function_mentions}
+use Rattle.legacy_laws.specs.LegacyFunctionLaw.{MigratedTokenTextsMentionTheFeature, MigratedTokenTextsUseNoGlobals, ReadsAlways, TokenExpressionsMeanTheirTexts}
+use Rattle.form_pool.specs.LegacyForms.{IsReadForm, form_tree}
 use Rattle.form_pool.specs.declared.legacy_form.LegacyForm.{LegacyForm}
 use Rattle.form_pool.specs.declared.legacy_form.LegacyForm.TheVariants.{Filter, Function, Tokens}
 use Rattle.asked_cells.specs.Expressions.{CellExpression, is_paint}
 use Rattle.cell_sources.specs.CellExpressions.{expression_of_filter, expression_of_value, filter_read, term_read, value_read}
-use Rattle.cell_sources.specs.Views.{IsFormAs, IsFormOf, expression_seen, legacy_term}
-use Rattle.cell_sources.specs.declared.expressions.ItemExpression.{ItemExpression}
+use Rattle.cell_sources.specs.Views.{IsFormAs, legacy_term}
 
-same_some : {A : Type 0} (a b : A) → Some a ≡ Some b → a ≡ b
-same_some a b is = ap (λ o. unwrap_or o a) is
+abbrev formed_with : Want → LegacyForm → Bool → Bool → CellExpression
+formed_with want form paint globals = record { term = legacy_term form; want = want; paint = paint; globals = globals }
 
--- what is read of a form's expression
-formed_as : (form : LegacyForm) (e : Term) → IsReadForm form → ReadsAlways (form_tree form) e → (i : ItemExpression) (x : CellExpression)
-    → x.term ≡ e → x.want ≡ form_want form → Some (expression_seen i) ≡ Some x → IsFormOf form i
-formed_as form e read reads i x term want is =
-    let same : expression_seen i ≡ x = same_some (expression_seen i) x is in record {
-      read = read;
-      wanted = sym (ap (λ (c : CellExpression). c.want) same ∙ want);
-      reads = subst (ReadsAlways (form_tree form)) (sym (ap (λ (c : CellExpression). c.term) same ∙ term)) reads;
-    }
+module _ (form : LegacyForm) (e : Term) (reads : ReadsAlways (form_tree form) e) where
+  term_same : legacy_term form ≡ e
+  term_same = ap (λ r. unwrap_or (term_read r) (literal null)) (reads [])
 
-value_formed : (row : RowData) (globals : List (List ℕ × Data)) (form : LegacyForm) (e : Term) → IsReadForm form → form_want form ≡ row.want
-    → ReadsAlways (form_tree form) e → (o : Option ItemExpression) → option_map expression_seen o ≡ value_read row globals (form_tree form)
-    → IfSome o (IsFormOf form)
-value_formed row globals form e read wanted reads None is = tt
-value_formed row globals form e read wanted reads (Some i) is =
-    formed_as form e read reads i (expression_of_value row (uses_globals (form_tree form)) e) refl (sym wanted)
-    (is ∙ ap (λ r. option_map (expression_of_value row (uses_globals (form_tree form))) (term_read r)) (reads globals))
+  form_as : (want : Want) → IsFormAs form e want → IsFormAs form (legacy_term form) want
+  form_as want is = record {
+    read = is.read;
+    wanted = is.wanted;
+    reads = subst (ReadsAlways (form_tree form)) (sym term_same) reads;
+  }
 
--- of a function and a filter
-pub function_formed : ExpressionsMeanTheirFunctions → (globals : List (List ℕ × Data)) (row : RowData) (f : FunctionValue) → row_of f ≡ row
-    → IsReadForm (Function f) → (t : Tree) → t ≡ form_tree (Function f)
-    → (o : Option ItemExpression) → option_map expression_seen o ≡ value_read row globals t → IfSome o (IsFormOf (Function f))
-function_formed means globals row f of (table, found) t made o seen =
-    let (e, reads, gives) = means (row_of f) found.0 (function_of f) table found.1 in
-    value_formed row globals (Function f) e (table, found) (ap (λ (r : RowData). r.want) of) reads o (seen ∙ ap (value_read row globals) made)
+  -- as a value of a row, and as a filter
+  module _ (free : uses_globals (form_tree form) ≡ false) where
+    seen_as_value : (row : RowData) (paint : Bool) → paint ≡ is_paint row.place → (globals : List (List ℕ × Data))
+        → Some (formed_with row.want form paint false) ≡ value_read row globals (form_tree form)
+    seen_as_value row paint placed globals =
+        let t = form_tree form in
+        ap (λ p. Some (formed_with row.want form p false)) placed
+        ∙ ap (λ b. Some (formed_with row.want form (is_paint row.place) b)) (sym free)
+        ∙ ap (λ x. Some (expression_of_value row (uses_globals t) x)) term_same
+        ∙ sym (ap (λ r. option_map (expression_of_value row (uses_globals t)) (term_read r)) (reads globals))
 
-pub filter_formed : ExpressionsMeanTheirFilters → (globals : List (List ℕ × Data)) (f : LegacyFilter) → IsReadForm (Filter f)
-    → (t : Tree) → t ≡ form_tree (Filter f)
-    → (o : Option ItemExpression) → option_map expression_seen o ≡ filter_read globals t → IfSome o (IsFormOf (Filter f))
-filter_formed means globals f read t made None seen = tt
-filter_formed means globals f (u, is) t made (Some i) seen =
-    let (e, reads, says) = means u (filter_of f) is in
-    formed_as (Filter f) e (u, is) reads i (expression_of_filter (uses_globals t) e) refl refl
-    (seen ∙ (ap (λ r. option_map (expression_of_filter (uses_globals t)) (term_read r)) (by_made e reads))) where
-      by_made : (e : Term) → ReadsAlways (form_tree (Filter f)) e → reading_with t globals ≡ Ok (Some e)
-      by_made e reads = ap (λ u. reading_with u globals) made ∙ reads globals
-
--- ---- by the form itself
-
-pub term_same : (form : LegacyForm) (e : Term) → ReadsAlways (form_tree form) e → legacy_term form ≡ e
-term_same form e reads = ap (λ r. unwrap_or (term_read r) (literal null)) (reads [])
-
-pub form_as : (form : LegacyForm) (e : Term) (want : Want) → IsFormAs form e want → IsFormAs form (legacy_term form) want
-form_as form e want is = record {
-  read = is.read;
-  wanted = is.wanted;
-  reads = subst (ReadsAlways (form_tree form)) (sym (term_same form e is.reads)) is.reads;
-}
+    seen_as_filter : (globals : List (List ℕ × Data)) → Some (formed_with wants.Boolean form false false) ≡ filter_read globals (form_tree form)
+    seen_as_filter globals =
+        let t = form_tree form in
+        ap (λ b. Some (formed_with wants.Boolean form false b)) (sym free)
+        ∙ ap (λ x. Some (expression_of_filter (uses_globals t) x)) term_same
+        ∙ sym (ap (λ r. option_map (expression_of_filter (uses_globals t)) (term_read r)) (reads globals))
 
 -- ---- a text with tokens
 
-walks_alike : {S : Type 0} (v w : S → Bool → Bool) → v ≡ w → (sought : S) → v sought true ≡ w sought true
-walks_alike v w h sought = λ i. h i sought true
-
-without_globals : (t : Tree) → stands t ≡ nowhere → uses_globals t ≡ false
-without_globals t h = walks_alike (stands t) nowhere h _
-
-no_globals : (s : List ℕ) → uses_globals (token_expression s) ≡ false
-no_globals s = without_globals (token_expression s) (read_tokens s).inside
-
-abbrev formed_with : RowData → LegacyForm → Bool → Bool → CellExpression
-formed_with row form paint globals = record { term = legacy_term form; want = row.want; paint = paint; globals = globals }
-
 module _ (means : TokenExpressionsMeanTheirTexts) (s : List ℕ) where
-  pub tokens_seen : (row : RowData) (form : LegacyForm) → form ≡ Tokens s row.want → (paint : Bool) → paint ≡ is_paint row.place
-      → (globals : List (List ℕ × Data))
+  pub tokens_seen : MigratedTokenTextsUseNoGlobals → (row : RowData) (form : LegacyForm) → form ≡ Tokens s row.want
+      → (paint : Bool) → paint ≡ is_paint row.place → (globals : List (List ℕ × Data))
       → Some (record { term = legacy_term form; want = row.want; paint = paint; globals = false }) ≡ value_read row globals (token_expression s)
-  tokens_seen row form is paint placed globals =
+  tokens_seen free row form is paint placed globals =
       let (e, reads, gives) = means s in
-      let t = token_expression s in
-      ap (λ f. Some (formed_with row f paint false)) is
-      ∙ ap (λ p. Some (formed_with row (Tokens s row.want) p false)) placed
-      ∙ ap (λ b. Some (formed_with row (Tokens s row.want) (is_paint row.place) b)) (sym (no_globals s))
-      ∙ ap (λ x. Some (expression_of_value row (uses_globals t) x)) (term_same (Tokens s row.want) e reads)
-      ∙ sym (ap (λ r. option_map (expression_of_value row (uses_globals t)) (term_read r)) (reads globals))
+      ap (λ f. Some (formed_with row.want f paint false)) is
+      ∙ seen_as_value (Tokens s row.want) e reads (free s) row paint placed globals
 
   pub tokens_mention : MigratedTokenTextsMentionTheFeature → (want : Want) (form : LegacyForm) → form ≡ Tokens s want
       → record nothing { feature = has_tokens s } ≡ mentions (legacy_term form)
@@ -116,4 +79,54 @@ module _ (means : TokenExpressionsMeanTheirTexts) (s : List ℕ) where
   tokens_formed want form is =
       let (e, reads, gives) = means s in
       subst (λ f. IsFormAs f (legacy_term f) want) (sym is)
-      (form_as (Tokens s want) e want (record { read = tt; wanted = refl; reads = reads }))
+      (form_as (Tokens s want) e reads want (record { read = tt; wanted = refl; reads = reads }))
+
+-- ---- a function
+
+module _ (means : ExpressionsMeanTheirFunctions) (f : FunctionValue) (read : IsReadForm (Function f)) where
+  pub function_seen : MigratedFunctionsUseNoGlobals → (row : RowData) → row_of f ≡ row
+      → (paint : Bool) → paint ≡ is_paint row.place → (globals : List (List ℕ × Data))
+      → Some (record { term = legacy_term (Function f); want = row.want; paint = paint; globals = false })
+      ≡ value_read row globals (function_expression row (function_of f))
+  function_seen free row of paint placed globals =
+      let (table, t, found) = read in
+      let (e, reads, gives) = means (row_of f) t (function_of f) table found in
+      seen_as_value (Function f) e reads (free (row_of f) t (function_of f) table found) row paint placed globals
+      ∙ ap (λ r. value_read row globals (function_expression r (function_of f))) of
+
+  pub function_mention : MigratedFunctionsMentionTheSame
+      → function_mentions (row_of f) (function_of f) ≡ mentions (legacy_term (Function f))
+  function_mention mention =
+      let (table, t, found) = read in
+      let (e, reads, gives) = means (row_of f) t (function_of f) table found in
+      sym (ap mentions (term_same (Function f) e reads) ∙ mention (row_of f) t (function_of f) table found e [] (reads []))
+
+  pub function_formed : (row : RowData) → row_of f ≡ row → IsFormAs (Function f) (legacy_term (Function f)) row.want
+  function_formed row of =
+      let (table, t, found) = read in
+      let (e, reads, gives) = means (row_of f) t (function_of f) table found in
+      form_as (Function f) e reads row.want
+      (record { read = read; wanted = ap (λ (r : RowData). r.want) of; reads = reads })
+
+-- ---- a filter
+
+module _ (means : ExpressionsMeanTheirFilters) (f : LegacyFilter) (read : IsReadForm (Filter f)) where
+  pub filter_seen : MigratedFiltersUseNoGlobals → (globals : List (List ℕ × Data))
+      → Some (record { term = legacy_term (Filter f); want = wants.Boolean; paint = false; globals = false })
+      ≡ filter_read globals (expression (filter_of f))
+  filter_seen free globals =
+      let (t, found) = read in
+      let (e, reads, says) = means t (filter_of f) found in
+      seen_as_filter (Filter f) e reads (free t (filter_of f) found) globals
+
+  pub filter_mention : MigratedFiltersMentionTheFeature → record nothing { feature = asks_feature (filter_of f) } ≡ mentions (legacy_term (Filter f))
+  filter_mention mention =
+      let (t, found) = read in
+      let (e, reads, says) = means t (filter_of f) found in
+      sym (ap mentions (term_same (Filter f) e reads) ∙ mention t (filter_of f) found e [] (reads []))
+
+  pub filter_formed : IsFormAs (Filter f) (legacy_term (Filter f)) wants.Boolean
+  filter_formed =
+      let (t, found) = read in
+      let (e, reads, says) = means t (filter_of f) found in
+      form_as (Filter f) e reads wants.Boolean (record { read = read; wanted = refl; reads = reads })

@@ -1,22 +1,18 @@
--- Each row of a type is a row of the table and is at its number, so that each property of a layer is given by the
--- expression of its item.
-use Rattle.std.proofs.Common.{◌≡◌, ◌≢◌, ◌∙◌, ℕ, ◌+◌, zero, suc, List, [], ◌∷◌, ◌++◌, get_or, refl, ap, sym, subst, arith, true, false}
-use Rattle.std.proofs.lemmas.Option.{slice_get-get_or, slice_get_within}
-use Rattle.std.specs.Prelude.{AllPairs, Bool, flat_map, Option, Some, None, if◌then◌else◌}
+-- Each row of a type is at its number, so that each property of a layer is given by the expression of its item.
+use Rattle.std.proofs.Common.{◌≡◌, ◌∙◌, ℕ, ◌+◌, suc, List, [], ◌∷◌, ◌++◌, refl, ap, sym, subst, arith, true, false}
+use Rattle.std.specs.Prelude.{Bool, flat_map, Option, Some, None, if◌then◌else◌}
 use Rattle.std.specs.List.{slice_get}
 use Rattle.std.specs.Option.{option_and_then}
 use Rattle.decimal_json.specs.Tree.{Tree}
 use Rattle.prop_values.specs.Data.{Data}
-use Rattle.prop_values.proofs.KeyLaws.{texts_same, texts_differ}
-use Rattle.property_tables.specs.Rows.{RowData, at_place, is_at, numbered, row_named, rows_of, table_of}
+use Rattle.property_tables.specs.Rows.{RowData, numbered, rows_of, table_of}
 use Rattle.property_tables.specs.TableLaws.{TableKeepsRules}
 use Rattle.property_tables.specs.declared.layer_type.LayerType.{LayerType}
-use Rattle.property_tables.specs.declared.property_row.Place.{Place}
-use Rattle.property_tables.specs.declared.property_row.Place.TheVariants.{Layout, Paint}
 use Rattle.legacy_laws.specs.LegacyFunctionLaw.{IsTableRow}
 use Rattle.layer_buckets.specs.declared.cell.CellItem.TheVariants as items
 use Rattle.style_layout.specs.Forms.{Property, property_of, reads_feature}
 use Rattle.style_layout.specs.Layers.{is_visibility, property_if, set_property, set_value}
+use Rattle.style_layout.proofs.TableRows.{table_row}
 use Rattle.asked_cells.specs.Asked.{has_own_cells}
 use Rattle.asked_cells.specs.Expressions.{AreGiven, CellExpression, IsGivenBy, LayerExpressions}
 use Rattle.cell_sources.specs.CellExpressions.{item_expression, row_expression, value_expression}
@@ -39,48 +35,11 @@ numbered_at at n (row ∷ rows) same = (
 rows_at : (type : LayerType) → AreAt (slice_get (rows_of type)) (rows_of type)
 rows_at type = numbered_at (slice_get (rows_of type)) 0 (table_of type) (λ j. (let same : 0 + j ≡ j = omega arith in ap (slice_get (rows_of type)) same))
 
--- ---- rows by their names
-
-abbrev HasAnotherName : RowData → RowData → Type 0
-HasAnotherName a b = a.name ≢ b.name
-
-found_at : (n : ℕ) (rows : List RowData) (i : ℕ) (row : RowData) → AllPairs HasAnotherName rows → slice_get rows i ≡ Some row
-    → (m : ℕ) × (row_named n row.name rows ≡ Some (m, row))
-found_at n [] i row apart is = absurd (omega (arith, slice_get_within [] i row is))
-found_at n (first ∷ rows) zero row apart is =
-    let same : first ≡ row = cc in (
-      n,
-      subst (λ r. row_named n r.name (first ∷ rows) ≡ Some (n, r)) same
-          (ap (λ b. if b then Some (n, first) else row_named (n + 1) first.name rows) (texts_same first.name first.name refl)),
-    )
-found_at n (first ∷ rows) (suc i) row apart is =
-    let (m, found) = found_at (n + 1) rows i row (λ j k d h l. apart (suc j) (suc k) d (omega (arith, h)) (omega (arith, l))) is in
-    let within = slice_get_within rows i row is in
-    let here : get_or rows i first ≡ row = (let there = sym (slice_get-get_or rows i first within) ∙ is in cc) in
-    let differ : row.name ≢ first.name =
-    λ same. apart zero (suc i) first (omega arith) (omega (arith, within)) (sym same ∙ ap (λ (r : RowData). r.name) (sym here)) in
-    (m, ap (λ b. if b then Some (n, first) else row_named (n + 1) row.name rows) (texts_differ row.name first.name differ) ∙ found)
-
-at_itself : (p : Place) → is_at p p ≡ true
-at_itself Layout = refl
-at_itself Paint = refl
-
 -- ---- properties
 
 own_cells : (o : Option CellExpression) → reads_feature (mentions_of o) ≡ has_own_cells o
 own_cells (Some e) = refl
 own_cells None = refl
-
--- a row of a type is one of the table
-pub table_row : TableKeepsRules → (type : LayerType) (n : ℕ) (row : RowData) → slice_get (rows_of type) n ≡ Some row → IsTableRow row
-table_row keeps type n row is =
-    let (m, found) = found_at 0 (rows_of type) n row (keeps type).names is in (
-      type,
-      row.place,
-      row.name,
-      m,
-      ap (at_place row.place) found ∙ ap (λ b. if b then Some (m, row) else None) (at_itself row.place),
-    )
 
 module _ (values : ExpressionsGiveValues) (globals : List (List ℕ × Data)) (type : LayerType) (layer : Tree) where
   abbrev expressions : LayerExpressions

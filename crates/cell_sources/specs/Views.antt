@@ -31,9 +31,6 @@ pub record IsFormAs (form : LegacyForm) (e : Term) (want : Want) : Type 0 where
   pub wanted : form_want form ≡ want
   pub reads : ReadsAlways (form_tree form) e
 
-abbrev pub IsFormOf : LegacyForm → ItemExpression → Type 0
-IsFormOf form e = IsFormAs form (form_term e.form) e.want
-
 -- a legacy form is of this want
 abbrev pub IsFormedAs : ItemForm → Want → Type 0
 IsFormedAs (Expression e) want = Unit {0}

@@ -1,29 +1,36 @@
 //! The expression that gives the value of an item of a layer.
 
-ghost use Rattle.std.specs.Prelude.{◌≡◌, ℕ, List, IfOk, IfSome, Some, option_map};
+ghost use Rattle.std.specs.Prelude.{◌≡◌, ℕ, List, false, IfOk, IfSome, Some, option_map};
 ghost use Rattle.decimal_json.specs.View.{tree_of};
 ghost use Rattle.prop_values.specs.Data.{Data};
 ghost use Rattle.property_tables.specs.RowView.{row_seen};
-ghost use Rattle.expr_syntax.specs.Mentioned.{nothing};
-ghost use Rattle.legacy_functions.specs.Tokens.{has_tokens, token_expression};
+ghost use Rattle.expr_syntax.specs.Mentioned.{mentions, nothing};
+ghost use Rattle.legacy_functions.specs.ToExpression.{function_expression};
+ghost use Rattle.legacy_functions.specs.Tokens.{token_expression};
 ghost use Rattle.legacy_functions.specs.View.{function_of, row_of};
 ghost use Rattle.legacy_functions.specs.Form.{form};
-ghost use Rattle.legacy_laws.specs.LegacyFunctionLaw.{IsTableRow};
+ghost use Rattle.legacy_laws.specs.LegacyFunctionLaw.{IsTableRow, function_mentions};
 ghost use Rattle.form_pool.specs.LegacyForms.{IsReadForm};
 ghost use Rattle.form_pool.specs.declared.legacy_form.LegacyForm.TheVariants as forms;
 ghost use Rattle.legacy_filters.specs.Form.{reading};
+ghost use Rattle.legacy_filters.specs.ToExpression.{expression};
+ghost use Rattle.legacy_filters.specs.View.{filter_of};
 ghost use Rattle.asked_cells.specs.Expressions.{is_paint};
 ghost use Rattle.cell_sources.specs.CellExpressions.{filter_expression, filter_read, read_as_filter, read_as_value, value_expression, value_read, function_tree, tokens_tree, legacy_tree};
-ghost use Rattle.cell_sources.specs.Views.{IsFormOf, IsFormed, expression_seen};
+ghost use Rattle.cell_sources.specs.Views.{IsFormAs, IsFormed, expression_seen, legacy_term};
 
 use decimal_json::{Json, Text};
 use dependency_sets::mentions;
 use expr_syntax::{Expr, Mentions, Reading, read_with, uses_globals};
 use form_pool::LegacyForm;
+use legacy_filters::LegacyFilter;
 use legacy_functions::{Function, FunctionReading, has_tokens};
 use legacy_laws::{
     expressions_mean_their_filters, expressions_mean_their_functions,
-    migrated_token_texts_mention_the_feature, token_expressions_mean_their_texts,
+    migrated_filters_mention_the_feature, migrated_filters_use_no_globals,
+    migrated_functions_mention_the_same, migrated_functions_use_no_globals,
+    migrated_token_texts_mention_the_feature, migrated_token_texts_use_no_globals,
+    token_expressions_mean_their_texts,
 };
 use prop_values::{Entries, Want};
 use property_tables::{Place, Row};
@@ -63,7 +70,7 @@ pub(crate) fn value_expression(
 {
     match form_of(row, json) {
         Form::Expression => value_read(alloc, row, globals, json),
-        Form::Function => function_read(alloc, row, globals, json),
+        Form::Function => function_read(alloc, row, json),
         Form::TokenText => tokens_read(row, json),
         Form::Literal => Ok(None),
     }
@@ -99,66 +106,51 @@ fn is_paint(place: Place) -> bool
     }
 }
 
+// The expression of a legacy function is not made: what a source says of it is read off the function.
 fn function_read(
     alloc: Global,
     row: &Row,
-    globals: &Entries,
     json: &Json,
 ) -> Result<Option<ItemExpression>, AllocError>
     requires { IsTableRow (row_seen row.now) }
-    ensures seen { IfOk result (λ made. option_map expression_seen made
-        ≡ read_as_value (row_seen row.now) globals.now (function_tree (row_seen row.now) (form (row_seen row.now) (tree_of json.now)))) }
+    ensures seen { IfOk result (λ made. (globals : List (List ℕ × Data)) → option_map expression_seen made
+        ≡ read_as_value (row_seen row.now) globals (function_tree (row_seen row.now) (form (row_seen row.now) (tree_of json.now)))) }
     ensures formed { IfOk result (λ made. IfSome made IsFormed) }
 {
     match legacy_functions::read(alloc, json, row)? {
-        Ok(FunctionReading::Inside(function)) => migrated_read(alloc, row, globals, function),
+        Ok(FunctionReading::Inside(function)) => Ok(Some(migrated_function(row, function))),
         _ => Ok(None),
     }
 }
 
-// The expression of a legacy function that was read for a row.
-#[tactic(auto, using(crate::proofs::FormedExpressions::function_formed))]
-fn migrated_read(
-    alloc: Global,
-    row: &Row,
-    globals: &Entries,
-    function: Function,
-) -> Result<Option<ItemExpression>, AllocError>
+fn migrated_function(row: &Row, function: Function) -> ItemExpression
     requires row { row_of function ≡ row_seen row.now }
     requires read { IsReadForm (forms.Function function) }
-    ensures seen { IfOk result (λ made. option_map expression_seen made
-        ≡ read_as_value (row_seen row.now) globals.now (function_tree (row_seen row.now) (Some (Some (function_of function))))) }
-    ensures formed { IfOk result (λ made. IfSome made IsFormed) }
-{
-    expressions_mean_their_functions();
-    let made = function.to_expr(alloc)?;
-    let read = value_read(alloc, row, globals, &made)?;
-    Ok(with_form(read, LegacyForm::Function(function)))
-}
-
-// What was read as an expression, by the legacy form whose expression it is.
-fn with_form(read: Option<ItemExpression>, form: LegacyForm) -> Option<ItemExpression>
-    requires formed { IfSome read IsFormed }
-    requires of_form { IfSome read (λ e. IsFormOf form e) }
-    ensures seen { option_map expression_seen result ≡ option_map expression_seen read }
-    ensures formed { IfSome result IsFormed }
-{
-    match read {
-        Some(expression) => Some(by_form(expression, form)),
-        None => None,
-    }
-}
-
-#[tactic(auto, using(crate::proofs::FormedExpressions::term_same))]
-fn by_form(read: ItemExpression, form: LegacyForm) -> ItemExpression
-    requires formed { IsFormed read }
-    requires of_form { IsFormOf form read }
-    ensures seen { expression_seen result ≡ expression_seen read }
+    ensures seen { (globals : List (List ℕ × Data)) → Some (expression_seen result)
+        ≡ value_read (row_seen row.now) globals (function_expression (row_seen row.now) (function_of function)) }
     ensures formed { IsFormed result }
 {
-    let mut expression = read;
-    expression.form = ItemForm::Legacy(form);
-    expression
+    expressions_mean_their_functions();
+    migrated_functions_mention_the_same();
+    migrated_functions_use_no_globals();
+    let mentioned = function_mentions(&function);
+    by_form(
+        LegacyForm::Function(function),
+        mentioned,
+        row.want,
+        is_paint(row.place),
+    )
+}
+
+fn function_mentions(function: &Function) -> Mentions
+    ensures { result ≡ function_mentions (row_of function.now) (function_of function.now) }
+{
+    Mentions {
+        zoom: function.asks_zoom(),
+        feature: function.asks_feature(),
+        state: false,
+        image: false,
+    }
 }
 
 fn tokens_read(row: &Row, json: &Json) -> Result<Option<ItemExpression>, AllocError>
@@ -172,7 +164,7 @@ fn tokens_read(row: &Row, json: &Json) -> Result<Option<ItemExpression>, AllocEr
     }
 }
 
-// The expression of a text with tokens, which is not made: what a source says of it is read off the text.
+// The expression of a text with tokens, which is not made either.
 fn text_read(row: &Row, text: &Text) -> Result<ItemExpression, AllocError>
     ensures seen { IfOk result (λ made. (globals : List (List ℕ × Data)) → Some (expression_seen made)
         ≡ value_read (row_seen row.now) globals (token_expression text.now)) }
@@ -180,32 +172,16 @@ fn text_read(row: &Row, text: &Text) -> Result<ItemExpression, AllocError>
 {
     token_expressions_mean_their_texts();
     migrated_token_texts_mention_the_feature();
+    migrated_token_texts_use_no_globals();
     let form = tokens_form(text, row)?;
-    Ok(ItemExpression {
-        form: ItemForm::Legacy(form),
-        mentions: token_mentions(text),
-        want: row.want,
-        paint: is_paint(row.place),
-        globals: false,
-    })
+    let mentioned = feature_alone(has_tokens(text.as_str()));
+    Ok(by_form(form, mentioned, row.want, is_paint(row.place)))
 }
 
 fn tokens_form(text: &Text, row: &Row) -> Result<LegacyForm, AllocError>
     ensures { IfOk result (λ form. form ≡ forms.Tokens text.now (row_seen row.now).want) }
 {
     Ok(LegacyForm::Tokens(text.share()?, row.want))
-}
-
-// What the expression of a text with tokens mentions.
-fn token_mentions(text: &Text) -> Mentions
-    ensures { result ≡ record nothing { feature = has_tokens text.now } }
-{
-    Mentions {
-        zoom: false,
-        feature: has_tokens(text.as_str()),
-        state: false,
-        image: false,
-    }
 }
 
 /// The expression of a filter; none of a truth value.
@@ -221,30 +197,33 @@ pub(crate) fn filter_expression(
         return Ok(None);
     }
     if legacy_filters::is_legacy(json) {
-        return legacy_read(alloc, globals, json);
+        return legacy_read(alloc, json);
     }
     filter_read(alloc, globals, json)
 }
 
-#[tactic(auto, using(crate::proofs::FormedExpressions::filter_formed))]
-fn legacy_read(
-    alloc: Global,
-    globals: &Entries,
-    json: &Json,
-) -> Result<Option<ItemExpression>, AllocError>
-    ensures seen { IfOk result (λ made. option_map expression_seen made
-        ≡ read_as_filter globals.now (legacy_tree (reading (tree_of json.now)))) }
+// Nor is the expression of a legacy filter made.
+fn legacy_read(alloc: Global, json: &Json) -> Result<Option<ItemExpression>, AllocError>
+    ensures seen { IfOk result (λ made. (globals : List (List ℕ × Data)) → option_map expression_seen made
+        ≡ read_as_filter globals (legacy_tree (reading (tree_of json.now)))) }
     ensures formed { IfOk result (λ made. IfSome made IsFormed) }
 {
-    expressions_mean_their_filters();
     match legacy_filters::read(alloc, json)? {
-        Ok(filter) => {
-            let made = filter.to_expr(alloc)?;
-            let read = filter_read(alloc, globals, &made)?;
-            Ok(with_form(read, LegacyForm::Filter(filter)))
-        }
+        Ok(filter) => Ok(Some(migrated_filter(filter))),
         Err(_) => Ok(None),
     }
+}
+
+fn migrated_filter(filter: LegacyFilter) -> ItemExpression
+    requires { IsReadForm (forms.Filter filter) }
+    ensures seen { (globals : List (List ℕ × Data)) → Some (expression_seen result) ≡ filter_read globals (expression (filter_of filter)) }
+    ensures formed { IsFormed result }
+{
+    expressions_mean_their_filters();
+    migrated_filters_mention_the_feature();
+    migrated_filters_use_no_globals();
+    let mentioned = feature_alone(filter.asks_feature());
+    by_form(LegacyForm::Filter(filter), mentioned, Want::Boolean, false)
 }
 
 fn filter_read(
@@ -264,5 +243,33 @@ fn filter_read(
             globals: uses_globals(json),
         })),
         _ => Ok(None),
+    }
+}
+
+// The expression of a legacy form, which is not made. None reads the global state.
+fn by_form(form: LegacyForm, mentioned: Mentions, want: Want, paint: bool) -> ItemExpression
+    requires mentioned { mentioned ≡ mentions (legacy_term form) }
+    requires form { IsFormAs form (legacy_term form) want }
+    ensures seen { expression_seen result ≡ record { term = legacy_term form; want = want; paint = paint; globals = false } }
+    ensures formed { IsFormed result }
+{
+    ItemExpression {
+        form: ItemForm::Legacy(form),
+        mentions: mentioned,
+        want,
+        paint,
+        globals: false,
+    }
+}
+
+// The feature alone, or nothing.
+fn feature_alone(asked: bool) -> Mentions
+    ensures { result ≡ record nothing { feature = asked } }
+{
+    Mentions {
+        zoom: false,
+        feature: asked,
+        state: false,
+        image: false,
     }
 }

@@ -28,8 +28,8 @@
 //!   (`cells_mean_the_same`). Other values of the global state change no expression of an item but one that has a
 //!   `global-state` node (`globals_change_no_other`).
 //!
-//! Of a text with tokens no expression is made. By `legacy_laws` it always has one, and what that mentions is read off
-//! the text; the evaluator has the text itself, by a handle.
+//! Of a legacy function, a text with tokens and a legacy filter no expression is made. By `legacy_laws` each has one,
+//! and what that mentions is read off the form; the evaluator has the form itself, a text by a handle.
 //!
 //! The text to believe is in `specs/`: `CellExpressions`, `Sourced`, `CellLaws`.
 #![tactic(auto)]

@@ -131,7 +131,7 @@ fn add_property(
 }
 
 // The expression of the property of a row's number.
-#[tactic(auto, using(crate::proofs::LayerProperties::table_row))]
+#[tactic(auto, using(style_layout::proofs::TableRows::table_row))]
 pub(crate) fn property_expression(
     alloc: Global,
     layer: &LayerValues<'_>,
