@@ -89,22 +89,22 @@ module _ (means : ExpressionsMeanTheirFunctions) (f : FunctionValue) (read : IsR
       → Some (record { term = legacy_term (Function f); want = row.want; paint = paint; globals = false })
       ≡ value_read row globals (function_expression row (function_of f))
   function_seen free row of paint placed globals =
-      let (table, t, found) = read in
-      let (e, reads, gives) = means (row_of f) t (function_of f) table found in
-      seen_as_value (Function f) e reads (free (row_of f) t (function_of f) table found) row paint placed globals
+      let (table, given) = read in
+      let (e, reads, gives) = means (row_of f) given.0 (function_of f) table given.1 in
+      seen_as_value (Function f) e reads (free (row_of f) given.0 (function_of f) table given.1) row paint placed globals
       ∙ ap (λ r. value_read row globals (function_expression r (function_of f))) of
 
   pub function_mention : MigratedFunctionsMentionTheSame
       → function_mentions (row_of f) (function_of f) ≡ mentions (legacy_term (Function f))
   function_mention mention =
-      let (table, t, found) = read in
-      let (e, reads, gives) = means (row_of f) t (function_of f) table found in
-      sym (ap mentions (term_same (Function f) e reads) ∙ mention (row_of f) t (function_of f) table found e [] (reads []))
+      let (table, given) = read in
+      let (e, reads, gives) = means (row_of f) given.0 (function_of f) table given.1 in
+      sym (ap mentions (term_same (Function f) e reads) ∙ mention (row_of f) given.0 (function_of f) table given.1 e [] (reads []))
 
   pub function_formed : (row : RowData) → row_of f ≡ row → IsFormAs (Function f) (legacy_term (Function f)) row.want
   function_formed row of =
-      let (table, t, found) = read in
-      let (e, reads, gives) = means (row_of f) t (function_of f) table found in
+      let (table, given) = read in
+      let (e, reads, gives) = means (row_of f) given.0 (function_of f) table given.1 in
       form_as (Function f) e reads row.want
       (record { read = read; wanted = ap (λ (r : RowData). r.want) of; reads = reads })
 

@@ -32,10 +32,10 @@ tokens_read means mention s globals =
 
 pub function_reads : ExpressionsMeanTheirFunctions → MigratedFunctionsMentionTheSame → (row : RowData) (f : Function) → IsReadFunction row f
     → (globals : List (List ℕ × Data)) → is_per_feature globals (legacy_function row f) ≡ asks_feature f
-function_reads means mention row f (table, t, found) globals =
-    let (e, reads, gives) = means row t f table found in
+function_reads means mention row f (table, given) globals =
+    let (e, reads, gives) = means row given.0 f table given.1 in
     ap (λ r. reads_feature (expression_mentions (expression_value r))) (reads globals)
-    ∙ ap reads_feature (mention row t f table found e globals (reads globals)) ∙ or_false (asks_feature f)
+    ∙ ap reads_feature (mention row given.0 f table given.1 e globals (reads globals)) ∙ or_false (asks_feature f)
 
 -- ---- a value of a row of the table was read on it
 
