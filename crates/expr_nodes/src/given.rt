@@ -1,6 +1,6 @@
 //! Nodes whose bindings were evaluated before.
 
-ghost use Rattle.std.specs.Prelude.{◌≡◌, ◌<◌, length, map};
+ghost use Rattle.std.specs.Prelude.{◌≡◌, ◌<◌, length, map, Some};
 ghost use Rattle.std.specs.List.{slice_get};
 ghost use Rattle.prop_values.specs.ViewParts.{evaluated_of};
 ghost use Rattle.expr_nodes.specs.Filled.{given_or_asked};
@@ -60,20 +60,29 @@ fn form_at(given: &[Result<Value, EvalFault>], slot: usize, want: Want) -> NodeF
     }
 }
 
-/// No binding.
+/// Bindings that are listed.
 #[derive(Clone, Copy)]
-pub(crate) struct NoBindings;
+pub(crate) struct ListedBindings<'a, N> {
+    pub(crate) nodes: &'a [N],
+}
 
-impl<N: NodeHandle> Bindings<N> for NoBindings {
-    ghost use Rattle.std.specs.Prelude.{[]};
+impl<'a, N: NodeHandle> Bindings<N> for ListedBindings<'a, N> {
+    ghost use Rattle.std.specs.Prelude.{map};
 
-    ghost listed = { λ _. [] };
+    ghost listed = { λ s. map N.node s.nodes.now };
 
     fn count(&self) -> usize {
-        0
+        self.nodes.len()
     }
 
-    fn binding(&self, _slot: usize) -> N {
-        unreachable!()
+    fn binding(&self, slot: usize) -> N {
+        node_at(self.nodes, slot)
     }
+}
+
+fn node_at<N: NodeHandle>(nodes: &[N], place: usize) -> N
+    requires { place < length nodes.now }
+    ensures { slice_get (map N.node nodes.now) place ≡ Some (N.node result) }
+{
+    nodes[place]
 }

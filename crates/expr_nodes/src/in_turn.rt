@@ -10,7 +10,7 @@ ghost use Rattle.expr_nodes.specs.Limits.{AsksBelow, AskEarlier};
 
 use crate::access::{Bindings, NodeHandle};
 use crate::evaluation::{Surroundings, value_or_fault};
-use crate::given::{GivenNode, NoBindings};
+use crate::given::{GivenNode, ListedBindings};
 use crate::workspace::{Workspace, empty};
 use operator_rules::WorldView;
 use operator_values::Halt;
@@ -115,8 +115,9 @@ impl Workspace {
         ensures most { steps.new ≤ steps.old + size (N.node tree) }
     {
         self.clear();
-        let around = Surroundings {
-            bindings: &NoBindings,
+        let none = ListedBindings { nodes: &[] };
+        let around: Surroundings<'_, ListedBindings<'_, N>, W> = Surroundings {
+            bindings: &none,
             world: &*world,
             limit: 0,
         };
