@@ -120,7 +120,6 @@ pub(crate) fn is_per_feature(value: &PropertyValue) -> bool
     }
 }
 
-#[tactic(auto, using(crate::proofs::LegacyReads::function_reads))]
 fn function_reads_feature(function: &Function) -> bool
     requires { IsReadFunction (row_of function.now) (function_of function.now) }
     ensures { (globals : List (List ℕ × Data)) → result

@@ -48,7 +48,6 @@ pub(crate) fn properties_of(
     Ok(properties)
 }
 
-#[tactic(auto, using(crate::proofs::TableRows::table_row_at))]
 fn push_numbered(
     alloc: Global,
     globals: &Entries,
@@ -111,7 +110,6 @@ pub fn set_value<'a>(layer: &'a Members, place: Place, name: &str) -> Option<&'a
     placed.and_then(|properties| properties.get(name))
 }
 
-#[tactic(auto, using(crate::proofs::LegacyReads::value_is_read))]
 fn read_property(
     alloc: Global,
     globals: &Entries,

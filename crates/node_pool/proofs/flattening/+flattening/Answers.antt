@@ -18,8 +18,8 @@ put_side_by_side-loop-node-init t c =
     record {
       ordered = c.requires;
       kept = take_all (length ps) ps (omega arith);
-      follow = ap (λ xs. all_follow xs (length ps)) c.new-last.ensures.items;
-      same = λ i. each_by (c.new-last.ensures.items i) (pooled_nodes ps) ++ boxed_nodes (rest i);
+      follow = ap (λ xs. all_follow xs (length ps)) c.in_ok-last.ensures.items;
+      same = λ i. each_by (c.in_ok-last.ensures.items i) (pooled_nodes ps) ++ boxed_nodes (rest i);
       smaller = omega (arith, w);
     }
 

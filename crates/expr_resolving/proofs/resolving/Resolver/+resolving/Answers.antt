@@ -101,7 +101,7 @@ resolve_inner-loop-argument-init t c =
     let rest = c.into_iter-argument-iterator.ensures.into_iter_gives.0 in
     let count = c.len-count.result in
     let w = ap weight rest in (
-      ap (λ ns. inner_after c.args.op count c.args.want left scope (boxed_nodes ns) (terms (into_iter_items c.into_iter-argument-iterator.result)) so_far) c.new-nodes.ensures.items
+      ap (λ ns. inner_after c.args.op count c.args.want left scope (boxed_nodes ns) (terms (into_iter_items c.into_iter-argument-iterator.result)) so_far) c.in_ok-nodes.ensures.items
           ∙ (ap (λ xs. inner_after c.args.op count c.args.want left scope [] (terms xs) so_far) rest
           ∙ inner_start c.args.op count c.args.want left scope es so_far (c.len-count.ensures ∙ c.args.arguments.ok.0)),
       omega (arith, w),
