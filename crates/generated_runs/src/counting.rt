@@ -5,7 +5,7 @@ ghost use Rattle.edit_session.specs.View.{session_state, tiles_of, IsSoundSessio
 ghost use Rattle.program_runs.specs.Outcome.{said};
 ghost use Rattle.program_runs.specs.Progress.{outcome_of, IsAnswered};
 ghost use Rattle.program_runs.specs.Written.{StepsAreDue};
-ghost use Rattle.script_runs.specs.ImageReports.{GoesAlong, GoesPartway, ImageReportsOfLine};
+ghost use Rattle.script_runs.specs.ImageReports.{GoesAlong, GoesPartway, ImageReportsOfLine, ImagesOfLine};
 ghost use Rattle.script_runs.specs.ScriptRun.{lines_run, ending_by};
 ghost use Rattle.generated_runs.specs.Counted.{counted, counts_line, line_count};
 ghost use Rattle.generated_runs.specs.Counting.{EndsAs, IsSmall, lines_left};
@@ -53,6 +53,10 @@ pub fn answer_counted<L: Ledger>(
         (tell_count images.old) (tell_count images.new)) }
     ensures count_failed { OnErr result (GoesPartway (ImageReportsOfLine (changes images.old)) (generated_lines features)
         (tell_count images.old) (tell_count images.new)) }
+    ensures images { OnOk result (GoesAlong (ImagesOfLine (changes images.old)) (generated_lines features)
+        (test images.old) (test images.new)) }
+    ensures images_failed { OnErr result (GoesPartway (ImagesOfLine (changes images.old)) (generated_lines features)
+        (test images.old) (test images.new)) }
 {
     let mut session = session;
     count_answers(&mut session, features, images, scripts, steps)
@@ -79,6 +83,10 @@ fn count_answers<L: Ledger>(
         (tell_count images.old) (tell_count images.new)) }
     ensures count_failed { OnErr result (GoesPartway (ImageReportsOfLine (changes images.old)) (generated_lines features)
         (tell_count images.old) (tell_count images.new)) }
+    ensures images { OnOk result (GoesAlong (ImagesOfLine (changes images.old)) (generated_lines features)
+        (test images.old) (test images.new)) }
+    ensures images_failed { OnErr result (GoesPartway (ImagesOfLine (changes images.old)) (generated_lines features)
+        (test images.old) (test images.new)) }
 {
     let mut counting = Counting {
         alloc: session.alloc(),
@@ -115,6 +123,10 @@ impl Counting {
             (tell_count images.old) (tell_count images.new)) }
         ensures count_failed { OnErr result (GoesPartway (ImageReportsOfLine (changes images.old)) (generated_lines features)
             (tell_count images.old) (tell_count images.new)) }
+        ensures images { OnOk result (GoesAlong (ImagesOfLine (changes images.old)) (generated_lines features)
+            (test images.old) (test images.new)) }
+        ensures images_failed { OnErr result (GoesPartway (ImagesOfLine (changes images.old)) (generated_lines features)
+            (test images.old) (test images.new)) }
     {
         let mut line = Vec::new(self.alloc);
         for place in 0..line_count_of(features) {
@@ -142,6 +154,9 @@ impl Counting {
         ensures count { OnOk result (ImageReportsOfLine (changes images.old) line.now (tell_count images.old) (tell_count images.new)) }
         ensures count_failed { OnErr result ((tell_count images.new ≡ tell_count images.old)
             ⊎ ImageReportsOfLine (changes images.old) line.now (tell_count images.old) (tell_count images.new)) }
+        ensures images { OnOk result (ImagesOfLine (changes images.old) line.now (test images.old) (test images.new)) }
+        ensures images_failed { OnErr result ((test images.new ≡ test images.old)
+            ⊎ ImagesOfLine (changes images.old) line.now (test images.old) (test images.new)) }
         ensures on { (features : ℕ) (rest : List (List ℕ)) → OnOk result (EndsAs steps.old steps.new
             (lines_left features (test scripts.now) (changes images.old) (test images.old) session.old self.old (line.now ∷ rest))
             (lines_left features (test scripts.now) (changes images.old) (test images.new) session.new self.new rest)) }

@@ -5,7 +5,7 @@ ghost use Rattle.edit_session.specs.View.{lacks_memory, session_state, tiles_of,
 ghost use Rattle.host_ops.specs.Change.{IsSameTest};
 ghost use Rattle.program_runs.specs.Progress.{IsCut, IsWritten};
 ghost use Rattle.script_runs.specs.LineAnswers.{LineGives, StepsAreOfLine, line_seen};
-ghost use Rattle.script_runs.specs.ImageReports.{GoesAlong, GoesPartway, ImageReportsOfLine};
+ghost use Rattle.script_runs.specs.ImageReports.{GoesAlong, GoesPartway, ImageReportsOfLine, ImagesOfLine};
 ghost use Rattle.script_runs.specs.ScriptLines.{script_lines};
 ghost use Rattle.script_runs.specs.ScriptRun.{script_run, ending_by};
 
@@ -59,6 +59,10 @@ pub fn answer_script<O: Sink, L: Ledger>(
         (tell_count images.old) (tell_count images.new)) }
     ensures count_failed { OnErr result (GoesPartway (ImageReportsOfLine (changes images.old)) (script_lines script.now)
         (tell_count images.old) (tell_count images.new)) }
+    ensures images { OnOk result (GoesAlong (ImagesOfLine (changes images.old)) (script_lines script.now)
+        (test images.old) (test images.new)) }
+    ensures images_failed { OnErr result (GoesPartway (ImagesOfLine (changes images.old)) (script_lines script.now)
+        (test images.old) (test images.new)) }
 {
     let mut session = session;
     let mut any = false;
@@ -111,6 +115,8 @@ pub fn answer_line<L: Ledger>(
     ensures count_failed { OnErr result ((tell_count images.new ≡ tell_count images.old)
         ⊎ ImageReportsOfLine (changes images.old) line.now.bytes.now (tell_count images.old) (tell_count images.new)) }
     ensures silent { lacks_memory session.old ≡ true → tell_count images.new ≡ tell_count images.old }
+    ensures images_failed { OnErr result ((test images.new ≡ test images.old)
+        ⊎ ImagesOfLine (changes images.old) line.now.bytes.now (test images.old) (test images.new)) }
     ensures lent { lacks_memory session.new ≡ true → IsSameTest (test images.old) (test images.new) }
 {
     let alloc = session.alloc();

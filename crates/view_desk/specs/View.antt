@@ -5,6 +5,7 @@ use Rattle.edit_script.specs.declared.command.LineFault.{LineFault}
 use Rattle.edit_session.specs.Applied.{is_of_view}
 use Rattle.edit_session.specs.View.{reply_seen, session_state, tiles_of, view_seen, AreSoundViews, IsSoundSession}
 use Rattle.program_runs.specs.Written.{RoseBetween}
+use Rattle.script_runs.specs.ImageReports.{images_after}
 use Rattle.style_layout.specs.Shown.{SourceTile}
 use Rattle.view_desk.specs.DeskLines.{DeskEdit, open_view, close_view, in_view, of_style, AnswersDeskLine}
 use Rattle.view_desk.specs.DeskRun.{DeskOut, desk_answered, desk_out}
@@ -85,3 +86,14 @@ module _ (tiles : List SourceTile) (scripts : List ℕ → Bool) (steps_old step
 abbrev pub ImageReportsOfDeskLine : (can_change : Bool) → (line : List ℕ) → (before after : ℕ) → Type 0
 ImageReportsOfDeskLine can_change line before after =
     (read : Result DeskEdit LineFault) × AnswersDeskLine line read × (after ≡ desk_image_reports_after can_change read before)
+
+-- What the test of images answers, once a line is answered: an edit of the style makes of it what it makes of it in
+-- a session, and all else leaves it. Source: own.
+abbrev pub desk_images_after : (can_change : Bool) → Result DeskEdit LineFault → (List ℕ → Bool) → List ℕ → Bool
+desk_images_after can_change (Ok (of_style edit)) has_image = images_after can_change edit has_image
+desk_images_after can_change read has_image = has_image
+
+-- The bytes of a line take what it answers from one to another.
+abbrev pub ImagesOfDeskLine : (can_change : Bool) → (line : List ℕ) → (before after : List ℕ → Bool) → Type 0
+ImagesOfDeskLine can_change line before after =
+    (read : Result DeskEdit LineFault) × AnswersDeskLine line read × (after ≡ desk_images_after can_change read before)

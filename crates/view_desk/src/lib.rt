@@ -17,7 +17,8 @@
 //! images once, however many views are open, and no other line does (`desk_image_reports_after`). Once allocation fails a desk answers so
 //! ever after.
 //! `answer_desk` writes the text of each answer before the next line is looked at: the outcome of `desk_script_run` of
-//! `specs/DeskRun.antt`.
+//! `specs/DeskRun.antt`. The test of images then answers by the lines of the style (`desk_images_after`); where the
+//! run fails, by those that it had come to.
 //!
 //! At most eight views are open, so that a view is found by its name along the list of them.
 //!

@@ -7,7 +7,7 @@ ghost use Rattle.program_runs.specs.Progress.{IsCut, IsWritten};
 ghost use Rattle.script_runs.specs.ImageReports.{GoesAlong, GoesPartway};
 ghost use Rattle.script_runs.specs.ScriptLines.{script_lines};
 ghost use Rattle.view_desk.specs.DeskRun.{desk_script_run};
-ghost use Rattle.view_desk.specs.View.{desk_line_seen, desk_state, desk_tiles, DeskLineGives, IsSoundDesk, ImageReportsOfDeskLine, StepsAreOfDeskLine};
+ghost use Rattle.view_desk.specs.View.{desk_line_seen, desk_state, desk_tiles, DeskLineGives, IsSoundDesk, ImageReportsOfDeskLine, ImagesOfDeskLine, StepsAreOfDeskLine};
 
 use crate::answers::line_answer;
 use crate::desk::Desk;
@@ -53,6 +53,10 @@ pub fn answer_desk<O: Sink, L: Ledger>(
         (tell_count images.old) (tell_count images.new)) }
     ensures count_failed { OnErr result (GoesPartway (ImageReportsOfDeskLine (changes images.old)) (script_lines script.now)
         (tell_count images.old) (tell_count images.new)) }
+    ensures images { OnOk result (GoesAlong (ImagesOfDeskLine (changes images.old)) (script_lines script.now)
+        (test images.old) (test images.new)) }
+    ensures images_failed { OnErr result (GoesPartway (ImagesOfDeskLine (changes images.old)) (script_lines script.now)
+        (test images.old) (test images.new)) }
 {
     let mut desk = desk;
     let mut any = false;
@@ -109,6 +113,8 @@ fn answer_line<L: Ledger>(
         (tell_count images.old) (tell_count images.new)) }
     ensures count_failed { OnErr result ((tell_count images.new ≡ tell_count images.old)
         ⊎ ImageReportsOfDeskLine (changes images.old) line.now.bytes.now (tell_count images.old) (tell_count images.new)) }
+    ensures images_failed { OnErr result ((test images.new ≡ test images.old)
+        ⊎ ImagesOfDeskLine (changes images.old) line.now.bytes.now (test images.old) (test images.new)) }
 {
     let answer = desk.line(line.bytes, images, scripts, steps)?;
     line_answer(desk.alloc(), line.number, answer)

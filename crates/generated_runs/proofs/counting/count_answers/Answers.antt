@@ -2,7 +2,7 @@ use Rattle.std.proofs.Common.{false}
 use Rattle.edit_session.specs.View.{session_state, tiles_of}
 use Rattle.outside_io.specs.WritingLaws.{at_error}
 use Rattle.script_runs.specs.ScriptRun.{lines_run}
-use Rattle.script_runs.specs.ImageReports.{ImageReportsOfLine}
+use Rattle.script_runs.specs.ImageReports.{ImageReportsOfLine, ImagesOfLine}
 use Rattle.script_runs.proofs.ImageReports.{all_partway, at_answer}
 use Rattle.generated_runs.specs.Counted.{counted}
 use Rattle.generated_runs.specs.GeneratedScript.{generated_lines}
@@ -46,3 +46,17 @@ returns-clause-count_failed g c =
 
 pub returns-in_err-answer_all-clause-count_failed : goal.returns-in_err-answer_all-clause-count_failed
 returns-in_err-answer_all-clause-count_failed g c = at_error c.from_residual.result c.in_err-answer_all.ensures.count_failed
+
+-- ---- what the test of images answers
+
+pub returns-clause-images : goal.returns-clause-images
+returns-clause-images g c = at_answer c.finish.result c.in_ok-answer_all.ensures.images
+
+-- the line of counts does not fit into memory
+pub returns-clause-images_failed : goal.returns-clause-images_failed
+returns-clause-images_failed g c =
+    let can_change = (goal.HostOp-dyn g c.args.images.now).changes c.args.images.now.1 in
+    at_error c.finish.result (all_partway (ImagesOfLine can_change) (generated_lines c.args.features) _ _ c.in_ok-answer_all.ensures.images)
+
+pub returns-in_err-answer_all-clause-images_failed : goal.returns-in_err-answer_all-clause-images_failed
+returns-in_err-answer_all-clause-images_failed g c = at_error c.from_residual.result c.in_err-answer_all.ensures.images_failed

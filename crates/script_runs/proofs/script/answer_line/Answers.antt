@@ -3,7 +3,7 @@ use Rattle.outside_io.specs.WritingLaws.{at_error}
 use Rattle.edit_script.specs.View.{command_seen, read_seen}
 use Rattle.edit_session.specs.View.{session_state, reply_seen, tiles_of}
 use Rattle.script_runs.proofs.LineRuns.{command_steps, fault_given, reply_given}
-use Rattle.script_runs.proofs.ImageReports.{at_answer, command_reports, fault_reports, where_answered, where_failed}
+use Rattle.script_runs.proofs.ImageReports.{at_answer, command_images, command_reports, fault_reports, same_answers, where_answered, where_failed}
 use Rattle.script_runs.proofs.script.answer_line.Goals as goal
 
 pub returns-in_ok-answer-in-Ok-clause-gives : goal.returns-in_ok-answer-in-Ok-clause-gives
@@ -57,3 +57,19 @@ returns-in-Err-clause-count g c = at_answer c.fault_answer.result
 
 pub returns-in-Err-clause-count_failed : goal.returns-in-Err-clause-count_failed
 returns-in-Err-clause-count_failed g c = at_error c.fault_answer.result (inl refl)
+
+-- ---- what the test of images answers
+
+-- what is written of the answer does not fit into memory
+pub returns-in_ok-answer-in-Ok-clause-images_failed : goal.returns-in_ok-answer-in-Ok-clause-images_failed
+returns-in_ok-answer-in-Ok-clause-images_failed g c = at_error c.answer_of.result (inr
+    (command_images (tiles_of c.args.session.now) _ (session_state c.args.session.now _) _ c.args.line.now.bytes.now
+    (read_seen c.in_ok-command.field-0) c.in_ok-command.ensures (command_seen c.in-Ok.command) (ap read_seen c.in-Ok.is)
+    (session_state c.apply.new.self _) (reply_seen c.in_ok-answer-in-Ok.answer) c.in_ok-answer-in-Ok.ensures.answer))
+
+pub returns-in_err-answer-in-Ok-clause-images_failed : goal.returns-in_err-answer-in-Ok-clause-images_failed
+returns-in_err-answer-in-Ok-clause-images_failed g c =
+    at_error c.from_residual-in_err-answer-in-Ok.result (inl (same_answers _ _ c.in_err-answer-in-Ok.ensures.lent))
+
+pub returns-in-Err-clause-images_failed : goal.returns-in-Err-clause-images_failed
+returns-in-Err-clause-images_failed g c = at_error c.fault_answer.result (inl refl)

@@ -3,7 +3,7 @@ use Rattle.edit_session.specs.View.{session_state, tiles_of, IsSoundSession}
 use Rattle.outside_io.specs.Writing.{Gains}
 use Rattle.program_runs.specs.Progress.{Stretch, HasWritten}
 use Rattle.program_runs.specs.Written.{RoseBetween}
-use Rattle.script_runs.specs.ImageReports.{ImageReportsOfLine}
+use Rattle.script_runs.specs.ImageReports.{ImageReportsOfLine, ImagesOfLine}
 use Rattle.script_runs.specs.ScriptLines.{script_lines}
 use Rattle.script_runs.specs.ScriptRun.{lines_run, script_run}
 use Rattle.script_runs.proofs.ImageReports.{HasGone}
@@ -27,6 +27,7 @@ invariant-loop-line g l =
           (lines_run (tiles_of l.fn.session) scripts can_change l.number (session_state l.session images) l.any (script_lines l.rest));
       reports : HasGone (ImageReportsOfLine can_change) (script_lines l.fn.script) (script_lines l.rest)
           ((goal.HostOp-dyn g l.fn.images.now).tell_count l.fn.images.now.1) ((goal.HostOp-dyn g l.images.now).tell_count l.images.now.1);
+      answers : HasGone (ImagesOfLine can_change) (script_lines l.fn.script) (script_lines l.rest) images_first images;
     }
 
 abbrev pub decreases-loop-line : goal.decreases-loop-line

@@ -8,9 +8,10 @@ use Rattle.program_runs.specs.declared.status.Ending.{Ending}
 use Rattle.script_runs.specs.ScriptLines.{script_lines}
 use Rattle.script_runs.specs.ScriptRun.{ending_by}
 use Rattle.view_desk.specs.DeskRun.{desk_lines_run, desk_script_run}
-use Rattle.view_desk.specs.View.{desk_state, desk_tiles, ImageReportsOfDeskLine}
+use Rattle.view_desk.specs.View.{desk_state, desk_tiles, ImageReportsOfDeskLine, ImagesOfDeskLine}
 use Rattle.script_runs.proofs.ImageReports.{all_gone, line_cut, line_gone, none_gone, some_gone}
 use Rattle.view_desk.proofs.DeskLineRuns.{desk_line_writes, desk_steps_due}
+use Rattle.view_desk.proofs.DeskReports.{line_images}
 use Rattle.view_desk.proofs.script.answer_desk.Goals as goal
 
 pub loop-line-init : goal.loop-line-init
@@ -22,6 +23,7 @@ loop-line-init g c = record {
   none_failed = refl;
   written = (no_stretch, gains_nothing (g.O.Sink.held c.args.out.now), (omega arith, omega arith), none_written _);
   reports = none_gone _ (script_lines c.args.script.now) _;
+  answers = none_gone _ (script_lines c.args.script.now) _;
 }
 
 pub loop-line-preserved : goal.loop-line-preserved
@@ -47,6 +49,9 @@ loop-line-preserved g c =
         piece_written _ _ _ before.0 piece before.3 next.2,
       );
       reports = line_gone ImageReportsOfDeskLine _ _ c.loop-line.invariant.changes _ _ _ _ c.in-Some.ensures.some _ _ _ c.in-Ok.ensures.count c.loop-line.invariant.reports;
+      answers = line_gone ImagesOfDeskLine _ _ c.loop-line.invariant.changes _ _ _ _ c.in-Some.ensures.some _ _ _
+          (line_images (desk_tiles c.loop-line.desk) scripts _ (desk_state c.loop-line.desk _) _ _ _ c.loop-line.number _ c.in-Ok.ensures.gives)
+          c.loop-line.invariant.answers;
     }
 
 -- no line is left
@@ -107,3 +112,25 @@ returns-in-Err-clause-count_failed g c =
     some_gone (ImageReportsOfDeskLine can_change) (script_lines c.args.script.now) _ _ _
     (line_gone ImageReportsOfDeskLine _ _ c.loop-line.invariant.changes (script_lines c.args.script.now) _ _ _ c.in-Some.ensures.some _ _ _
     c.in-Ok.ensures.count c.loop-line.invariant.reports)
+
+-- ---- what the test of images answers
+
+pub returns-clause-images : goal.returns-clause-images
+returns-clause-images g c =
+    let can_change = (goal.HostOp-dyn g c.args.images.now).changes c.args.images.now.1 in
+    let none : script_lines c.loop-line.rest.now ≡ [] = search rules in
+    all_gone (ImagesOfDeskLine can_change) (script_lines c.args.script.now) (script_lines c.loop-line.rest.now) _ _ none c.loop-line.invariant.answers
+
+pub returns-in_default-answer_line-clause-images_failed : goal.returns-in_default-answer_line-clause-images_failed
+returns-in_default-answer_line-clause-images_failed g c =
+    line_cut ImagesOfDeskLine _ _ c.loop-line.invariant.changes (script_lines c.args.script.now) _ _ _ c.in-Some.ensures.some _ _ _
+    c.in_default-answer_line.ensures.images_failed c.loop-line.invariant.answers
+
+pub returns-in-Err-clause-images_failed : goal.returns-in-Err-clause-images_failed
+returns-in-Err-clause-images_failed g c =
+    let can_change = (goal.HostOp-dyn g c.args.images.now).changes c.args.images.now.1 in
+    let scripts = (goal.HostOp-dyn g c.args.scripts.now).test c.args.scripts.now.1 in
+    some_gone (ImagesOfDeskLine can_change) (script_lines c.args.script.now) _ _ _
+    (line_gone ImagesOfDeskLine _ _ c.loop-line.invariant.changes (script_lines c.args.script.now) _ _ _ c.in-Some.ensures.some _ _ _
+    (line_images (desk_tiles c.loop-line.desk) scripts _ (desk_state c.loop-line.desk _) _ _ _ c.loop-line.number _ c.in-Ok.ensures.gives)
+    c.loop-line.invariant.answers)

@@ -4,7 +4,7 @@ use Rattle.program_runs.specs.Progress.{Stretch, HasWritten}
 use Rattle.program_runs.specs.Written.{RoseBetween}
 use Rattle.script_runs.specs.ScriptLines.{script_lines}
 use Rattle.view_desk.specs.DeskRun.{desk_lines_run, desk_script_run}
-use Rattle.view_desk.specs.View.{desk_state, desk_tiles, ImageReportsOfDeskLine, IsSoundDesk}
+use Rattle.view_desk.specs.View.{desk_state, desk_tiles, ImageReportsOfDeskLine, ImagesOfDeskLine, IsSoundDesk}
 use Rattle.script_runs.proofs.ImageReports.{HasGone}
 use Rattle.view_desk.proofs.script.answer_desk.Given as goal
 
@@ -26,6 +26,7 @@ invariant-loop-line g l =
           (desk_lines_run (desk_tiles l.fn.desk) scripts can_change l.number (desk_state l.desk images) l.any (script_lines l.rest));
       reports : HasGone (ImageReportsOfDeskLine can_change) (script_lines l.fn.script) (script_lines l.rest)
           ((goal.HostOp-dyn g l.fn.images.now).tell_count l.fn.images.now.1) ((goal.HostOp-dyn g l.images.now).tell_count l.images.now.1);
+      answers : HasGone (ImagesOfDeskLine can_change) (script_lines l.fn.script) (script_lines l.rest) images_first images;
     }
 
 abbrev pub decreases-loop-line : goal.decreases-loop-line

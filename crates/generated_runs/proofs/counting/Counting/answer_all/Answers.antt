@@ -1,7 +1,7 @@
 use Rattle.std.proofs.Common.{◌≡◌, ◌∙◌, ◌≤◌, [], refl, subst, arith, ℕ, List, drop, length}
 use Rattle.std.proofs.lemmas.List.{drop_all}
 use Rattle.outside_io.specs.WritingLaws.{at_error}
-use Rattle.script_runs.specs.ImageReports.{ImageReportsOfLine}
+use Rattle.script_runs.specs.ImageReports.{ImageReportsOfLine, ImagesOfLine}
 use Rattle.script_runs.proofs.ImageReports.{all_gone, line_cut, line_gone, none_gone, some_gone}
 use Rattle.generated_runs.specs.Counting.{EndsAs, lines_left}
 use Rattle.generated_runs.specs.GeneratedScript.{generated_lines}
@@ -16,6 +16,7 @@ loop-place-init g c = record {
   number = c.requires.first;
   on = none_yet _ _;
   reports = none_gone _ (generated_lines c.args.features) _;
+  answers = none_gone _ (generated_lines c.args.features) _;
 }
 
 pub loop-place-preserved : goal.loop-place-preserved
@@ -35,6 +36,8 @@ loop-place-preserved g c =
           _ c.answer.new.session _ (c.in_ok-answer.ensures.on c.args.features _) c.loop-place.invariant.on;
       reports = line_gone ImageReportsOfLine _ _ c.loop-place.invariant.changes (generated_lines c.args.features) _ _ _ c.in_ok-put_line.ensures _ _ _
           (rw c.as_slice.ensures.value at c.in_ok-answer.ensures.count) c.loop-place.invariant.reports;
+      answers = line_gone ImagesOfLine _ _ c.loop-place.invariant.changes (generated_lines c.args.features) _ _ _ c.in_ok-put_line.ensures _ _ _
+          (rw c.as_slice.ensures.value at c.in_ok-answer.ensures.images) c.loop-place.invariant.answers;
     }
 
 pub returns-clause-on : goal.returns-clause-on
@@ -80,3 +83,23 @@ returns-in_err-answer-clause-count_failed g c =
     at_error c.from_residual-in_err-answer.result
     (line_cut ImageReportsOfLine _ _ c.loop-place.invariant.changes (generated_lines c.args.features) _ _ _ c.in_ok-put_line.ensures _ _ _
     (rw c.as_slice.ensures.value at c.in_err-answer.ensures.count_failed) c.loop-place.invariant.reports)
+
+-- ---- what the test of images answers
+
+pub returns-clause-images : goal.returns-clause-images
+returns-clause-images g c =
+    let can_change = (goal.HostOp-dyn g c.args.images.now).changes c.args.images.now.1 in
+    let past : length (generated_lines c.args.features) ≤ c.loop-place.place = omega (arith, c.loop-place-test.false, c.line_count_of-place-end.ensures.count) in
+    let none : drop c.loop-place.place (generated_lines c.args.features) ≡ [] = drop_all c.loop-place.place (generated_lines c.args.features) past in
+    all_gone (ImagesOfLine can_change) (generated_lines c.args.features) (drop c.loop-place.place (generated_lines c.args.features)) _ _ none c.loop-place.invariant.answers
+
+pub returns-in_err-put_line-clause-images_failed : goal.returns-in_err-put_line-clause-images_failed
+returns-in_err-put_line-clause-images_failed g c =
+    let can_change = (goal.HostOp-dyn g c.args.images.now).changes c.args.images.now.1 in
+    at_error c.from_residual.result (some_gone (ImagesOfLine can_change) (generated_lines c.args.features) _ _ _ c.loop-place.invariant.answers)
+
+pub returns-in_err-answer-clause-images_failed : goal.returns-in_err-answer-clause-images_failed
+returns-in_err-answer-clause-images_failed g c =
+    at_error c.from_residual-in_err-answer.result
+    (line_cut ImagesOfLine _ _ c.loop-place.invariant.changes (generated_lines c.args.features) _ _ _ c.in_ok-put_line.ensures _ _ _
+    (rw c.as_slice.ensures.value at c.in_err-answer.ensures.images_failed) c.loop-place.invariant.answers)

@@ -2,7 +2,7 @@ use Rattle.std.proofs.Common.{◌≡◌, ◌+◌, drop}
 use Rattle.edit_session.specs.View.{IsSoundSession}
 use Rattle.generated_runs.specs.Counting.{EndsAs, IsSmall, lines_left}
 use Rattle.generated_runs.specs.GeneratedScript.{generated_lines}
-use Rattle.script_runs.specs.ImageReports.{ImageReportsOfLine}
+use Rattle.script_runs.specs.ImageReports.{ImageReportsOfLine, ImagesOfLine}
 use Rattle.script_runs.proofs.ImageReports.{HasGone}
 use Rattle.generated_runs.proofs.counting.Counting.answer_all.Given as goal
 
@@ -21,4 +21,5 @@ invariant-loop-place g l =
           (lines_left l.fn.features scripts can_change images l.session l.self (drop l.place (generated_lines l.fn.features)));
       reports : HasGone (ImageReportsOfLine can_change) (generated_lines l.fn.features) (drop l.place (generated_lines l.fn.features))
           ((goal.HostOp-dyn g l.fn.images.now).tell_count l.fn.images.now.1) ((goal.HostOp-dyn g l.images.now).tell_count l.images.now.1);
+      answers : HasGone (ImagesOfLine can_change) (generated_lines l.fn.features) (drop l.place (generated_lines l.fn.features)) images_first images;
     }
