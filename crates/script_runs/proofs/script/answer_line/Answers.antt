@@ -62,10 +62,14 @@ returns-in-Err-clause-count_failed g c = at_error c.fault_answer.result (inl ref
 
 -- what is written of the answer does not fit into memory
 pub returns-in_ok-answer-in-Ok-clause-images_failed : goal.returns-in_ok-answer-in-Ok-clause-images_failed
-returns-in_ok-answer-in-Ok-clause-images_failed g c = at_error c.answer_of.result (inr
-    (command_images (tiles_of c.args.session.now) _ (session_state c.args.session.now _) _ c.args.line.now.bytes.now
+returns-in_ok-answer-in-Ok-clause-images_failed g c =
+    let images = goal.HostOp-dyn g c.args.images.now in
+    let scripts = (goal.HostOp-dyn g c.args.scripts.now).test c.args.scripts.now.1 in
+    at_error c.answer_of.result (inr (command_images (tiles_of c.args.session.now) scripts
+    (session_state c.args.session.now (images.test c.args.images.now.1)) (images.changes c.args.images.now.1) c.args.line.now.bytes.now
     (read_seen c.in_ok-command.field-0) c.in_ok-command.ensures (command_seen c.in-Ok.command) (ap read_seen c.in-Ok.is)
-    (session_state c.apply.new.self _) (reply_seen c.in_ok-answer-in-Ok.answer) c.in_ok-answer-in-Ok.ensures.answer))
+    (session_state c.apply.new.self (images.test c.apply.new.images)) (reply_seen c.in_ok-answer-in-Ok.answer)
+    c.in_ok-answer-in-Ok.ensures.answer))
 
 pub returns-in_err-answer-in-Ok-clause-images_failed : goal.returns-in_err-answer-in-Ok-clause-images_failed
 returns-in_err-answer-in-Ok-clause-images_failed g c =
