@@ -20,7 +20,7 @@ use crate::function::{
     Body, Category, Function, Input, NumberStop, Output, PropertyRule, Way, ZoomRule,
 };
 use crate::stops::{NumberStops, ZoomRules};
-use crate::tokens::{property_expression, token_expr};
+use crate::tokens::{property_expression, shared_get, token_expr};
 use decimal_json::{Items, Json, NumText, Text, copy};
 use fixed_num::Fixed;
 use prop_values::Want;
@@ -61,7 +61,7 @@ fn text(alloc: Global, name: &str) -> Result<Json, AllocError>
     Ok(Json::Text(Text::copy_of(alloc, name)?))
 }
 
-pub(crate) fn call_one(alloc: Global, name: &str, element: Json) -> Result<Json, AllocError>
+fn call_one(alloc: Global, name: &str, element: Json) -> Result<Json, AllocError>
     ensures { IfOk result (λ made. tree_of made ≡ call name.now (tree_of element ∷ [])) }
 {
     let mut items = call(alloc, name, 1)?;
@@ -73,6 +73,22 @@ fn call_two(alloc: Global, name: &str, first: Json, second: Json) -> Result<Json
     ensures { IfOk result (λ made. tree_of made ≡ call name.now (tree_of first ∷ tree_of second ∷ [])) }
 {
     let mut items = call(alloc, name, 2)?;
+    items.push(first)?;
+    items.push(second)?;
+    Ok(Json::List(items))
+}
+
+// A call by a name that calls share.
+fn shared_call_two(
+    alloc: Global,
+    name: &Text,
+    first: Json,
+    second: Json,
+) -> Result<Json, AllocError>
+    ensures { IfOk result (λ made. tree_of made ≡ call name.now (tree_of first ∷ tree_of second ∷ [])) }
+{
+    let mut items = Items::with_room(alloc, 3)?;
+    items.push(Json::Text(name.share()?))?;
     items.push(first)?;
     items.push(second)?;
     Ok(Json::List(items))
@@ -266,6 +282,17 @@ fn property_json(alloc: Global, function: &Function) -> Result<Json, AllocError>
     }
 }
 
+// The same, with a name of the call that is shared.
+fn shared_property_json(alloc: Global, function: &Function, get: &Text) -> Result<Json, AllocError>
+    requires { get.now ≡ codes "get" }
+    ensures { IfOk result (λ made. tree_of made ≡ property_tree function.now) }
+{
+    match &function.property {
+        Some(name) => shared_get(alloc, get, name.share()?),
+        None => Ok(Json::Null),
+    }
+}
+
 // An expression where the property is of a kind, else the default.
 fn kind_case(
     alloc: Global,
@@ -320,26 +347,32 @@ fn categories_expression(
 {
     let room = stops.len().saturating_mul(2).saturating_add(1);
     let mut items = call(alloc, "case", room)?;
+    let equals = Text::copy_of(alloc, "==")?;
+    let get = Text::copy_of(alloc, "get")?;
     for stop in stops {
-        push_category(alloc, &mut items, function, stop)?;
+        push_category(alloc, &mut items, function, stop, &equals, &get)?;
     }
     items.push(default_expression(alloc, function)?)?;
     Ok(Json::List(items))
 }
 
-// Adds the test of an input, and its output.
+// Adds the test of an input, and its output. All tests share the names of their calls.
 fn push_category(
     alloc: Global,
     items: &mut Items,
     function: &Function,
     stop: &Category,
+    equals: &Text,
+    get: &Text,
 ) -> Result<(), AllocError>
+    requires equals { equals.now ≡ codes "==" }
+    requires get { get.now ≡ codes "get" }
     ensures { OnOk result (items.new
         ≡ items.old ++ category_elements (property_tree function.now) (category_seen stop.now ∷ [])) }
 {
-    let property = property_json(alloc, function)?;
+    let property = shared_property_json(alloc, function, get)?;
     let input = input_json(&stop.input)?;
-    items.push(call_two(alloc, "==", property, input)?)?;
+    items.push(shared_call_two(alloc, equals, property, input)?)?;
     items.push(output_expression(alloc, &stop.output)?)?;
     Ok(())
 }
