@@ -61,4 +61,7 @@ pub trait Bindings<N: NodeHandle> {
     fn binding(&self, slot: usize) -> N
         requires { slot < length (listed self.now) }
         ensures { slice_get (listed self.now) slot ≡ Some (N.node result) };
+
+    /// Whether so many of them ask for others that they are evaluated in turn. The value is the same either way.
+    fn are_chained(&self) -> bool;
 }

@@ -5,7 +5,7 @@ ghost use Rattle.operator_values.specs.Evaluated.{GivesValue};
 ghost use Rattle.expr_nodes.specs.Boxed.{boxed_node};
 ghost use Rattle.expr_nodes.specs.Evaluators.{IsEvaluable, sized_node};
 
-use crate::boxed_node::{BoxedBindings, BoxedNode};
+use crate::boxed_node::{BoxedBindings, BoxedNode, are_chained};
 use crate::evaluation::evaluate;
 use crate::workspace::Workspace;
 use operator_rules::WorldView;
@@ -22,6 +22,7 @@ pub struct BoxedExpression {
     root: BoxedNode,
     bindings: Vec<BoxedNode>,
     nodes: u64,
+    chained: bool,
 }
 
 impl Model for BoxedExpression {
@@ -46,10 +47,12 @@ impl BoxedExpression {
         requires { IsEvaluable (boxed_node root, map boxed_node bindings.items, nodes) }
         ensures { result ≡ (boxed_node root, map boxed_node bindings.items, nodes) }
     {
+        let chained = are_chained(bindings.as_slice());
         BoxedExpression {
             root,
             bindings,
             nodes,
+            chained,
         }
     }
 
@@ -59,6 +62,11 @@ impl BoxedExpression {
         ensures evaluable { IsEvaluable (boxed_node result.0, map boxed_node result.1.items, result.2) }
     {
         (self.root, self.bindings, self.nodes)
+    }
+
+    /// Whether its bindings are evaluated in turn: more than three of them ask for others.
+    pub fn is_chained(&self) -> bool {
+        self.chained
     }
 
     /// The value in a world, or the first fault.
@@ -74,6 +82,7 @@ impl BoxedExpression {
     {
         let bindings = BoxedBindings {
             nodes: self.bindings.as_slice(),
+            chained: self.chained,
         };
         evaluate(workspace, &self.root, &bindings, world, steps)
     }

@@ -92,6 +92,8 @@ fn node_at(nodes: &[BoxedNode], place: usize) -> &BoxedNode
 #[derive(Clone, Copy)]
 pub struct BoxedBindings<'a> {
     pub nodes: &'a [BoxedNode],
+    /// What [`are_chained`] says of them.
+    pub chained: bool,
 }
 
 impl<'a> Bindings<&'a BoxedNode> for BoxedBindings<'a> {
@@ -107,4 +109,43 @@ impl<'a> Bindings<&'a BoxedNode> for BoxedBindings<'a> {
     fn binding(&self, slot: usize) -> &'a BoxedNode {
         node_at(self.nodes, slot)
     }
+
+    fn are_chained(&self) -> bool {
+        self.chained
+    }
+}
+
+/// So many bindings that ask for others may be open inside one another with the one that asks for none, where each is
+/// evaluated when it is first asked for. With no bound a hostile expression would overflow the stack.
+const FEW: usize = 3;
+
+/// Whether more bindings ask for others than may be open inside one another. Takes time linear in their nodes.
+pub(crate) fn are_chained(bindings: &[BoxedNode]) -> bool {
+    let mut asking: usize = 0;
+    for binding in bindings {
+        if asks(binding) {
+            asking = asking.saturating_add(1);
+        }
+    }
+    asking > FEW
+}
+
+// Whether a node asks for a binding.
+#[cycle(asking)]
+fn asks(node: &BoxedNode) -> bool {
+    match node {
+        BoxedNode::Asked(_, _) => true,
+        BoxedNode::Inner(_, _, arguments) => ask(arguments.as_slice()),
+        _ => false,
+    }
+}
+
+#[cycle(asking)]
+fn ask(nodes: &[BoxedNode]) -> bool {
+    for node in nodes {
+        if asks(node) {
+            return true;
+        }
+    }
+    false
 }

@@ -1,4 +1,4 @@
-//! The value of a node. Each of a few bindings is evaluated when it is first asked for, and never again.
+//! The value of a node. A binding is evaluated when it is first asked for, and never again, unless many ask for others.
 
 ghost use Rattle.std.specs.Prelude.{◌≡◌, ◌<◌, ◌≤◌, ◌+◌, [], length, false, IfOk};
 ghost use Rattle.eval_face.specs.Meaning.{node_meaning};
@@ -23,10 +23,6 @@ use prop_values::{EvalFault, Value, Want};
 use std::alloc::AllocError;
 use std::sync::ledger::Ledger;
 
-/// So many bindings are evaluated where they are first asked for, each inside of the evaluation that asks, so that no
-/// more are open at once. More are evaluated in turn: with no bound a hostile expression would overflow the stack.
-const FEW: usize = 4;
-
 /// What a node is evaluated in: the bindings, the world, and the number below which bindings are asked for.
 #[derive(Drop)]
 pub(crate) struct Surroundings<'x, B, W> {
@@ -36,8 +32,8 @@ pub(crate) struct Surroundings<'x, B, W> {
 }
 
 /// The value of a node, with its bindings, in a world. At least one step is counted, and at most as many as
-/// all of them have nodes: a binding is evaluated at most once, and one of few only where it is asked for. What the
-/// workspace holds before does not matter.
+/// all of them have nodes: a binding is evaluated at most once, and only where it is asked for, unless more than three
+/// ask for others. What the workspace holds before does not matter.
 pub fn evaluate<N: NodeHandle, B: Bindings<N>, W: WorldView, L: Ledger>(
     workspace: &mut Workspace,
     tree: N,
@@ -52,10 +48,10 @@ pub fn evaluate<N: NodeHandle, B: Bindings<N>, W: WorldView, L: Ledger>(
     ensures least { steps.old < steps.new }
     ensures most { steps.new ≤ steps.old + size (N.node tree) + total_size (B.listed bindings.now) }
 {
-    let limit = bindings.count();
-    if limit > FEW {
+    if bindings.are_chained() {
         return workspace.evaluate_in_turn(tree, bindings, world, steps);
     }
+    let limit = bindings.count();
     let Ok(()) = workspace.begin(limit) else {
         steps.tick();
         return Err(Halt::NoMemory);

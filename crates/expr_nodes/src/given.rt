@@ -78,6 +78,10 @@ impl<'a, N: NodeHandle> Bindings<N> for ListedBindings<'a, N> {
     fn binding(&self, slot: usize) -> N {
         node_at(self.nodes, slot)
     }
+
+    fn are_chained(&self) -> bool {
+        false
+    }
 }
 
 fn node_at<N: NodeHandle>(nodes: &[N], place: usize) -> N

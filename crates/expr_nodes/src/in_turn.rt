@@ -1,5 +1,5 @@
-//! Many bindings, which are evaluated in turn before the node that asks for them: no evaluation of a binding is inside of
-//! that of another, however they ask for one another.
+//! Bindings of which many ask for others: they are evaluated in turn before the node that asks for them. No evaluation of
+//! a binding is inside of that of another, however they ask for one another.
 
 ghost use Rattle.std.specs.Prelude.{◌≡◌, ◌<◌, ◌≤◌, ◌+◌, [], length, map, IfOk};
 ghost use Rattle.prop_values.specs.ViewParts.{evaluated_of};

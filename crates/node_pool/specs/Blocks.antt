@@ -71,7 +71,7 @@ pub record IsAdded (e : PooledExpression) (bound : BoundNode) (old new : List Po
 -- ---- the blocks one after another, with nothing unused
 
 abbrev pub begins_at : ℕ → PooledExpression → PooledExpression
-begins_at start e = record { start = start; first = e.first; bindings = e.bindings; nodes = e.nodes }
+begins_at start e = record e { start = start }
 
 abbrev pub one_after_another : ℕ → List PooledExpression → List PooledExpression
 one_after_another start [] = []

@@ -18,6 +18,7 @@ pub(crate) fn added(
     ensures ok { IfOk result (λ made. IsAdded made expression nodes.old.items nodes.new.items) }
     ensures err { OnErr result (nodes.new.items ≡ nodes.old.items) }
 {
+    let chained = expression.is_chained();
     let (root, boxed, count) = expression.into_parts();
     let bindings = boxed.as_slice().len();
     let (block, first) = flattened(alloc, root, boxed)?;
@@ -29,5 +30,6 @@ pub(crate) fn added(
         first,
         bindings,
         nodes: count,
+        chained,
     })
 }

@@ -56,6 +56,7 @@ pub(crate) struct PoolBindings<'a> {
     nodes: &'a [PooledNode],
     first: usize,
     count: usize,
+    chained: bool,
     ghost ordered: { are_ordered 0 nodes.now ≡ true },
     ghost within: { first + count ≤ length nodes.now },
 }
@@ -73,6 +74,10 @@ impl<'a> Bindings<PoolNode<'a>> for PoolBindings<'a> {
         PoolNode {
             nodes: up_to(self.nodes, self.first + slot),
         }
+    }
+
+    fn are_chained(&self) -> bool {
+        self.chained
     }
 }
 
@@ -94,6 +99,7 @@ pub(crate) fn evaluated<W: WorldView, L: Ledger>(
         nodes: block,
         first: expression.first,
         count: expression.bindings,
+        chained: expression.chained,
     };
     evaluate(
         workspace,

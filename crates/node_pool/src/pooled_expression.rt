@@ -14,6 +14,8 @@ pub(crate) struct PooledExpression {
     pub(crate) bindings: usize,
     /// How many nodes the expression has, literals counted.
     pub(crate) nodes: u64,
+    /// Whether its bindings are evaluated in turn.
+    pub(crate) chained: bool,
 }
 
 impl PooledExpression {
@@ -34,6 +36,7 @@ impl PooledExpression {
             first: self.first,
             bindings: self.bindings,
             nodes: self.nodes,
+            chained: self.chained,
         }
     }
 }

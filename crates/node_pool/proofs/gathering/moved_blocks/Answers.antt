@@ -1,4 +1,4 @@
-use Rattle.std.proofs.Common.{◌≡◌, ◌<◌, ◌∙◌, ◌++◌, length, take, drop, get_or, refl, arith, ap, inl, inr}
+use Rattle.std.proofs.Common.{◌≡◌, ◌<◌, ◌∙◌, ◌++◌, length, take, drop, get_or, refl, arith, ap, inl, inr, false}
 use Rattle.std.proofs.lemmas.List.{length-append, get_or_default}
 use Rattle.std.proofs.lemmas.Option.{slice_get-get_or}
 use Rattle.node_pool.specs.Blocks.{block_of, length_of}
@@ -7,7 +7,7 @@ use Rattle.node_pool.proofs.BlockLaws.{blocks_next, block_length, total_dropped}
 use Rattle.node_pool.proofs.gathering.moved_blocks.Goals as goal
 
 abbrev none : PooledExpression
-none = record { start = 0; first = 0; bindings = 0; nodes = 0 }
+none = record { start = 0; first = 0; bindings = 0; nodes = 0; chained = false }
 
 pub loop-expression-init : goal.loop-expression-init
 loop-expression-init c =

@@ -1,8 +1,6 @@
-use Rattle.std.proofs.Common.{◌≡◌, ◌-◌, ◌∙◌, Ok, length, take}
+use Rattle.std.proofs.Common.{◌-◌, ◌∙◌, length, take}
 use Rattle.std.proofs.lemmas.Option.{IfSome_then}
-use Rattle.prop_values.specs.Data.{list, items_of}
-use Rattle.expr_nodes.specs.Node.{constant}
-use Rattle.node_pool.specs.Pooled.{last_node, pooled_nodes}
+use Rattle.node_pool.specs.Pooled.{pooled_nodes}
 use Rattle.node_pool.proofs.PoolLaws.{last_is}
 use Rattle.node_pool.proofs.block.PoolNodeNodeHandle.indexed.Goals as goal
 
