@@ -48,7 +48,7 @@ refused_stays None p q h = absurd (cc)
 refused_stays (Some r) p q h = refl
 
 -- what a refusal leaves, or an edit that leaves images
-images_left : (o : Option Refusal) (p q : SessionState) → q.has_image ≡ p.has_image → (unless_refused o p q).0.has_image ≡ p.has_image
+pub images_left : (o : Option Refusal) (p q : SessionState) → q.has_image ≡ p.has_image → (unless_refused o p q).0.has_image ≡ p.has_image
 images_left None p q h = h
 images_left (Some r) p q h = refl
 

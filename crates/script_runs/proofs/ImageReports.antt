@@ -1,14 +1,14 @@
 -- The test of images, line by line: the reports to it, and what it answers.
 use Rattle.std.proofs.Common.{◌≡◌, ◌∙◌, refl, sym, ap, subst, inl, inr, ℕ, List, [], ◌∷◌, ◌++◌, Bool, true, false, append-nil, append_assoc}
 use Rattle.std.proofs.lemmas.Bool.{false≢true}
-use Rattle.std.specs.Prelude.{Option, Some, None, Result, Ok, Err, OnOk, ◌⊎◌}
+use Rattle.std.specs.Prelude.{Result, Ok, Err, OnOk, ◌⊎◌}
 use Rattle.edit_script.specs.Edit as edits
 use Rattle.edit_script.specs.Edit.{Edit}
 use Rattle.edit_script.specs.Line.{AnswersLine}
 use Rattle.edit_script.specs.declared.command.LineFault.{LineFault}
-use Rattle.edit_session.specs.Applied.{Reply, applied, presented_after, refusal, tell_count_after, unless_refused}
+use Rattle.edit_session.proofs.AnswerLaws.{images_left}
+use Rattle.edit_session.specs.Applied.{Reply, applied, presented_after, refusal, tell_count_after}
 use Rattle.edit_session.specs.SessionState.{SessionState}
-use Rattle.edit_session.specs.declared.answer.Refusal.{Refusal}
 use Rattle.host_ops.specs.Change.{IsSameTest}
 use Rattle.script_runs.specs.ImageReports.{GoesAlong, GoesPartway, ImageReportsOfLine, ImagesOfLine, image_reports_after, images_after, line_images_after}
 use Rattle.script_runs.specs.LineAnswers.{LineGives}
@@ -46,11 +46,6 @@ module _ (can_change : Bool) (line : List ℕ) (read : Result Edit LineFault) (a
 
 -- ---- what a line makes of the answers of the test
 
--- a refusal leaves them, and so does an edit that leaves them
-left_unless : (o : Option Refusal) (p q : SessionState) → q.has_image ≡ p.has_image → (unless_refused o p q).0.has_image ≡ p.has_image
-left_unless None p q h = h
-left_unless (Some r) p q h = refl
-
 module _ (tiles : List SourceTile) (scripts : List ℕ → Bool) (p : SessionState) where
   pub applied_images : (can_change : Bool) (edit : Edit)
       → (applied tiles scripts can_change p edit).0.has_image ≡ images_after can_change edit p.has_image
@@ -61,7 +56,7 @@ module _ (tiles : List SourceTile) (scripts : List ℕ → Bool) (p : SessionSta
   applied_images can_change edits.list = refl
   applied_images can_change edits.stats = refl
   applied_images can_change edits.style = refl
-  applied_images can_change edit = left_unless (refusal tiles scripts can_change p edit) p (presented_after tiles p edit) refl
+  applied_images can_change edit = images_left (refusal tiles scripts can_change p edit) p (presented_after tiles p edit) refl
 
   pub command_images : (can_change : Bool) (line : List ℕ) (read : Result Edit LineFault) → AnswersLine line read
       → (edit : Edit) → read ≡ Ok edit → (after : SessionState) (reply : Reply)
