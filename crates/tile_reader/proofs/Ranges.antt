@@ -11,6 +11,7 @@ use Rattle.tile_reader.specs.declared.properties.ChosenFeature.{ChosenFeature}
 use Rattle.tile_reader.specs.declared.tile.Feature.{Feature}
 use Rattle.tile_reader.specs.declared.fault.TileFault.{TileFault}
 use Rattle.tile_reader.specs.declared.feature.TaggedFeature.{TaggedFeature}
+use Rattle.tile_reader.specs.Ids.{id_seen}
 use Rattle.tile_reader.specs.Properties.{feature_of, features_of}
 use Rattle.tile_reader.specs.View.{tagged_seen, tagged_all}
 use Rattle.tile_reader.proofs.FeatureLists.{features_more}
@@ -60,7 +61,7 @@ pub features_stay : (keys : List (List ℕ)) (values : List Data) (old new : Lis
 features_stay keys values old new [] front are = refl
 features_stay keys values old new (c ∷ cs) front are =
     let same = range_stays old new c.first c.count front are.0.within in
-    λ i. record { id = c.id; shape = c.shape; properties = pairs_seen keys values (same i) } ∷ features_stay keys values old new cs front are.1 i
+    λ i. record { id = id_seen c.id c.has_id; shape = c.shape; properties = pairs_seen keys values (same i) } ∷ features_stay keys values old new cs front are.1 i
 
 pub map_more : (keys : List (List ℕ)) (values : List Data) (pairs : List (ℕ × ℕ)) (chosen : List ChosenFeature) (c : ChosenFeature) → map (feature_in keys values pairs) (chosen ++ c ∷ []) ≡ map (feature_in keys values pairs) chosen ++ feature_in keys values pairs c ∷ []
 map_more keys values pairs [] c = refl

@@ -15,5 +15,6 @@ pub mod Layer
 pub mod Tile
 -- What only the reader's own contracts and proofs use.
 pub mod Lookup
+pub mod Ids
 pub mod Ranges
 pub mod View

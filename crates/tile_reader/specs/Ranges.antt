@@ -1,16 +1,16 @@
 -- The properties of features as ranges of the pairs of their layer.
 use Rattle.std.specs.Prelude.{◌≡◌, ℕ, ◌+◌, ◌<◌, ◌≤◌, List, [], ◌∷◌, length, map, take, drop, Option, Some, None, slice_index_or, Vec}
-use Rattle.std.specs.declared.alloc.Global.{Global}
-use Rattle.std.specs.declared.rc.Rc.{Rc}
-use Rattle.std.specs.declared.boxed.Box.{Box}
+use Rattle.std.specs.Borrow.{Bor}
 use Rattle.key_index.specs.Index.{IsIndexed}
 use Rattle.prop_values.specs.Data.{Data}
 use Rattle.prop_values.specs.Keys.{HasDistinctKeys}
 use Rattle.prop_values.specs.View.{data_of}
 use Rattle.tile_reader.specs.Lookup.{IndicesWithin, pairs_seen}
+use Rattle.tile_reader.specs.Ids.{id_seen}
 use Rattle.tile_reader.specs.declared.feature_properties.IndexedKey.{IndexedKey}
 use Rattle.tile_reader.specs.declared.feature_properties.IndexedKeys.{IndexedKeys}
-use Rattle.tile_reader.specs.declared.feature_properties.LayerTable.{LayerTable}
+use Rattle.tile_reader.specs.declared.feature_properties.SharedTable.{SharedTable}
+use Rattle.tile_reader.specs.declared.feature_properties.SharedTable.TheVariants.{Empty, Plain, Indexed}
 use Rattle.tile_reader.specs.declared.properties.ChosenFeature.{ChosenFeature}
 use Rattle.tile_reader.specs.declared.tile.Feature.{Feature}
 
@@ -30,7 +30,7 @@ pub record IsRange (keys : List (List ℕ)) (values : List Data) (pairs : List (
 
 -- a feature whose properties are a range of these pairs
 abbrev pub feature_in : List (List ℕ) → List Data → List (ℕ × ℕ) → ChosenFeature → Feature
-feature_in keys values pairs chosen = record { id = chosen.id; shape = chosen.shape; properties = pairs_seen keys values (range pairs chosen.first chosen.count) }
+feature_in keys values pairs chosen = record { id = id_seen chosen.id chosen.has_id; shape = chosen.shape; properties = pairs_seen keys values (range pairs chosen.first chosen.count) }
 
 -- the range of each
 abbrev pub AreRanges : List (List ℕ) → List Data → List (ℕ × ℕ) → List ChosenFeature → Type 0
@@ -46,18 +46,21 @@ abbrev pub IsKeyIndex : IndexedKeys → List (List ℕ) → Type 0
 IsKeyIndex indexed keys = (key_texts indexed.keys.items ≡ keys) × IsIndexed indexed.index keys
 
 -- where there is an index, it is one of these keys
-abbrev pub HasKeys : Option (Box IndexedKeys Global) → List (List ℕ) → Type 0
+abbrev pub HasKeys : Option (Bor IndexedKeys) → List (List ℕ) → Type 0
 HasKeys None keys = Unit {0}
-HasKeys (Some boxed) keys = IsKeyIndex boxed.value keys
+HasKeys (Some indexed) keys = IsKeyIndex indexed.now keys
 
 -- the properties that a range of a layer's pairs are
-abbrev pub properties_seen : Option (Rc LayerTable Global) → ℕ → ℕ → List (List ℕ × Data)
-properties_seen None first count = []
-properties_seen (Some table) first count = pairs_seen table.value.keys.items (map data_of table.value.values.items) (range table.value.pairs.items first count)
+abbrev pub properties_seen : SharedTable → ℕ → ℕ → List (List ℕ × Data)
+properties_seen Empty first count = []
+properties_seen (Plain table) first count = pairs_seen table.value.keys.items (map data_of table.value.values.items) (range table.value.pairs.items first count)
+properties_seen (Indexed boxed) first count =
+    pairs_seen boxed.value.table.value.keys.items (map data_of boxed.value.table.value.values.items) (range boxed.value.table.value.pairs.items first count)
 
--- they are a range, and their index has their keys
-abbrev pub AreShared : Option (Rc LayerTable Global) → ℕ → ℕ → Option (Box IndexedKeys Global) → Type 0
-AreShared None first count index = Unit {0}
-AreShared (Some table) first count index =
-    IsRange table.value.keys.items (map data_of table.value.values.items) table.value.pairs.items first count
-    × HasKeys index (pair_keys table.value.keys.items (range table.value.pairs.items first count))
+-- they are a range, and an index has their keys
+abbrev pub AreShared : SharedTable → ℕ → ℕ → Type 0
+AreShared Empty first count = Unit {0}
+AreShared (Plain table) first count = IsRange table.value.keys.items (map data_of table.value.values.items) table.value.pairs.items first count
+AreShared (Indexed boxed) first count =
+    IsRange boxed.value.table.value.keys.items (map data_of boxed.value.table.value.values.items) boxed.value.table.value.pairs.items first count
+    × IsKeyIndex boxed.value.keys (pair_keys boxed.value.table.value.keys.items (range boxed.value.table.value.pairs.items first count))

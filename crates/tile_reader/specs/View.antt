@@ -16,6 +16,7 @@ use Rattle.tile_reader.specs.declared.feature.TaggedFeature.{TaggedFeature}
 use Rattle.tile_reader.specs.declared.layer.LayerParts.{LayerParts}
 use Rattle.tile_reader.specs.Message.{Message, message, no_fields, broken_off, field_before}
 use Rattle.tile_reader.specs.Read.{broken}
+use Rattle.tile_reader.specs.Ids.{id_seen}
 use Rattle.tile_reader.specs.Value.{whole}
 use Rattle.tile_reader.specs.Feature.{Tagged}
 use Rattle.tile_reader.specs.Layer.{LayerFields}
@@ -56,7 +57,7 @@ value_seen (Flag b) = held.boolean b
 
 -- a feature with these tags, before they are looked up
 abbrev pub tagged_seen : TaggedFeature → List ℕ → Tagged
-tagged_seen feature tags = record { at = feature.at; id = feature.id; shape = feature.shape; tags = tags }
+tagged_seen feature tags = record { at = feature.at; id = id_seen feature.id feature.has_id; shape = feature.shape; tags = tags }
 
 -- features whose tags are one after the other
 abbrev pub tagged_all : List TaggedFeature → List ℕ → List Tagged

@@ -17,9 +17,11 @@ use std::alloc::AllocError;
 pub(crate) struct TaggedFeature {
     /// The offset of its own tag.
     pub(crate) at: usize,
-    pub(crate) id: Option<u64>,
+    /// Its id, which counts only where it has one.
+    pub(crate) id: u64,
     /// How many tags it has.
     pub(crate) count: u32,
+    pub(crate) has_id: bool,
     pub(crate) shape: Shape,
 }
 
@@ -48,8 +50,9 @@ pub(crate) fn read_feature(
     let first = tags.len();
     let mut feature = TaggedFeature {
         at,
-        id: None,
+        id: 0,
         count: 0,
+        has_id: false,
         shape: Shape::Unknown,
     };
     let mut fields = Fields::new(content, start);
@@ -85,7 +88,10 @@ fn add_field(
 {
     let Field { number, at, wire } = field;
     match feature_member(number) {
-        FeatureMember::Id => feature.id = Some(number_in(at, wire)?),
+        FeatureMember::Id => {
+            feature.id = number_in(at, wire)?;
+            feature.has_id = true;
+        }
         FeatureMember::Tags => add_tags(tags, at, wire)?,
         FeatureMember::Shape => feature.shape = shape_of(at, number_in(at, wire)?)?,
         FeatureMember::Geometry => geometry_in(at, wire)?,

@@ -7,7 +7,7 @@ ghost use Rattle.prop_values.specs.Keys.{HasDistinctKeys, LacksKey};
 ghost use Rattle.prop_values.specs.View.{data_of};
 ghost use Rattle.tile_reader.specs.Lookup.{IndicesWithin, pairs_seen};
 ghost use Rattle.key_index.specs.Keys as index;
-ghost use Rattle.tile_reader.specs.Ranges.{IsRange, range, pair_keys, key_texts, HasKeys, IsKeyIndex};
+ghost use Rattle.tile_reader.specs.Ranges.{IsRange, range, pair_keys, key_texts, HasKeys, IsKeyIndex, AreShared, properties_seen};
 
 use decimal_json::Text;
 use key_index::{KeyIndex, Keyed};
@@ -30,10 +30,24 @@ pub(crate) struct LayerTable {
 /// are the numbers of these, and an index of its keys where they are more than sixteen.
 #[derive(Drop)]
 pub struct FeatureProperties {
-    table: Option<Rc<LayerTable>>,
+    table: SharedTable,
     first: u32,
     count: u32,
-    index: Option<Box<IndexedKeys>>,
+}
+
+/// The table of a feature's layer. There are many features, so an index stands in a box of its own with the table.
+#[derive(Drop)]
+enum SharedTable {
+    Empty,
+    Plain(Rc<LayerTable>),
+    Indexed(Box<IndexedTable>),
+}
+
+/// A table, and the keys of a feature with their index.
+#[derive(Drop)]
+struct IndexedTable {
+    table: Rc<LayerTable>,
+    keys: IndexedKeys,
 }
 
 /// Keys with their index.
@@ -93,7 +107,7 @@ impl Model for FeatureProperties {
 
     ghost view = { λ a. properties_seen a.table a.first a.count };
 
-    ghost invariant = { λ a. AreShared a.table a.first a.count a.index };
+    ghost invariant = { λ a. AreShared a.table a.first a.count };
 }
 
 impl FeatureProperties {
@@ -102,10 +116,9 @@ impl FeatureProperties {
         ensures { result ≡ [] }
     {
         FeatureProperties {
-            table: None,
+            table: SharedTable::Empty,
             first: 0,
             count: 0,
-            index: None,
         }
     }
 
@@ -125,10 +138,9 @@ impl FeatureProperties {
             pairs,
         };
         Ok(FeatureProperties {
-            table: Some(Rc::new(alloc, table)?),
+            table: SharedTable::Plain(Rc::new(alloc, table)?),
             first: 0,
             count: 1,
-            index: None,
         })
     }
 
@@ -143,12 +155,11 @@ impl FeatureProperties {
         ensures { IfOk result (λ made. made ≡ pairs_seen table.now.value.keys.items (map data_of table.now.value.values.items)
             (range table.now.value.pairs.items first count)) }
     {
-        let index = index_of(alloc, table.as_ref(), first, count)?;
+        let table = shared_table(alloc, table, first, count)?;
         Ok(FeatureProperties {
-            table: Some(table.clone()?),
+            table,
             first,
             count,
-            index,
         })
     }
 
@@ -158,17 +169,13 @@ impl FeatureProperties {
         ensures none { IsNone result ↔ LacksKey key.now self.now }
     {
         match &self.table {
-            None => None,
-            Some(table) => {
-                let table = table.as_ref();
-                let pairs = pairs_in(table, self.first, self.count);
-                value_at(
-                    table.keys.as_slice(),
-                    table.values.as_slice(),
-                    pairs,
-                    &self.index,
-                    key,
-                )
+            SharedTable::Empty => None,
+            SharedTable::Plain(table) => {
+                value_in(table.as_ref(), self.first, self.count, None, key)
+            }
+            SharedTable::Indexed(indexed) => {
+                let IndexedTable { table, keys } = indexed.as_ref();
+                value_in(table.as_ref(), self.first, self.count, Some(keys), key)
             }
         }
     }
@@ -178,11 +185,12 @@ impl FeatureProperties {
         ensures { IfOk result (λ entries. entries ≡ self.now) }
     {
         match &self.table {
-            None => Ok(Entries::new(alloc)),
-            Some(table) => {
-                let table = table.as_ref();
-                let pairs = pairs_in(table, self.first, self.count);
-                entries(alloc, table.keys.as_slice(), table.values.as_slice(), pairs)
+            SharedTable::Empty => Ok(Entries::new(alloc)),
+            SharedTable::Plain(table) => {
+                entries_in(alloc, table.as_ref(), self.first, self.count)
+            }
+            SharedTable::Indexed(indexed) => {
+                entries_in(alloc, indexed.table.as_ref(), self.first, self.count)
             }
         }
     }
@@ -198,22 +206,82 @@ fn pairs_in(table: &LayerTable, first: u32, count: u32) -> &[(u32, u32)]
     own
 }
 
-// The index of the keys of so many pairs of a layer, where they are more than sixteen.
-fn index_of(
+// The table for so many pairs of it, from the first one on, with an index of their keys where they are more than
+// sixteen.
+fn shared_table(
+    alloc: Global,
+    table: &Rc<LayerTable>,
+    first: u32,
+    count: u32,
+) -> Result<SharedTable, AllocError>
+    requires { IsRange table.now.value.keys.items (map data_of table.now.value.values.items) table.now.value.pairs.items first count }
+    ensures shared { IfOk result (λ shared. AreShared shared first count) }
+    ensures same { IfOk result (λ shared. properties_seen shared first count ≡ pairs_seen table.now.value.keys.items
+        (map data_of table.now.value.values.items) (range table.now.value.pairs.items first count)) }
+{
+    if count <= 16 {
+        return Ok(SharedTable::Plain(table.clone()?));
+    }
+    let keys = keys_of(alloc, table.as_ref(), first, count)?;
+    let indexed = IndexedTable {
+        table: table.clone()?,
+        keys,
+    };
+    Ok(SharedTable::Indexed(Box::new(alloc, indexed)?))
+}
+
+// The keys of so many pairs of a layer, with their index.
+fn keys_of(
     alloc: Global,
     table: &LayerTable,
     first: u32,
     count: u32,
-) -> Result<Option<Box<IndexedKeys>>, AllocError>
+) -> Result<IndexedKeys, AllocError>
     requires { IsRange table.now.keys.items (map data_of table.now.values.items) table.now.pairs.items first count }
-    ensures { IfOk result (λ index. HasKeys index (pair_keys table.now.keys.items (range table.now.pairs.items first count))) }
+    ensures { IfOk result (λ made. IsKeyIndex made (pair_keys table.now.keys.items (range table.now.pairs.items first count))) }
 {
-    if count <= 16 {
-        return Ok(None);
-    }
     let pairs = pairs_in(table, first, count);
-    let indexed = indexed_keys(alloc, table.keys.as_slice(), pairs)?;
-    Ok(Some(Box::new(alloc, indexed)?))
+    indexed_keys(alloc, table.keys.as_slice(), pairs)
+}
+
+// The value at a key among so many pairs of a layer.
+fn value_in<'a>(
+    table: &'a LayerTable,
+    first: u32,
+    count: u32,
+    index: Option<&IndexedKeys>,
+    key: &str,
+) -> Option<&'a Value>
+    requires range { IsRange table.now.keys.items (map data_of table.now.values.items) table.now.pairs.items first count }
+    requires index { HasKeys index (pair_keys table.now.keys.items (range table.now.pairs.items first count)) }
+    ensures value { option_map (λ v. data_of v.now) result ≡ at_key key.now (pairs_of
+        (pairs_seen table.now.keys.items (map data_of table.now.values.items) (range table.now.pairs.items first count))) }
+    ensures none { IsNone result ↔ LacksKey key.now
+        (pairs_seen table.now.keys.items (map data_of table.now.values.items) (range table.now.pairs.items first count)) }
+{
+    let pairs = pairs_in(table, first, count);
+    value_at(
+        table.keys.as_slice(),
+        table.values.as_slice(),
+        pairs,
+        index,
+        key,
+    )
+}
+
+// The properties that so many pairs of a layer are.
+fn entries_in(
+    alloc: Global,
+    table: &LayerTable,
+    first: u32,
+    count: u32,
+) -> Result<Entries, AllocError>
+    requires { IsRange table.now.keys.items (map data_of table.now.values.items) table.now.pairs.items first count }
+    ensures { IfOk result (λ all. all ≡ pairs_seen table.now.keys.items (map data_of table.now.values.items)
+        (range table.now.pairs.items first count)) }
+{
+    let pairs = pairs_in(table, first, count);
+    entries(alloc, table.keys.as_slice(), table.values.as_slice(), pairs)
 }
 
 // The value at a key, by the place of its pair.
@@ -222,11 +290,11 @@ fn value_at<'a>(
     keys: &[Text],
     values: &'a [Value],
     pairs: &[(u32, u32)],
-    index: &Option<Box<IndexedKeys>>,
+    index: Option<&IndexedKeys>,
     key: &str,
 ) -> Option<&'a Value>
     requires inside { (i : ℕ) → i < length pairs.now → IndicesWithin (length keys.now) (length values.now) (slice_index_or pairs.now i (0, 0)) }
-    requires index { HasKeys index.now (pair_keys keys.now pairs.now) }
+    requires index { HasKeys index (pair_keys keys.now pairs.now) }
     ensures value { option_map (λ v. data_of v.now) result ≡ at_key key.now (pairs_of (pairs_seen keys.now (map data_of values.now) pairs.now)) }
     ensures none { IsNone result ↔ LacksKey key.now (pairs_seen keys.now (map data_of values.now) pairs.now) }
 {
@@ -243,11 +311,11 @@ fn value_at<'a>(
 fn place_of(
     keys: &[Text],
     pairs: &[(u32, u32)],
-    index: &Option<Box<IndexedKeys>>,
+    index: Option<&IndexedKeys>,
     key: &str,
 ) -> Option<usize>
     requires inside { (i : ℕ) → i < length pairs.now → (slice_index_or pairs.now i (0, 0)).0 < length keys.now }
-    requires index { HasKeys index.now (pair_keys keys.now pairs.now) }
+    requires index { HasKeys index (pair_keys keys.now pairs.now) }
     ensures { result ≡ place_from 0 key.now (pair_keys keys.now pairs.now) }
 {
     match index {

@@ -1,6 +1,7 @@
 ghost use Rattle.std.specs.Prelude.{◌≡◌, ◌⊎◌, ℕ, ◌+◌, ◌^◌, ◌<◌, ◌≤◌, ◌*ℤ◌, pos, ◌↔◌, List, [], ◌∷◌, ◌++◌, length, take, map, IfOk, OnOk, Some, None, IfSome, IfNone, MatchOption, option_map, if◌then◌else◌, unsigned_abs, slice_index_or};
 ghost use Rattle.prop_values.specs.View.{data_of};
 ghost use Rattle.tile_reader.specs.View.{GivesOrLacks, HasAllTags, tagged_seen, tagged_all, texts_seen, value_seen};
+ghost use Rattle.tile_reader.specs.Ids.{id_seen};
 ghost use Rattle.tile_reader.specs.Properties.{put_all, named, feature_of, features_of};
 ghost use Rattle.tile_reader.specs.Lookup.{AreFirsts, AreInside, ArePlaces, pair_place, put_pair, pairs_seen, NotesFirst};
 ghost use Rattle.tile_reader.specs.Ranges.{IsRange, AreRanges, feature_in};
@@ -37,10 +38,12 @@ struct ChosenPairs {
 /// A feature whose properties are so many pairs of its layer, from the first one on.
 #[derive(Clone, Copy)]
 struct ChosenFeature {
-    id: Option<u64>,
-    shape: Shape,
+    /// Its id, which counts only where it has one.
+    id: u64,
     first: u32,
     count: u32,
+    has_id: bool,
+    shape: Shape,
 }
 
 /// The features of a layer with these keys and values, whose tags are these. Each text is copied once, and
@@ -205,9 +208,10 @@ fn chosen_feature(
     add_pairs(pairs, choice.pairs.as_slice())?;
     Ok(ChosenFeature {
         id: tagged.id,
-        shape: tagged.shape,
         first,
         count,
+        has_id: tagged.has_id,
+        shape: tagged.shape,
     })
 }
 
@@ -338,12 +342,19 @@ fn shared_features(
     for feature in chosen {
         let properties = FeatureProperties::of_range(alloc, table, feature.first, feature.count)?;
         features.push(Feature {
-            id: feature.id,
+            id: id_of(feature.id, feature.has_id),
             shape: feature.shape,
             properties,
         })?;
     }
     Ok(features)
+}
+
+// An id where there is one.
+fn id_of(id: u64, has_id: bool) -> Option<u64>
+    ensures { result ≡ id_seen id has_id }
+{
+    if has_id { Some(id) } else { None }
 }
 
 // A value with a text of its own.

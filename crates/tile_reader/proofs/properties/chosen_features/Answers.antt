@@ -1,5 +1,5 @@
-use Rattle.std.proofs.Common.{◌≡◌, ◌+◌, List, ℕ, sym, subst, [], drop, get_or}
-use Rattle.std.specs.Prelude.{map, None}
+use Rattle.std.proofs.Common.{◌≡◌, ◌+◌, false, List, ℕ, sym, subst, [], drop, get_or}
+use Rattle.std.specs.Prelude.{map}
 use Rattle.std.proofs.lemmas.List.{get_or_default}
 use Rattle.prop_values.specs.View.{data_of}
 use Rattle.tile_reader.specs.Properties.{features_of}
@@ -15,8 +15,8 @@ use Rattle.tile_reader.proofs.properties.chosen_features.Goals as goal
 pub loop-feature-preserved : goal.loop-feature-preserved
 loop-feature-preserved c =
     let i : ℕ = c.loop-feature.feature-index in
-    let tagged : TaggedFeature = get_or c.args.tagged.now i (record { at = 0; id = None; count = 0; shape = Unknown }) in
-    let is : tagged ≡ get_or c.args.tagged.now i tagged = get_or_default c.args.tagged.now i (record { at = 0; id = None; count = 0; shape = Unknown }) tagged c.loop-feature-test.true in
+    let tagged : TaggedFeature = get_or c.args.tagged.now i (record { at = 0; id = 0; count = 0; has_id = false; shape = Unknown }) in
+    let is : tagged ≡ get_or c.args.tagged.now i tagged = get_or_default c.args.tagged.now i (record { at = 0; id = 0; count = 0; has_id = false; shape = Unknown }) tagged c.loop-feature-test.true in
     record {
       places = c.in_ok-chosen_feature.ensures.places;
       tags = has_left c.args.tagged.now i tagged c.loop-feature.rest.now c.split_at.result.1.now c.loop-feature-test.true is c.loop-feature.invariant.tags c.split_at.ensures.back;

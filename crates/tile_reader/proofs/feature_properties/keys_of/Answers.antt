@@ -4,7 +4,7 @@ use Rattle.key_index.specs.Keys as index
 use Rattle.prop_values.specs.View.{data_of}
 use Rattle.tile_reader.specs.Ranges.{pair_keys}
 use Rattle.tile_reader.proofs.PairKeys.{distinct_pairs}
-use Rattle.tile_reader.proofs.feature_properties.index_of.Goals as goal
+use Rattle.tile_reader.proofs.feature_properties.keys_of.Goals as goal
 
 pub indexed_keys-requires-clause-distinct : goal.indexed_keys-requires-clause-distinct
 indexed_keys-requires-clause-distinct c =
