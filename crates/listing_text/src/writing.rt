@@ -1,4 +1,4 @@
-ghost use Rattle.std.specs.Prelude.{◌≡◌, ◌++◌, OnOk, OnErr};
+ghost use Rattle.std.specs.Prelude.{◌≡◌, ◌+◌, ◌≤◌, ◌++◌, length, take, IfSome, OnOk, OnErr};
 ghost use Rattle.decimal_json.specs.Writing.{AppendsPrefix};
 ghost use Rattle.fixed_num.specs.NumberText.{number_text};
 ghost use Rattle.prop_values.specs.ColorText.{color_text};
@@ -200,8 +200,46 @@ fn number_bytes(number: Fixed, digits: &mut [u8; 48]) -> &[u8]
     &digits[..length]
 }
 
-// Appends parts one after the other.
+// Appends parts one after the other: at once where they fit the buffer of a line.
 fn write_parts(parts: &[&[u8]], out: &mut Vec<u8>) -> Result<(), AllocError>
+    ensures ok { OnOk result (out.new.items ≡ out.old.items ++ parts_text parts.now) }
+    ensures err { OnErr result (AppendsPrefix out.old.items out.new.items (parts_text parts.now)) }
+{
+    let mut line = [0; 128];
+    match join(parts, &mut line) {
+        Some(end) => out.extend_from_slice(&line[..end]),
+        None => write_each(parts, out),
+    }
+}
+
+// Puts parts one after the other at the front of a line, and answers where they end, or `None` where they do not fit.
+fn join(parts: &[&[u8]], line: &mut [u8; 128]) -> Option<usize>
+    ensures within { IfSome result (λ end. end ≤ 128) }
+    ensures text { IfSome result (λ end. take end line.new ≡ parts_text parts.now) }
+{
+    let mut end = 0;
+    for part in parts {
+        if line.len() - end < part.len() {
+            return None;
+        }
+        end = put(line, end, part);
+    }
+    Some(end)
+}
+
+// Puts bytes at a place of a line, and answers where they end.
+fn put(line: &mut [u8; 128], at: usize, bytes: &[u8]) -> usize
+    requires { at + length bytes.now ≤ 128 }
+    ensures end { result ≡ at + length bytes.now }
+    ensures text { take result line.new ≡ take at line.old ++ bytes.now }
+{
+    let end = at + bytes.len();
+    line[at..end].copy_from_slice(bytes);
+    end
+}
+
+// Appends parts one by one.
+fn write_each(parts: &[&[u8]], out: &mut Vec<u8>) -> Result<(), AllocError>
     ensures ok { OnOk result (out.new.items ≡ out.old.items ++ parts_text parts.now) }
     ensures err { OnErr result (AppendsPrefix out.old.items out.new.items (parts_text parts.now)) }
 {
