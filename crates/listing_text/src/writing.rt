@@ -1,11 +1,12 @@
-ghost use Rattle.std.specs.Prelude.{◌≡◌, ◌+◌, ◌≤◌, ◌++◌, length, take, IfSome, OnOk, OnErr};
+ghost use Rattle.std.specs.Prelude.{codes, ◌≡◌, ◌+◌, ◌≤◌, ◌++◌, length, take, IfSome, OnOk, OnErr};
 ghost use Rattle.decimal_json.specs.Writing.{AppendsPrefix};
 ghost use Rattle.fixed_num.specs.NumberText.{number_text};
 ghost use Rattle.prop_values.specs.ColorText.{color_text};
 ghost use Rattle.prop_values.specs.ValueText.{listed_text};
 ghost use Rattle.prop_values.specs.View.{data_of};
 ghost use Rattle.prop_values.specs.declared.outcome.Outcome.TheVariants.{Given};
-ghost use Rattle.listing_text.specs.Listing.{zoom_line, end_line, show_mark, layer_line, outcome_text, value_line, feature_line};
+ghost use Rattle.listing_text.specs.Listing.{zoom_line, end_line, show_mark, layer_line, outcome_text, value_line, id_text, feature_line};
+ghost use Rattle.tile_reader.specs.ShapeName.{shape_name};
 ghost use Rattle.listing_text.specs.Parts.{parts_text, number_line};
 
 use crate::show::Show;
@@ -72,20 +73,42 @@ pub fn write_feature_line(
     ensures ok { OnOk result (out.new.items ≡ out.old.items ++ feature_line number shape id) }
     ensures err { OnErr result (AppendsPrefix out.old.items out.new.items (feature_line number shape id)) }
 {
+    let mut line = [0; 128];
     let mut numbers = Buffer::new();
-    let number = numbers.format(number).as_bytes();
-    let shape = shape.name().as_bytes();
-    match id {
-        None => write_parts(&[b"  feature ", number, b" ", shape, b"\n"], out),
-        Some(id) => {
-            let mut ids = Buffer::new();
-            let id = ids.format(id).as_bytes();
-            write_parts(
-                &[b"  feature ", number, b" ", shape, b" id ", id, b"\n"],
-                out,
-            )
-        }
+    let end = put(&mut line, 0, b"  feature ");
+    let end = put(&mut line, end, numbers.format(number).as_bytes());
+    let end = put_shape(&mut line, end, shape);
+    let end = put_id(&mut line, end, id);
+    let end = put(&mut line, end, b"\n");
+    out.extend_from_slice(&line[..end])
+}
+
+// Puts a space and the name of a shape at a place of a line, and answers where they end.
+fn put_shape(line: &mut [u8; 128], at: usize, shape: Shape) -> usize
+    requires { at + 11 ≤ 128 }
+    ensures within { result ≤ at + 11 }
+    ensures text { take result line.new ≡ take at line.old ++ (codes " " ++ shape_name shape) }
+{
+    match shape {
+        Shape::Unknown => put(line, at, b" Unknown"),
+        Shape::Point => put(line, at, b" Point"),
+        Shape::LineString => put(line, at, b" LineString"),
+        Shape::Polygon => put(line, at, b" Polygon"),
     }
+}
+
+// Puts the id of a feature at a place of a line, where it has one, and answers where it ends.
+fn put_id(line: &mut [u8; 128], at: usize, id: Option<u64>) -> usize
+    requires { at + 24 ≤ 128 }
+    ensures within { result ≤ at + 24 }
+    ensures text { take result line.new ≡ take at line.old ++ id_text id }
+{
+    let Some(id) = id else {
+        return at;
+    };
+    let mut ids = Buffer::new();
+    let end = put(line, at, b" id ");
+    put(line, end, ids.format(id).as_bytes())
 }
 
 /// Appends the line of a property after a margin.
@@ -136,7 +159,16 @@ fn write_number_line(
 {
     let mut digits = [0; 48];
     let number = number_bytes(number, &mut digits);
-    write_parts(&[margin, name.as_bytes(), b" ", number, b"\n"], out)
+    if margin.len() > 8 || name.len() > 64 {
+        return write_parts(&[margin, name.as_bytes(), b" ", number, b"\n"], out);
+    }
+    let mut line = [0; 128];
+    let end = put(&mut line, 0, margin);
+    let end = put(&mut line, end, name.as_bytes());
+    let end = put(&mut line, end, b" ");
+    let end = put(&mut line, end, number);
+    let end = put(&mut line, end, b"\n");
+    out.extend_from_slice(&line[..end])
 }
 
 fn write_outcome(outcome: &Outcome, out: &mut Vec<u8>) -> Result<(), AllocError>
@@ -194,7 +226,8 @@ fn write_color(color: &Color, out: &mut Vec<u8>) -> Result<(), AllocError>
 }
 
 fn number_bytes(number: Fixed, digits: &mut [u8; 48]) -> &[u8]
-    ensures { result.now ≡ number_text number }
+    ensures text { result.now ≡ number_text number }
+    ensures within { length result.now ≤ 48 }
 {
     let length = number.write(digits);
     &digits[..length]
