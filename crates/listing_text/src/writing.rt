@@ -1,4 +1,4 @@
-ghost use Rattle.std.specs.Prelude.{codes, ◌≡◌, ◌+◌, ◌≤◌, ◌++◌, length, take, IfSome, OnOk, OnErr};
+ghost use Rattle.std.specs.Prelude.{codes, ◌≡◌, false, ◌+◌, ◌≤◌, ◌++◌, length, take, IfSome, OnOk, OnErr};
 ghost use Rattle.decimal_json.specs.Writing.{AppendsPrefix};
 ghost use Rattle.fixed_num.specs.NumberText.{number_text};
 ghost use Rattle.prop_values.specs.ColorText.{color_text};
@@ -7,7 +7,7 @@ ghost use Rattle.prop_values.specs.View.{data_of};
 ghost use Rattle.prop_values.specs.declared.outcome.Outcome.TheVariants.{Given};
 ghost use Rattle.listing_text.specs.Listing.{zoom_line, end_line, show_mark, layer_line, outcome_text, value_line, id_text, feature_line};
 ghost use Rattle.tile_reader.specs.ShapeName.{shape_name};
-ghost use Rattle.listing_text.specs.Parts.{parts_text, number_line};
+ghost use Rattle.listing_text.specs.Parts.{parts_text, line_front, number_line};
 
 use crate::show::Show;
 use decimal_json::write_text;
@@ -124,9 +124,9 @@ pub fn write_value(
     if let Outcome::Given(value) = outcome {
         return write_given(margin, name, value, out);
     }
-    write_parts(&[margin, name.as_bytes(), b" "], out)?;
+    write_front(margin, name, out)?;
     write_outcome(outcome, out)?;
-    write_parts(&[b"\n"], out)
+    write_part(b"\n", out)
 }
 
 /// Appends the line of a property that is its value.
@@ -142,9 +142,9 @@ pub fn write_given(
     if let Value::Num(number) = value {
         return write_number_line(margin, name, *number, out);
     }
-    write_parts(&[margin, name.as_bytes(), b" "], out)?;
+    write_front(margin, name, out)?;
     write_value_text(value, out)?;
-    write_parts(&[b"\n"], out)
+    write_part(b"\n", out)
 }
 
 // Appends the line of a number, of which features have millions, at once.
@@ -159,16 +159,45 @@ fn write_number_line(
 {
     let mut digits = [0; 48];
     let number = number_bytes(number, &mut digits);
-    if margin.len() > 8 || name.len() > 64 {
+    if is_long(margin, name) {
         return write_parts(&[margin, name.as_bytes(), b" ", number, b"\n"], out);
     }
     let mut line = [0; 128];
-    let end = put(&mut line, 0, margin);
-    let end = put(&mut line, end, name.as_bytes());
-    let end = put(&mut line, end, b" ");
+    let end = put_front(&mut line, margin, name);
     let end = put(&mut line, end, number);
     let end = put(&mut line, end, b"\n");
     out.extend_from_slice(&line[..end])
+}
+
+// Appends what is before the value of a property on its line.
+fn write_front(margin: &'static [u8], name: &str, out: &mut Vec<u8>) -> Result<(), AllocError>
+    ensures ok { OnOk result (out.new.items ≡ out.old.items ++ line_front margin.now name.now) }
+    ensures err { OnErr result (AppendsPrefix out.old.items out.new.items (line_front margin.now name.now)) }
+{
+    if is_long(margin, name) {
+        return write_parts(&[margin, name.as_bytes(), b" "], out);
+    }
+    let mut line = [0; 128];
+    let end = put_front(&mut line, margin, name);
+    write_part(&line[..end], out)
+}
+
+// Whether a margin and a name are longer than those of the properties.
+fn is_long(margin: &'static [u8], name: &str) -> bool
+    ensures { result ≡ false → (length margin.now ≤ 8) × (length name.now ≤ 64) }
+{
+    margin.len() > 8 || name.len() > 64
+}
+
+// Puts what is before the value of a property at the front of a line, and answers where it ends.
+fn put_front(line: &mut [u8; 128], margin: &'static [u8], name: &str) -> usize
+    requires { (length margin.now ≤ 8) × (length name.now ≤ 64) }
+    ensures within { result ≤ 73 }
+    ensures text { take result line.new ≡ line_front margin.now name.now }
+{
+    let end = put(line, 0, margin);
+    let end = put(line, end, name.as_bytes());
+    put(line, end, b" ")
 }
 
 fn write_outcome(outcome: &Outcome, out: &mut Vec<u8>) -> Result<(), AllocError>
@@ -182,7 +211,7 @@ fn write_outcome(outcome: &Outcome, out: &mut Vec<u8>) -> Result<(), AllocError>
             write_value_text(value, out)?;
             write_parts(&[b"!", fault.name().as_bytes()], out)
         }
-        Outcome::Outside => write_parts(&[b"?"], out),
+        Outcome::Outside => write_part(b"?", out),
     }
 }
 
@@ -194,9 +223,9 @@ fn write_value_text(value: &Value, out: &mut Vec<u8>) -> Result<(), AllocError>
         (AppendsPrefix out.old.items out.new.items (listed_text (data_of value.now))) }
 {
     match value {
-        Value::Null => write_parts(&[b"null"], out),
-        Value::Bool(false) => write_parts(&[b"false"], out),
-        Value::Bool(true) => write_parts(&[b"true"], out),
+        Value::Null => write_part(b"null", out),
+        Value::Bool(false) => write_part(b"false", out),
+        Value::Bool(true) => write_part(b"true", out),
         Value::Num(number) => write_number(*number, out),
         Value::Text(text) => write_text(text.as_str(), out),
         Value::Color(color) => write_color(&color.color(), out),
@@ -209,7 +238,7 @@ fn write_number(number: Fixed, out: &mut Vec<u8>) -> Result<(), AllocError>
     ensures err { OnErr result (AppendsPrefix out.old.items out.new.items (number_text number)) }
 {
     let mut digits = [0; 48];
-    write_parts(&[number_bytes(number, &mut digits)], out)
+    write_part(number_bytes(number, &mut digits), out)
 }
 
 #[tactic(auto, unfolding(prop_values::specs::ColorText::color_text))]
@@ -231,6 +260,14 @@ fn number_bytes(number: Fixed, digits: &mut [u8; 48]) -> &[u8]
 {
     let length = number.write(digits);
     &digits[..length]
+}
+
+// Appends bytes.
+fn write_part(part: &[u8], out: &mut Vec<u8>) -> Result<(), AllocError>
+    ensures ok { OnOk result (out.new.items ≡ out.old.items ++ part.now) }
+    ensures err { OnErr result (AppendsPrefix out.old.items out.new.items part.now) }
+{
+    out.extend_from_slice(part)
 }
 
 // Appends parts one after the other: at once where they fit the buffer of a line.
