@@ -1,6 +1,6 @@
 -- What a refusal leaves of a text that is appended piece by piece.
-use Rattle.std.proofs.Common.{◌≡◌, ℕ, ◌+◌, ◌<◌, suc, List, ◌∷◌, ◌++◌, length, take, drop, get_or, ap, sym, ◌∙◌, subst, append_assoc, add-one, drop-cons}
-use Rattle.std.specs.Prelude.{Result, Ok, Err, OnErr, flat_map}
+use Rattle.std.proofs.Common.{refl, ◌≡◌, ℕ, ◌+◌, ◌<◌, suc, List, [], ◌∷◌, ◌++◌, length, take, drop, get_or, ap, sym, ◌∙◌, subst, append-nil, append_assoc, add-one, drop-cons}
+use Rattle.std.specs.Prelude.{Result, Ok, Err, OnErr, is_ok, if◌then◌else◌, flat_map}
 use Rattle.std.proofs.lemmas.Grind.{flat_map-append}
 use Rattle.std.proofs.lemmas.List.{take-append-drop}
 use Rattle.decimal_json.specs.Writing.{AppendsPrefix}
@@ -65,3 +65,8 @@ err_before r f xs i old now new e stays =
       cut = ap (flat_map f) (sym (take-append-drop i xs)) ∙ flat_map-append f (take i xs) (drop i xs);
       appended = stays ∙ e;
     })
+
+-- refused at the only piece
+pub err_only : {A E : Type 0} (r : Result A E) (old new piece whole : List ℕ) → new ≡ (if is_ok r then old ++ piece else old) → OnErr r (AppendsPrefix old new whole)
+err_only (Ok x) old new piece whole e = tt
+err_only (Err x) old new piece whole e = record { front = []; rest = whole; cut = refl; appended = e ∙ sym (append-nil old) }

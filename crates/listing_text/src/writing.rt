@@ -1,12 +1,13 @@
-ghost use Rattle.std.specs.Prelude.{◌≡◌, ◌++◌, OnOk, OnErr};
+ghost use Rattle.std.specs.Prelude.{codes, ◌≡◌, false, ◌+◌, ◌≤◌, ◌++◌, length, take, IfSome, OnOk, OnErr};
 ghost use Rattle.decimal_json.specs.Writing.{AppendsPrefix};
 ghost use Rattle.fixed_num.specs.NumberText.{number_text};
 ghost use Rattle.prop_values.specs.ColorText.{color_text};
 ghost use Rattle.prop_values.specs.ValueText.{listed_text};
 ghost use Rattle.prop_values.specs.View.{data_of};
 ghost use Rattle.prop_values.specs.declared.outcome.Outcome.TheVariants.{Given};
-ghost use Rattle.listing_text.specs.Listing.{zoom_line, end_line, show_mark, layer_line, outcome_text, value_line, feature_line};
-ghost use Rattle.listing_text.specs.Parts.{parts_text, number_line};
+ghost use Rattle.listing_text.specs.Listing.{zoom_line, end_line, show_mark, layer_line, outcome_text, value_line, id_text, feature_line};
+ghost use Rattle.tile_reader.specs.ShapeName.{shape_name};
+ghost use Rattle.listing_text.specs.Parts.{parts_text, line_front, number_line};
 
 use crate::show::Show;
 use decimal_json::write_text;
@@ -72,20 +73,42 @@ pub fn write_feature_line(
     ensures ok { OnOk result (out.new.items ≡ out.old.items ++ feature_line number shape id) }
     ensures err { OnErr result (AppendsPrefix out.old.items out.new.items (feature_line number shape id)) }
 {
+    let mut line = [0; 128];
     let mut numbers = Buffer::new();
-    let number = numbers.format(number).as_bytes();
-    let shape = shape.name().as_bytes();
-    match id {
-        None => write_parts(&[b"  feature ", number, b" ", shape, b"\n"], out),
-        Some(id) => {
-            let mut ids = Buffer::new();
-            let id = ids.format(id).as_bytes();
-            write_parts(
-                &[b"  feature ", number, b" ", shape, b" id ", id, b"\n"],
-                out,
-            )
-        }
+    let end = put(&mut line, 0, b"  feature ");
+    let end = put(&mut line, end, numbers.format(number).as_bytes());
+    let end = put_shape(&mut line, end, shape);
+    let end = put_id(&mut line, end, id);
+    let end = put(&mut line, end, b"\n");
+    out.extend_from_slice(&line[..end])
+}
+
+// Puts a space and the name of a shape at a place of a line, and answers where they end.
+fn put_shape(line: &mut [u8; 128], at: usize, shape: Shape) -> usize
+    requires { at + 11 ≤ 128 }
+    ensures within { result ≤ at + 11 }
+    ensures text { take result line.new ≡ take at line.old ++ (codes " " ++ shape_name shape) }
+{
+    match shape {
+        Shape::Unknown => put(line, at, b" Unknown"),
+        Shape::Point => put(line, at, b" Point"),
+        Shape::LineString => put(line, at, b" LineString"),
+        Shape::Polygon => put(line, at, b" Polygon"),
     }
+}
+
+// Puts the id of a feature at a place of a line, where it has one, and answers where it ends.
+fn put_id(line: &mut [u8; 128], at: usize, id: Option<u64>) -> usize
+    requires { at + 24 ≤ 128 }
+    ensures within { result ≤ at + 24 }
+    ensures text { take result line.new ≡ take at line.old ++ id_text id }
+{
+    let Some(id) = id else {
+        return at;
+    };
+    let mut ids = Buffer::new();
+    let end = put(line, at, b" id ");
+    put(line, end, ids.format(id).as_bytes())
 }
 
 /// Appends the line of a property after a margin.
@@ -101,9 +124,9 @@ pub fn write_value(
     if let Outcome::Given(value) = outcome {
         return write_given(margin, name, value, out);
     }
-    write_parts(&[margin, name.as_bytes(), b" "], out)?;
+    write_front(margin, name, out)?;
     write_outcome(outcome, out)?;
-    write_parts(&[b"\n"], out)
+    write_part(b"\n", out)
 }
 
 /// Appends the line of a property that is its value.
@@ -119,9 +142,9 @@ pub fn write_given(
     if let Value::Num(number) = value {
         return write_number_line(margin, name, *number, out);
     }
-    write_parts(&[margin, name.as_bytes(), b" "], out)?;
+    write_front(margin, name, out)?;
     write_value_text(value, out)?;
-    write_parts(&[b"\n"], out)
+    write_part(b"\n", out)
 }
 
 // Appends the line of a number, of which features have millions, at once.
@@ -136,7 +159,45 @@ fn write_number_line(
 {
     let mut digits = [0; 48];
     let number = number_bytes(number, &mut digits);
-    write_parts(&[margin, name.as_bytes(), b" ", number, b"\n"], out)
+    if is_long(margin, name) {
+        return write_parts(&[margin, name.as_bytes(), b" ", number, b"\n"], out);
+    }
+    let mut line = [0; 128];
+    let end = put_front(&mut line, margin, name);
+    let end = put(&mut line, end, number);
+    let end = put(&mut line, end, b"\n");
+    out.extend_from_slice(&line[..end])
+}
+
+// Appends what is before the value of a property on its line.
+fn write_front(margin: &'static [u8], name: &str, out: &mut Vec<u8>) -> Result<(), AllocError>
+    ensures ok { OnOk result (out.new.items ≡ out.old.items ++ line_front margin.now name.now) }
+    ensures err { OnErr result (AppendsPrefix out.old.items out.new.items (line_front margin.now name.now)) }
+{
+    if is_long(margin, name) {
+        return write_parts(&[margin, name.as_bytes(), b" "], out);
+    }
+    let mut line = [0; 128];
+    let end = put_front(&mut line, margin, name);
+    write_part(&line[..end], out)
+}
+
+// Whether a margin and a name are longer than those of the properties.
+fn is_long(margin: &'static [u8], name: &str) -> bool
+    ensures { result ≡ false → (length margin.now ≤ 8) × (length name.now ≤ 64) }
+{
+    margin.len() > 8 || name.len() > 64
+}
+
+// Puts what is before the value of a property at the front of a line, and answers where it ends.
+fn put_front(line: &mut [u8; 128], margin: &'static [u8], name: &str) -> usize
+    requires { (length margin.now ≤ 8) × (length name.now ≤ 64) }
+    ensures within { result ≤ 73 }
+    ensures text { take result line.new ≡ line_front margin.now name.now }
+{
+    let end = put(line, 0, margin);
+    let end = put(line, end, name.as_bytes());
+    put(line, end, b" ")
 }
 
 fn write_outcome(outcome: &Outcome, out: &mut Vec<u8>) -> Result<(), AllocError>
@@ -150,7 +211,7 @@ fn write_outcome(outcome: &Outcome, out: &mut Vec<u8>) -> Result<(), AllocError>
             write_value_text(value, out)?;
             write_parts(&[b"!", fault.name().as_bytes()], out)
         }
-        Outcome::Outside => write_parts(&[b"?"], out),
+        Outcome::Outside => write_part(b"?", out),
     }
 }
 
@@ -162,9 +223,9 @@ fn write_value_text(value: &Value, out: &mut Vec<u8>) -> Result<(), AllocError>
         (AppendsPrefix out.old.items out.new.items (listed_text (data_of value.now))) }
 {
     match value {
-        Value::Null => write_parts(&[b"null"], out),
-        Value::Bool(false) => write_parts(&[b"false"], out),
-        Value::Bool(true) => write_parts(&[b"true"], out),
+        Value::Null => write_part(b"null", out),
+        Value::Bool(false) => write_part(b"false", out),
+        Value::Bool(true) => write_part(b"true", out),
         Value::Num(number) => write_number(*number, out),
         Value::Text(text) => write_text(text.as_str(), out),
         Value::Color(color) => write_color(&color.color(), out),
@@ -177,7 +238,7 @@ fn write_number(number: Fixed, out: &mut Vec<u8>) -> Result<(), AllocError>
     ensures err { OnErr result (AppendsPrefix out.old.items out.new.items (number_text number)) }
 {
     let mut digits = [0; 48];
-    write_parts(&[number_bytes(number, &mut digits)], out)
+    write_part(number_bytes(number, &mut digits), out)
 }
 
 #[tactic(auto, unfolding(prop_values::specs::ColorText::color_text))]
@@ -194,14 +255,61 @@ fn write_color(color: &Color, out: &mut Vec<u8>) -> Result<(), AllocError>
 }
 
 fn number_bytes(number: Fixed, digits: &mut [u8; 48]) -> &[u8]
-    ensures { result.now ≡ number_text number }
+    ensures text { result.now ≡ number_text number }
+    ensures within { length result.now ≤ 48 }
 {
     let length = number.write(digits);
     &digits[..length]
 }
 
-// Appends parts one after the other.
+// Appends bytes.
+fn write_part(part: &[u8], out: &mut Vec<u8>) -> Result<(), AllocError>
+    ensures ok { OnOk result (out.new.items ≡ out.old.items ++ part.now) }
+    ensures err { OnErr result (AppendsPrefix out.old.items out.new.items part.now) }
+{
+    out.extend_from_slice(part)
+}
+
+// Appends parts one after the other: at once where they fit the buffer of a line.
 fn write_parts(parts: &[&[u8]], out: &mut Vec<u8>) -> Result<(), AllocError>
+    ensures ok { OnOk result (out.new.items ≡ out.old.items ++ parts_text parts.now) }
+    ensures err { OnErr result (AppendsPrefix out.old.items out.new.items (parts_text parts.now)) }
+{
+    let mut line = [0; 128];
+    match join(parts, &mut line) {
+        Some(end) => out.extend_from_slice(&line[..end]),
+        None => write_each(parts, out),
+    }
+}
+
+// Puts parts one after the other at the front of a line, and answers where they end, or `None` where they do not fit.
+fn join(parts: &[&[u8]], line: &mut [u8; 128]) -> Option<usize>
+    ensures within { IfSome result (λ end. end ≤ 128) }
+    ensures text { IfSome result (λ end. take end line.new ≡ parts_text parts.now) }
+{
+    let mut end = 0;
+    for part in parts {
+        if line.len() - end < part.len() {
+            return None;
+        }
+        end = put(line, end, part);
+    }
+    Some(end)
+}
+
+// Puts bytes at a place of a line, and answers where they end.
+fn put(line: &mut [u8; 128], at: usize, bytes: &[u8]) -> usize
+    requires { at + length bytes.now ≤ 128 }
+    ensures end { result ≡ at + length bytes.now }
+    ensures text { take result line.new ≡ take at line.old ++ bytes.now }
+{
+    let end = at + bytes.len();
+    line[at..end].copy_from_slice(bytes);
+    end
+}
+
+// Appends parts one by one.
+fn write_each(parts: &[&[u8]], out: &mut Vec<u8>) -> Result<(), AllocError>
     ensures ok { OnOk result (out.new.items ≡ out.old.items ++ parts_text parts.now) }
     ensures err { OnErr result (AppendsPrefix out.old.items out.new.items (parts_text parts.now)) }
 {

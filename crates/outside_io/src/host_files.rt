@@ -105,6 +105,9 @@ impl<R: rt::Files> HostFiles<'_, R> {
 /// How many bytes a turn of a read asks for.
 const TURN: usize = 65_536;
 
+/// The room of a turn before its read. It is copied as one block, where a fill would go byte by byte.
+static ROOM: [u8; TURN] = [0; TURN];
+
 /// Reads what a reader has left into an empty vector, if it is at most `at_most` bytes, and counts the bytes
 /// that it gave.
 #[tactic(auto, using(crate::proofs::KnownBytes::consumes_none, crate::proofs::KnownBytes::consumes_turn, crate::proofs::KnownBytes::content_at_end, crate::proofs::KnownBytes::longer_than))]
@@ -150,7 +153,7 @@ fn read_turn<F: Read>(file: &mut F, into: &mut Vec<u8>) -> Result<usize, ReadAns
     ensures stop { IfErr result (λ answer. (answer ≡ ReadAnswer.Failed) ⊎ (answer ≡ ReadAnswer.NoMemory)) }
 {
     let start = into.len();
-    if into.resize(start.saturating_add(TURN), 0).is_err() {
+    if into.extend_from_slice(&ROOM).is_err() {
         return Err(ReadAnswer::NoMemory);
     }
     match read_after(file, into.as_mut_slice(), start) {

@@ -11,6 +11,6 @@ returns-in-Ok-clause-bytes g c =
     let room = c.read_after.new.buffer in
     let long : length c.args.into.now.items ≡ start = search (rules, places) in
     subst (Consumes (g.F.Read.remaining c.args.file.now) (g.F.Read.remaining c.read_after.new.file))
-    (sym (ap (drop (length c.args.into.now.items)) (c.truncate.ensures.items ∙ ap (take (start + count)) (with_items_is c.resize.new.self room (search (rules, places))))
+    (sym (ap (drop (length c.args.into.now.items)) (c.truncate.ensures.items ∙ ap (take (start + count)) (with_items_is c.extend_from_slice.new.self room (search (rules, places))))
     ∙ ap (λ k. drop k (take (start + count) room)) long ∙ drop-take start count room))
     c.in-Ok.ensures.bytes

@@ -1,7 +1,7 @@
 use Rattle.std.specs.Prelude.{ℕ, List}
 use Rattle.std.specs.Borrow.{Bor}
 use Rattle.listing_text.proofs.Appending.{err_before}
-use Rattle.listing_text.proofs.writing.write_parts.Goals as goal
+use Rattle.listing_text.proofs.writing.write_each.Goals as goal
 
 pub returns-in_err-extend_from_slice-clause-err : goal.returns-in_err-extend_from_slice-clause-err
 returns-in_err-extend_from_slice-clause-err c =
