@@ -4,7 +4,7 @@ ghost use Rattle.tile_reader.specs.View.{GivesOrLacks, HasAllTags, tagged_seen, 
 ghost use Rattle.tile_reader.specs.Ids.{id_seen};
 ghost use Rattle.tile_reader.specs.Properties.{put_all, named, feature_of, features_of};
 ghost use Rattle.tile_reader.specs.Lookup.{AreFirsts, AreInside, ArePlaces, pair_place, put_pair, pairs_seen, NotesFirst};
-ghost use Rattle.tile_reader.specs.Ranges.{IsRange, AreRanges, feature_in};
+ghost use Rattle.tile_reader.specs.Ranges.{IsRange, AreRanges, feature_in, features_in};
 
 use crate::fault::{TileFault, TileKind};
 use crate::feature::TaggedFeature;
@@ -35,12 +35,11 @@ struct ChosenPairs {
     places: Vec<usize>,
 }
 
-/// A feature whose properties are so many pairs of its layer, from the first one on.
+/// A feature whose properties are so many pairs of its layer, after those of the features before it.
 #[derive(Clone, Copy)]
 struct ChosenFeature {
     /// Its id, which counts only where it has one.
     id: u64,
-    first: u32,
     count: u32,
     has_id: bool,
     shape: Shape,
@@ -99,7 +98,7 @@ fn values_of(alloc: Global, held: &[Held<'_>]) -> Result<Vec<Value>, AllocError>
     Ok(made)
 }
 
-// The features of a layer with these tags, which are given back to memory once their pairs are added to those that are there.
+// The features of a layer with these tags, which are given back to memory once their pairs are chosen.
 fn taken_features(
     alloc: Global,
     table: &TagTable<'_>,
@@ -109,14 +108,17 @@ fn taken_features(
 ) -> Result<Vec<ChosenFeature>, Halt<TileFault>>
     requires firsts { AreFirsts table.now.firsts.now table.now.keys.now }
     requires tags { HasAllTags tagged.items tags.items }
-    ensures features { GivesOrLacks (λ chosen. map (feature_in table.now.keys.now (map data_of table.now.values.now) pairs.new.items) chosen.items)
+    requires none { pairs.old.items ≡ [] }
+    ensures features { GivesOrLacks
+        (λ chosen. features_in table.now.keys.now (map data_of table.now.values.now) pairs.new.items 0 chosen.items)
         result (features_of table.now.keys.now (map data_of table.now.values.now) [] (tagged_all tagged.items tags.items)) }
-    ensures ranges { IfOk result (λ chosen. AreRanges table.now.keys.now (map data_of table.now.values.now) pairs.new.items chosen.items) }
+    ensures ranges { IfOk result (λ chosen.
+        AreRanges table.now.keys.now (map data_of table.now.values.now) pairs.new.items 0 chosen.items) }
 {
     chosen_features(alloc, table, tagged.as_slice(), tags.as_slice(), pairs)
 }
 
-// The features of a layer with these tags, whose pairs are added to those that are there.
+// The features of a layer with these tags, and their pairs.
 fn chosen_features(
     alloc: Global,
     table: &TagTable<'_>,
@@ -126,9 +128,12 @@ fn chosen_features(
 ) -> Result<Vec<ChosenFeature>, Halt<TileFault>>
     requires firsts { AreFirsts table.now.firsts.now table.now.keys.now }
     requires tags { HasAllTags tagged.now tags.now }
-    ensures features { GivesOrLacks (λ chosen. map (feature_in table.now.keys.now (map data_of table.now.values.now) pairs.new.items) chosen.items)
+    requires none { pairs.old.items ≡ [] }
+    ensures features { GivesOrLacks
+        (λ chosen. features_in table.now.keys.now (map data_of table.now.values.now) pairs.new.items 0 chosen.items)
         result (features_of table.now.keys.now (map data_of table.now.values.now) [] (tagged_all tagged.now tags.now)) }
-    ensures ranges { IfOk result (λ chosen. AreRanges table.now.keys.now (map data_of table.now.values.now) pairs.new.items chosen.items) }
+    ensures ranges { IfOk result (λ chosen.
+        AreRanges table.now.keys.now (map data_of table.now.values.now) pairs.new.items 0 chosen.items) }
 {
     let mut chosen = Vec::with_capacity(alloc, tagged.len())?;
     let mut choice = ChosenPairs {
@@ -185,9 +190,12 @@ fn chosen_feature(
 ) -> Result<ChosenFeature, Halt<TileFault>>
     requires firsts { AreFirsts table.now.firsts.now table.now.keys.now }
     requires places { length choice.old.places.items ≡ length table.now.keys.now }
-    ensures feature { GivesOrLacks (feature_in table.now.keys.now (map data_of table.now.values.now) pairs.new.items)
+    ensures feature { GivesOrLacks
+        (feature_in table.now.keys.now (map data_of table.now.values.now) pairs.new.items (length pairs.old.items))
         result (feature_of table.now.keys.now (map data_of table.now.values.now) (tagged_seen tagged.now tags.now)) }
-    ensures range { IfOk result (λ chosen. IsRange table.now.keys.now (map data_of table.now.values.now) pairs.new.items chosen.first chosen.count) }
+    ensures range { IfOk result (λ chosen.
+        IsRange table.now.keys.now (map data_of table.now.values.now) pairs.new.items (length pairs.old.items) chosen.count) }
+    ensures long { IfOk result (λ chosen. length pairs.old.items + chosen.count ≡ length pairs.new.items) }
     ensures before { OnOk result (take (length pairs.old.items) pairs.new.items ≡ pairs.old.items) }
     ensures places { OnOk result (length choice.new.places.items ≡ length table.now.keys.now) }
 {
@@ -203,12 +211,10 @@ fn chosen_feature(
             at: tagged.at,
         }));
     }
-    let first = narrow(pairs.len())?;
     let count = narrow(choice.pairs.len())?;
     add_pairs(pairs, choice.pairs.as_slice())?;
     Ok(ChosenFeature {
         id: tagged.id,
-        first,
         count,
         has_id: tagged.has_id,
         shape: tagged.shape,
@@ -335,12 +341,17 @@ fn shared_features(
     table: &Rc<LayerTable>,
     chosen: &[ChosenFeature],
 ) -> Result<Features, AllocError>
-    requires { AreRanges table.now.value.keys.items (map data_of table.now.value.values.items) table.now.value.pairs.items chosen.now }
-    ensures { IfOk result (λ features. features ≡ map (feature_in table.now.value.keys.items (map data_of table.now.value.values.items) table.now.value.pairs.items) chosen.now) }
+    requires { AreRanges table.now.value.keys.items (map data_of table.now.value.values.items)
+        table.now.value.pairs.items 0 chosen.now }
+    ensures { IfOk result (λ features. features ≡ features_in table.now.value.keys.items
+        (map data_of table.now.value.values.items) table.now.value.pairs.items 0 chosen.now) }
 {
     let mut features = Features::with_capacity(alloc, chosen.len())?;
+    let mut first = 0;
     for feature in chosen {
-        let properties = FeatureProperties::of_range(alloc, table, feature.first, feature.count)?;
+        let from = narrow(first)?;
+        let properties = FeatureProperties::of_range(alloc, table, from, feature.count)?;
+        first += feature.count as usize;
         features.push(Feature {
             id: id_of(feature.id, feature.has_id),
             shape: feature.shape,
