@@ -6,7 +6,7 @@ use Rattle.prop_values.specs.Data.{Data}
 use Rattle.prop_values.specs.Keys.{HasDistinctKeys}
 use Rattle.prop_values.specs.View.{data_of}
 use Rattle.tile_reader.specs.Lookup.{IndicesWithin, pairs_seen}
-use Rattle.tile_reader.specs.Ids.{id_seen}
+use Rattle.tile_reader.specs.Ids.{front_id, after_id, count_of_id}
 use Rattle.tile_reader.specs.declared.feature_properties.IndexedKey.{IndexedKey}
 use Rattle.tile_reader.specs.declared.feature_properties.IndexedKeys.{IndexedKeys}
 use Rattle.tile_reader.specs.declared.feature_properties.LayerTable.{LayerTable}
@@ -29,24 +29,30 @@ pub record IsRange (keys : List (List ℕ)) (values : List Data) (pairs : List (
   pub inside : (i : ℕ) → i < length (range pairs first count) → IndicesWithin (length keys) (length values) (slice_index_or (range pairs first count) i (0, 0))
   pub distinct : HasDistinctKeys (pairs_seen keys values (range pairs first count))
 
--- a feature whose properties are a range of these pairs, from the first one on
-abbrev pub feature_in : List (List ℕ) → List Data → List (ℕ × ℕ) → ℕ → ChosenFeature → Feature
-feature_in keys values pairs first chosen = record {
-  id = id_seen chosen.id chosen.has_id;
+-- a feature whose properties are a range of these pairs, from the first one on, and whose id is at the front of these
+abbrev pub feature_in : List (List ℕ) → List Data → List (ℕ × ℕ) → List ℕ → ℕ → ChosenFeature → Feature
+feature_in keys values pairs ids first chosen = record {
+  id = front_id chosen.has_id ids;
   shape = chosen.shape;
   properties = pairs_seen keys values (range pairs first chosen.count);
 }
 
--- features whose pairs are one after the other, from the first one on
-abbrev pub features_in : List (List ℕ) → List Data → List (ℕ × ℕ) → ℕ → List ChosenFeature → List Feature
-features_in keys values pairs first [] = []
-features_in keys values pairs first (chosen ∷ others) =
-    feature_in keys values pairs first chosen ∷ features_in keys values pairs (first + chosen.count) others
+-- features whose pairs and ids are one after the other
+abbrev pub features_in : List (List ℕ) → List Data → List (ℕ × ℕ) → List ℕ → ℕ → List ChosenFeature → List Feature
+features_in keys values pairs ids first [] = []
+features_in keys values pairs ids first (chosen ∷ others) =
+    feature_in keys values pairs ids first chosen
+    ∷ features_in keys values pairs (after_id chosen.has_id ids) (first + chosen.count) others
 
 -- how many pairs features have
 abbrev pub count_of_pairs : List ChosenFeature → ℕ
 count_of_pairs [] = 0
 count_of_pairs (chosen ∷ others) = chosen.count + count_of_pairs others
+
+-- how many ids features have
+abbrev pub count_of_ids : List ChosenFeature → ℕ
+count_of_ids [] = 0
+count_of_ids (chosen ∷ others) = count_of_id chosen.has_id + count_of_ids others
 
 -- the range of each
 abbrev pub AreRanges : List (List ℕ) → List Data → List (ℕ × ℕ) → ℕ → List ChosenFeature → Type 0
