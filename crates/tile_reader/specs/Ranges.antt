@@ -1,14 +1,15 @@
 -- The properties of features as ranges of the pairs of their layer.
-use Rattle.std.specs.Prelude.{◌≡◌, ℕ, ◌+◌, ◌<◌, ◌≤◌, List, [], ◌∷◌, length, map, take, drop, Option, Some, None, slice_index_or, Vec}
+use Rattle.std.specs.Prelude.{◌≡◌, ℕ, ◌+◌, ◌<◌, ◌≤◌, List, [], ◌∷◌, length, map, take, drop, Option, Some, None, slice_index_or}
 use Rattle.std.specs.Borrow.{Bor}
 use Rattle.key_index.specs.Index.{IsIndexed}
 use Rattle.prop_values.specs.Data.{Data}
 use Rattle.prop_values.specs.Keys.{HasDistinctKeys}
 use Rattle.prop_values.specs.View.{data_of}
 use Rattle.tile_reader.specs.Lookup.{IndicesWithin, pairs_seen}
-use Rattle.tile_reader.specs.Ids.{id_seen}
+use Rattle.tile_reader.specs.Ids.{front_id, after_id, count_of_id}
 use Rattle.tile_reader.specs.declared.feature_properties.IndexedKey.{IndexedKey}
 use Rattle.tile_reader.specs.declared.feature_properties.IndexedKeys.{IndexedKeys}
+use Rattle.tile_reader.specs.declared.feature_properties.LayerTable.{LayerTable}
 use Rattle.tile_reader.specs.declared.feature_properties.SharedTable.{SharedTable}
 use Rattle.tile_reader.specs.declared.feature_properties.SharedTable.TheVariants.{Empty, Plain, Indexed}
 use Rattle.tile_reader.specs.declared.properties.ChosenFeature.{ChosenFeature}
@@ -28,14 +29,36 @@ pub record IsRange (keys : List (List ℕ)) (values : List Data) (pairs : List (
   pub inside : (i : ℕ) → i < length (range pairs first count) → IndicesWithin (length keys) (length values) (slice_index_or (range pairs first count) i (0, 0))
   pub distinct : HasDistinctKeys (pairs_seen keys values (range pairs first count))
 
--- a feature whose properties are a range of these pairs
-abbrev pub feature_in : List (List ℕ) → List Data → List (ℕ × ℕ) → ChosenFeature → Feature
-feature_in keys values pairs chosen = record { id = id_seen chosen.id chosen.has_id; shape = chosen.shape; properties = pairs_seen keys values (range pairs chosen.first chosen.count) }
+-- a feature whose properties are a range of these pairs, from the first one on, and whose id is at the front of these
+abbrev pub feature_in : List (List ℕ) → List Data → List (ℕ × ℕ) → List ℕ → ℕ → ChosenFeature → Feature
+feature_in keys values pairs ids first chosen = record {
+  id = front_id chosen.has_id ids;
+  shape = chosen.shape;
+  properties = pairs_seen keys values (range pairs first chosen.count);
+}
+
+-- features whose pairs and ids are one after the other
+abbrev pub features_in : List (List ℕ) → List Data → List (ℕ × ℕ) → List ℕ → ℕ → List ChosenFeature → List Feature
+features_in keys values pairs ids first [] = []
+features_in keys values pairs ids first (chosen ∷ others) =
+    feature_in keys values pairs ids first chosen
+    ∷ features_in keys values pairs (after_id chosen.has_id ids) (first + chosen.count) others
+
+-- how many pairs features have
+abbrev pub count_of_pairs : List ChosenFeature → ℕ
+count_of_pairs [] = 0
+count_of_pairs (chosen ∷ others) = chosen.count + count_of_pairs others
+
+-- how many ids features have
+abbrev pub count_of_ids : List ChosenFeature → ℕ
+count_of_ids [] = 0
+count_of_ids (chosen ∷ others) = count_of_id chosen.has_id + count_of_ids others
 
 -- the range of each
-abbrev pub AreRanges : List (List ℕ) → List Data → List (ℕ × ℕ) → List ChosenFeature → Type 0
-AreRanges keys values pairs [] = Unit {0}
-AreRanges keys values pairs (chosen ∷ others) = IsRange keys values pairs chosen.first chosen.count × AreRanges keys values pairs others
+abbrev pub AreRanges : List (List ℕ) → List Data → List (ℕ × ℕ) → ℕ → List ChosenFeature → Type 0
+AreRanges keys values pairs first [] = Unit {0}
+AreRanges keys values pairs first (chosen ∷ others) =
+    IsRange keys values pairs first chosen.count × AreRanges keys values pairs (first + chosen.count) others
 
 -- the texts of keys
 abbrev pub key_texts : List IndexedKey → List (List ℕ)
@@ -51,16 +74,25 @@ HasKeys None keys = Unit {0}
 HasKeys (Some indexed) keys = IsKeyIndex indexed.now keys
 
 -- the properties that a range of a layer's pairs are
+abbrev pub range_seen : LayerTable → ℕ → ℕ → List (List ℕ × Data)
+range_seen table first count =
+    pairs_seen table.keys.items (map data_of table.values.items) (range table.pairs.items first count)
+
+-- so many pairs of a layer are a range
+abbrev pub IsRangeOf : LayerTable → ℕ → ℕ → Type 0
+IsRangeOf table first count = IsRange table.keys.items (map data_of table.values.items) table.pairs.items first count
+
+-- the properties of a feature that shares a table
 abbrev pub properties_seen : SharedTable → ℕ → ℕ → List (List ℕ × Data)
 properties_seen Empty first count = []
-properties_seen (Plain table) first count = pairs_seen table.value.keys.items (map data_of table.value.values.items) (range table.value.pairs.items first count)
-properties_seen (Indexed boxed) first count =
-    pairs_seen boxed.value.table.value.keys.items (map data_of boxed.value.table.value.values.items) (range boxed.value.table.value.pairs.items first count)
+properties_seen (Plain table) first count = range_seen table.value first count
+properties_seen (Indexed boxed) first count = range_seen boxed.value.table.value first count
 
 -- they are a range, and an index has their keys
 abbrev pub AreShared : SharedTable → ℕ → ℕ → Type 0
 AreShared Empty first count = Unit {0}
-AreShared (Plain table) first count = IsRange table.value.keys.items (map data_of table.value.values.items) table.value.pairs.items first count
+AreShared (Plain table) first count = IsRangeOf table.value first count
 AreShared (Indexed boxed) first count =
-    IsRange boxed.value.table.value.keys.items (map data_of boxed.value.table.value.values.items) boxed.value.table.value.pairs.items first count
-    × IsKeyIndex boxed.value.keys (pair_keys boxed.value.table.value.keys.items (range boxed.value.table.value.pairs.items first count))
+    IsRangeOf boxed.value.table.value first count
+    × IsKeyIndex boxed.value.keys
+    (pair_keys boxed.value.table.value.keys.items (range boxed.value.table.value.pairs.items first count))

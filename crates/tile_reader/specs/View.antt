@@ -57,7 +57,8 @@ value_seen (Flag b) = held.boolean b
 
 -- a feature with these tags, before they are looked up
 abbrev pub tagged_seen : TaggedFeature → List ℕ → Tagged
-tagged_seen feature tags = record { at = feature.at; id = id_seen feature.id feature.has_id; shape = feature.shape; tags = tags }
+tagged_seen feature tags =
+    record { at = feature.at; id = id_seen feature.id feature.has_id; shape = feature.shape; tags = tags }
 
 -- features whose tags are one after the other
 abbrev pub tagged_all : List TaggedFeature → List ℕ → List Tagged

@@ -7,7 +7,8 @@ ghost use Rattle.prop_values.specs.Keys.{HasDistinctKeys, LacksKey};
 ghost use Rattle.prop_values.specs.View.{data_of};
 ghost use Rattle.tile_reader.specs.Lookup.{IndicesWithin, pairs_seen};
 ghost use Rattle.key_index.specs.Keys as index;
-ghost use Rattle.tile_reader.specs.Ranges.{IsRange, range, pair_keys, key_texts, HasKeys, IsKeyIndex, AreShared, properties_seen};
+ghost use Rattle.tile_reader.specs.Ranges.{IsRange, range, pair_keys, key_texts, HasKeys, IsKeyIndex};
+ghost use Rattle.tile_reader.specs.Ranges.{AreShared, properties_seen};
 
 use decimal_json::Text;
 use key_index::{KeyIndex, Keyed};
@@ -35,7 +36,7 @@ pub struct FeatureProperties {
     count: u32,
 }
 
-/// The table of a feature's layer. There are many features, so an index stands in a box of its own with the table.
+/// The table of a feature's layer. There are many features, so the index of some of them is in a box with the table.
 #[derive(Drop)]
 enum SharedTable {
     Empty,
@@ -214,7 +215,8 @@ fn shared_table(
     first: u32,
     count: u32,
 ) -> Result<SharedTable, AllocError>
-    requires { IsRange table.now.value.keys.items (map data_of table.now.value.values.items) table.now.value.pairs.items first count }
+    requires { IsRange table.now.value.keys.items (map data_of table.now.value.values.items)
+        table.now.value.pairs.items first count }
     ensures shared { IfOk result (λ shared. AreShared shared first count) }
     ensures same { IfOk result (λ shared. properties_seen shared first count ≡ pairs_seen table.now.value.keys.items
         (map data_of table.now.value.values.items) (range table.now.value.pairs.items first count)) }
@@ -238,7 +240,8 @@ fn keys_of(
     count: u32,
 ) -> Result<IndexedKeys, AllocError>
     requires { IsRange table.now.keys.items (map data_of table.now.values.items) table.now.pairs.items first count }
-    ensures { IfOk result (λ made. IsKeyIndex made (pair_keys table.now.keys.items (range table.now.pairs.items first count))) }
+    ensures { IfOk result (λ made. IsKeyIndex made
+        (pair_keys table.now.keys.items (range table.now.pairs.items first count))) }
 {
     let pairs = pairs_in(table, first, count);
     indexed_keys(alloc, table.keys.as_slice(), pairs)
@@ -252,12 +255,15 @@ fn value_in<'a>(
     index: Option<&IndexedKeys>,
     key: &str,
 ) -> Option<&'a Value>
-    requires range { IsRange table.now.keys.items (map data_of table.now.values.items) table.now.pairs.items first count }
+    requires range { IsRange table.now.keys.items (map data_of table.now.values.items)
+        table.now.pairs.items first count }
     requires index { HasKeys index (pair_keys table.now.keys.items (range table.now.pairs.items first count)) }
     ensures value { option_map (λ v. data_of v.now) result ≡ at_key key.now (pairs_of
-        (pairs_seen table.now.keys.items (map data_of table.now.values.items) (range table.now.pairs.items first count))) }
+        (pairs_seen table.now.keys.items (map data_of table.now.values.items)
+        (range table.now.pairs.items first count))) }
     ensures none { IsNone result ↔ LacksKey key.now
-        (pairs_seen table.now.keys.items (map data_of table.now.values.items) (range table.now.pairs.items first count)) }
+        (pairs_seen table.now.keys.items (map data_of table.now.values.items)
+        (range table.now.pairs.items first count)) }
 {
     let pairs = pairs_in(table, first, count);
     value_at(

@@ -1,10 +1,10 @@
 ghost use Rattle.std.specs.Prelude.{◌≡◌, ◌⊎◌, ℕ, ◌+◌, ◌^◌, ◌<◌, ◌≤◌, ◌*ℤ◌, pos, ◌↔◌, List, [], ◌∷◌, ◌++◌, length, take, map, IfOk, OnOk, Some, None, IfSome, IfNone, MatchOption, option_map, if◌then◌else◌, unsigned_abs, slice_index_or};
 ghost use Rattle.prop_values.specs.View.{data_of};
 ghost use Rattle.tile_reader.specs.View.{GivesOrLacks, HasAllTags, tagged_seen, tagged_all, texts_seen, value_seen};
-ghost use Rattle.tile_reader.specs.Ids.{id_seen};
+ghost use Rattle.tile_reader.specs.Ids.{front_id, after_id, own_ids};
 ghost use Rattle.tile_reader.specs.Properties.{put_all, named, feature_of, features_of};
 ghost use Rattle.tile_reader.specs.Lookup.{AreFirsts, AreInside, ArePlaces, pair_place, put_pair, pairs_seen, NotesFirst};
-ghost use Rattle.tile_reader.specs.Ranges.{IsRange, AreRanges, feature_in};
+ghost use Rattle.tile_reader.specs.Ranges.{IsRange, AreRanges, feature_in, features_in};
 
 use crate::fault::{TileFault, TileKind};
 use crate::feature::TaggedFeature;
@@ -35,12 +35,10 @@ struct ChosenPairs {
     places: Vec<usize>,
 }
 
-/// A feature whose properties are so many pairs of its layer, from the first one on.
+/// A feature whose properties are so many pairs of its layer, after those of the features before it, and whose
+/// id, where it has one, is after theirs.
 #[derive(Clone, Copy)]
 struct ChosenFeature {
-    /// Its id, which counts only where it has one.
-    id: u64,
-    first: u32,
     count: u32,
     has_id: bool,
     shape: Shape,
@@ -67,14 +65,15 @@ pub(crate) fn features(
         firsts: firsts.as_slice(),
     };
     let mut pairs = Vec::with_capacity(alloc, tags.len() / 2)?;
-    let chosen = taken_features(alloc, &table, tagged, tags, &mut pairs)?;
+    let mut ids = Vec::new(alloc);
+    let chosen = taken_features(alloc, &table, tagged, tags, &mut pairs, &mut ids)?;
     let layer = LayerTable {
         keys: texts,
         values: made,
         pairs,
     };
     let shared = Rc::new(alloc, layer)?;
-    Ok(shared_features(alloc, &shared, chosen.as_slice())?)
+    Ok(shared_features(alloc, &shared, chosen.as_slice(), ids.as_slice())?)
 }
 
 // The keys as texts of their own.
@@ -99,36 +98,48 @@ fn values_of(alloc: Global, held: &[Held<'_>]) -> Result<Vec<Value>, AllocError>
     Ok(made)
 }
 
-// The features of a layer with these tags, which are given back to memory once their pairs are added to those that are there.
+// The features of a layer with these tags, which are given back to memory once their pairs are chosen.
 fn taken_features(
     alloc: Global,
     table: &TagTable<'_>,
     tagged: Vec<TaggedFeature>,
     tags: Vec<u64>,
     pairs: &mut Vec<(u32, u32)>,
+    ids: &mut Vec<u64>,
 ) -> Result<Vec<ChosenFeature>, Halt<TileFault>>
     requires firsts { AreFirsts table.now.firsts.now table.now.keys.now }
     requires tags { HasAllTags tagged.items tags.items }
-    ensures features { GivesOrLacks (λ chosen. map (feature_in table.now.keys.now (map data_of table.now.values.now) pairs.new.items) chosen.items)
+    requires none { pairs.old.items ≡ [] }
+    requires no_ids { ids.old.items ≡ [] }
+    ensures features { GivesOrLacks
+        (λ chosen. features_in table.now.keys.now (map data_of table.now.values.now)
+        pairs.new.items ids.new.items 0 chosen.items)
         result (features_of table.now.keys.now (map data_of table.now.values.now) [] (tagged_all tagged.items tags.items)) }
-    ensures ranges { IfOk result (λ chosen. AreRanges table.now.keys.now (map data_of table.now.values.now) pairs.new.items chosen.items) }
+    ensures ranges { IfOk result (λ chosen.
+        AreRanges table.now.keys.now (map data_of table.now.values.now) pairs.new.items 0 chosen.items) }
 {
-    chosen_features(alloc, table, tagged.as_slice(), tags.as_slice(), pairs)
+    chosen_features(alloc, table, tagged.as_slice(), tags.as_slice(), pairs, ids)
 }
 
-// The features of a layer with these tags, whose pairs are added to those that are there.
+// The features of a layer with these tags, with their pairs and ids.
 fn chosen_features(
     alloc: Global,
     table: &TagTable<'_>,
     tagged: &[TaggedFeature],
     tags: &[u64],
     pairs: &mut Vec<(u32, u32)>,
+    ids: &mut Vec<u64>,
 ) -> Result<Vec<ChosenFeature>, Halt<TileFault>>
     requires firsts { AreFirsts table.now.firsts.now table.now.keys.now }
     requires tags { HasAllTags tagged.now tags.now }
-    ensures features { GivesOrLacks (λ chosen. map (feature_in table.now.keys.now (map data_of table.now.values.now) pairs.new.items) chosen.items)
+    requires none { pairs.old.items ≡ [] }
+    requires no_ids { ids.old.items ≡ [] }
+    ensures features { GivesOrLacks
+        (λ chosen. features_in table.now.keys.now (map data_of table.now.values.now)
+        pairs.new.items ids.new.items 0 chosen.items)
         result (features_of table.now.keys.now (map data_of table.now.values.now) [] (tagged_all tagged.now tags.now)) }
-    ensures ranges { IfOk result (λ chosen. AreRanges table.now.keys.now (map data_of table.now.values.now) pairs.new.items chosen.items) }
+    ensures ranges { IfOk result (λ chosen.
+        AreRanges table.now.keys.now (map data_of table.now.values.now) pairs.new.items 0 chosen.items) }
 {
     let mut chosen = Vec::with_capacity(alloc, tagged.len())?;
     let mut choice = ChosenPairs {
@@ -138,7 +149,7 @@ fn chosen_features(
     let mut rest = tags;
     for feature in tagged {
         let (own, others) = rest.split_at(feature.count as usize);
-        chosen.push(chosen_feature(table, feature, own, &mut choice, pairs)?)?;
+        chosen.push(chosen_feature(table, feature, own, &mut choice, pairs, ids)?)?;
         rest = others;
     }
     Ok(chosen)
@@ -175,19 +186,27 @@ fn first_place<'a>(
     }
 }
 
-// A feature with the properties that its tags name, whose pairs are added to those of the features before it.
+// A feature with the properties that its tags name. Its pairs and its id are added to those of the features before it.
 fn chosen_feature(
     table: &TagTable<'_>,
     tagged: &TaggedFeature,
     tags: &[u64],
     choice: &mut ChosenPairs,
     pairs: &mut Vec<(u32, u32)>,
+    ids: &mut Vec<u64>,
 ) -> Result<ChosenFeature, Halt<TileFault>>
     requires firsts { AreFirsts table.now.firsts.now table.now.keys.now }
     requires places { length choice.old.places.items ≡ length table.now.keys.now }
-    ensures feature { GivesOrLacks (feature_in table.now.keys.now (map data_of table.now.values.now) pairs.new.items)
+    ensures feature { GivesOrLacks
+        (feature_in table.now.keys.now (map data_of table.now.values.now) pairs.new.items
+        (own_ids tagged.now.id tagged.now.has_id) (length pairs.old.items))
         result (feature_of table.now.keys.now (map data_of table.now.values.now) (tagged_seen tagged.now tags.now)) }
-    ensures range { IfOk result (λ chosen. IsRange table.now.keys.now (map data_of table.now.values.now) pairs.new.items chosen.first chosen.count) }
+    ensures range { IfOk result (λ chosen.
+        IsRange table.now.keys.now (map data_of table.now.values.now)
+        pairs.new.items (length pairs.old.items) chosen.count) }
+    ensures long { IfOk result (λ chosen. length pairs.old.items + chosen.count ≡ length pairs.new.items) }
+    ensures ids { OnOk result (ids.new.items ≡ ids.old.items ++ own_ids tagged.now.id tagged.now.has_id) }
+    ensures kept { IfOk result (λ chosen. chosen.has_id ≡ tagged.now.has_id) }
     ensures before { OnOk result (take (length pairs.old.items) pairs.new.items ≡ pairs.old.items) }
     ensures places { OnOk result (length choice.new.places.items ≡ length table.now.keys.now) }
 {
@@ -203,16 +222,26 @@ fn chosen_feature(
             at: tagged.at,
         }));
     }
-    let first = narrow(pairs.len())?;
     let count = narrow(choice.pairs.len())?;
     add_pairs(pairs, choice.pairs.as_slice())?;
+    add_id(ids, tagged.id, tagged.has_id)?;
     Ok(ChosenFeature {
-        id: tagged.id,
-        first,
         count,
         has_id: tagged.has_id,
         shape: tagged.shape,
     })
+}
+
+// Adds an id at the end, where there is one.
+#[tactic(auto, using(crate::proofs::Ranges::added_one, crate::proofs::Ranges::added_none))]
+fn add_id(ids: &mut Vec<u64>, id: u64, has_id: bool) -> Result<(), AllocError>
+    ensures { OnOk result (ids.new.items ≡ ids.old.items ++ own_ids id has_id) }
+{
+    if !has_id {
+        return Ok(());
+    }
+    ids.push(id)?;
+    Ok(())
 }
 
 // An index in 32 bits. So many pairs fill 8 GiB of a tile at least.
@@ -329,20 +358,29 @@ fn place_of(places: &[usize], chosen: &[(usize, usize)], key: usize) -> Option<u
     }
 }
 
-// The features, whose properties are ranges of the pairs of their layer.
+// The features with these ids, whose properties are ranges of the pairs of their layer.
 fn shared_features(
     alloc: Global,
     table: &Rc<LayerTable>,
     chosen: &[ChosenFeature],
+    ids: &[u64],
 ) -> Result<Features, AllocError>
-    requires { AreRanges table.now.value.keys.items (map data_of table.now.value.values.items) table.now.value.pairs.items chosen.now }
-    ensures { IfOk result (λ features. features ≡ map (feature_in table.now.value.keys.items (map data_of table.now.value.values.items) table.now.value.pairs.items) chosen.now) }
+    requires { AreRanges table.now.value.keys.items (map data_of table.now.value.values.items)
+        table.now.value.pairs.items 0 chosen.now }
+    ensures { IfOk result (λ features. features ≡ features_in table.now.value.keys.items
+        (map data_of table.now.value.values.items) table.now.value.pairs.items ids.now 0 chosen.now) }
 {
     let mut features = Features::with_capacity(alloc, chosen.len())?;
+    let mut first = 0;
+    let mut rest = ids;
     for feature in chosen {
-        let properties = FeatureProperties::of_range(alloc, table, feature.first, feature.count)?;
+        let from = narrow(first)?;
+        let properties = FeatureProperties::of_range(alloc, table, from, feature.count)?;
+        first += feature.count as usize;
+        let (id, others) = front_id(feature.has_id, rest);
+        rest = others;
         features.push(Feature {
-            id: id_of(feature.id, feature.has_id),
+            id,
             shape: feature.shape,
             properties,
         })?;
@@ -350,11 +388,18 @@ fn shared_features(
     Ok(features)
 }
 
-// An id where there is one.
-fn id_of(id: u64, has_id: bool) -> Option<u64>
-    ensures { result ≡ id_seen id has_id }
+// The id of a feature that has one, which is at the front, and those of the features after it.
+fn front_id(has_id: bool, ids: &[u64]) -> (Option<u64>, &[u64])
+    ensures id { result.0 ≡ front_id has_id ids.now }
+    ensures others { result.1.now ≡ after_id has_id ids.now }
 {
-    if has_id { Some(id) } else { None }
+    if !has_id {
+        return (None, ids);
+    }
+    match ids.split_first() {
+        None => (None, ids),
+        Some((id, others)) => (Some(*id), others),
+    }
 }
 
 // A value with a text of its own.
