@@ -182,7 +182,8 @@ fn write_front(margin: &'static [u8], name: &str, out: &mut Vec<u8>) -> Result<(
     write_part(&line[..end], out)
 }
 
-// Whether a margin and a name are longer than those of the properties.
+// Whether a margin and a name are longer than those of the properties. Else they fit the buffer of a line, also with
+// a space, a number of at most 48 bytes and the end of the line.
 fn is_long(margin: &'static [u8], name: &str) -> bool
     ensures { result ≡ false → (length margin.now ≤ 8) × (length name.now ≤ 64) }
 {
@@ -297,7 +298,8 @@ fn join(parts: &[&[u8]], line: &mut [u8; 128]) -> Option<usize>
     Some(end)
 }
 
-// Puts bytes at a place of a line, and answers where they end.
+// Puts bytes at a place of a line, and answers where they end. A line is put together before it is appended, since
+// each append tests the room of `out`.
 fn put(line: &mut [u8; 128], at: usize, bytes: &[u8]) -> usize
     requires { at + length bytes.now ≤ 128 }
     ensures end { result ≡ at + length bytes.now }
