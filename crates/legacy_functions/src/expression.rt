@@ -158,7 +158,8 @@ fn number_json(alloc: Global, number: Fixed) -> Result<Json, AllocError>
     Ok(Json::Num(NumText::copy_of(alloc, ascii_text(&out[..length]))?))
 }
 
-fn ascii_text(bytes: &[u8]) -> &str
+/// ASCII as a text.
+pub(crate) fn ascii_text(bytes: &[u8]) -> &str
     requires { IsAscii bytes.now }
     ensures { result.now ≡ bytes.now }
 {

@@ -1,6 +1,6 @@
 //! The value of a legacy function.
 
-ghost use Rattle.std.specs.Prelude.{◌≡◌, ◌<◌, ◌-◌, length, map, option_map, unwrap_or, Ok, IfOk};
+ghost use Rattle.std.specs.Prelude.{◌≡◌, ◌<◌, ◌-◌, length, map, option_map, unwrap_or, Ok, IfOk, IfSome, true};
 ghost use Rattle.prop_values.specs.Data.{null as null_data};
 ghost use Rattle.prop_values.specs.View.{data_of};
 ghost use Rattle.prop_values.specs.ViewParts.{evaluated_of};
@@ -10,6 +10,7 @@ ghost use Rattle.interpolate_fixed.specs.PlaceFacts.{IsAscending, IsBetween};
 ghost use Rattle.interpolate_fixed.specs.declared.place.StopPlace.TheVariants.{Between};
 ghost use Rattle.interpolate_fixed.specs.Warp.{warp_of};
 ghost use Rattle.property_tables.specs.Fitting.{fit};
+ghost use Rattle.tile_reader.specs.declared.tile.Feature.{Feature};
 ghost use Rattle.operator_values.specs.Evaluated.{GivesValue, or_fault};
 ghost use Rattle.legacy_functions.specs.Meaning.{value_of, body_result, property_at, output_data, chosen_output, category_data, numeric_at, numeric_result, rule_result, zoom_rule, step_result, ramp_result, result_at, way_result, zoom_way, rule_zooms, identity_data, is_of_form};
 ghost use Rattle.legacy_functions.specs.FunctionView.{default_on, rule_in, rules_in, results_in, zoom_results_in};
@@ -62,10 +63,28 @@ fn fitted_value(
     fit_value(alloc, value, &function.row.want)
 }
 
+// A value that passes by its kind is not handed to the fitting.
 fn fit_value(alloc: Global, value: Value, want: &Want) -> Result<Value, Halt<EvalFault>>
     ensures { GivesValue result (fit want.now (data_of value)) }
 {
+    if passes_by_kind(&value, want) {
+        return Ok(value);
+    }
     Ok(fit(alloc, value, want)??)
+}
+
+// Whether a value is one of those that a want lets pass as they are, seen by the kind alone.
+fn passes_by_kind(value: &Value, want: &Want) -> bool
+    ensures { result ≡ true → fit want.now (data_of value.now) ≡ Ok (data_of value.now) }
+{
+    match want {
+        Want::Any => true,
+        Want::Number => matches!(value, Value::Num(_)),
+        Want::Boolean => matches!(value, Value::Bool(_)),
+        Want::Color => matches!(value, Value::Color(_)),
+        Want::Text | Want::Shown | Want::Image => matches!(value, Value::Text(_)),
+        _ => false,
+    }
 }
 
 fn body_value(
@@ -299,9 +318,31 @@ fn value_between_stops(
     ensures { GivesValue result (ramp_result (inputs_in stops.now) (results_in function.now feature.now stops.now) x (Between i)) }
 {
     let inputs = stops.inputs();
+    if let Some(lower) = literal_result(function, stops, i) {
+        if let Some(upper) = literal_result(function, stops, i + 1) {
+            return value_between(alloc, x, inputs[i], lower, inputs[i + 1], upper);
+        }
+    }
     let lower = stop_value(alloc, function, stops, i, feature)?;
     let upper = stop_value(alloc, function, stops, i + 1, feature)?;
     value_between(alloc, x, inputs[i], &lower, inputs[i + 1], &upper)
+}
+
+// The result of a stop whose output is a literal that passes by its kind.
+fn literal_result<'a>(
+    function: &Function,
+    stops: &'a NumberStops,
+    place: usize,
+) -> Option<&'a Value>
+    requires { place < length stops.now }
+    ensures { (feature : Feature) → IfSome result (λ value.
+        result_at (results_in function.now feature stops.now) place ≡ Ok (data_of value.now)) }
+{
+    let stops = stops.as_slice();
+    match &stops[place].output {
+        Output::Literal(_, value) if passes_by_kind(value, &function.row.want) => Some(value),
+        _ => None,
+    }
 }
 
 // The output of a stop, fitted to the row.

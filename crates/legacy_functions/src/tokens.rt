@@ -3,13 +3,17 @@
 ghost use Rattle.std.specs.Prelude.{◌≡◌, ◌++◌, ◌+◌, ◌<◌, ◌≤◌, length, map, drop, codes, IfOk, OnOk};
 ghost use Rattle.std.specs.String.{string_bytes};
 ghost use Rattle.decimal_json.specs.View.{tree_of};
+ghost use Rattle.fixed_num.specs.NumberText.{number_text};
+ghost use Rattle.prop_values.specs.ValueText.{shown_text};
+ghost use Rattle.prop_values.specs.View.{data_of};
 ghost use Rattle.shared_text.specs.Ranges.{IsRest};
 ghost use Rattle.legacy_functions.specs.TokenSize.{token_size, plain_size, size_of, begins_token, any_token};
 ghost use Rattle.legacy_functions.specs.Tokens.{before_brace, token_name, has_tokens, pieces, property_text, piece_expression, property_expression, token_text, token_expression};
 
-use crate::expression::call;
+use crate::expression::{ascii_text, call};
 use decimal_json::{Items, Json, Text};
-use prop_values::to_text;
+use fixed_num::Fixed;
+use prop_values::{Value, to_text};
 use shared_text::Document;
 use std::alloc::{AllocError, Global};
 use tile_reader::Feature;
@@ -46,7 +50,7 @@ fn any_token(bytes: &[u8]) -> bool
 pub fn token_text(alloc: Global, text: &str, feature: &Feature) -> Result<Text, AllocError>
     ensures { IfOk result (λ made. made ≡ token_text text.now feature.now) }
 {
-    let mut made = String::new(alloc);
+    let mut made = String::with_capacity(alloc, text.len())?;
     let mut rest = text;
     while rest.len() > 0 {
         rest = push_first(alloc, &mut made, rest, feature)?;
@@ -87,12 +91,31 @@ fn push_property(
     ensures { OnOk result (string_bytes made.new ≡ string_bytes made.old ++ property_text name.now feature.now) }
 {
     match feature.properties.get(name) {
-        Some(value) => {
+        Some(value) => push_shown(alloc, made, value),
+        None => Ok(()),
+    }
+}
+
+// Adds what `to-string` says of a value. A text and a number take no memory of their own.
+fn push_shown(alloc: Global, made: &mut String, value: &Value) -> Result<(), AllocError>
+    ensures { OnOk result (string_bytes made.new ≡ string_bytes made.old ++ shown_text (data_of value.now)) }
+{
+    match value {
+        Value::Text(text) => made.push_str(text.as_str()),
+        Value::Num(number) => push_number(made, *number),
+        _ => {
             let text = to_text(alloc, value)?;
             made.push_str(text.as_str())
         }
-        None => Ok(()),
     }
+}
+
+fn push_number(made: &mut String, number: Fixed) -> Result<(), AllocError>
+    ensures { OnOk result (string_bytes made.new ≡ string_bytes made.old ++ number_text number) }
+{
+    let mut out = [0; 48];
+    let length = number.write(&mut out);
+    made.push_str(ascii_text(&out[..length]))
 }
 
 /// The expression that means the same: `concat` of the pieces in order, a token as `get` of its property. The texts of
