@@ -5,6 +5,7 @@ pub mod DocumentLaws
 pub mod LayerLaws
 pub mod PropertyLaws
 pub mod ValueLaws
+pub mod FunctionFaultLaws
 pub mod ReportLaws
 pub mod KeyLaws
 pub mod QuietLaws

@@ -11,3 +11,4 @@ pub mod Levels
 pub mod CodeView
 pub mod LayerParts
 pub mod Keys
+pub mod FunctionFaults

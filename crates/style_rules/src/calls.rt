@@ -1,9 +1,9 @@
 //! What is reported of a document, in its three lists.
 
-ghost use Rattle.std.specs.Prelude.{◌≡◌, map, not, OnOk, IfOk};
+ghost use Rattle.std.specs.Prelude.{◌≡◌, [], ◌∷◌, ◌++◌, map, not, OnOk, IfOk};
 ghost use Rattle.decimal_json.specs.View.{tree_of};
 ghost use Rattle.style_rules.specs.CodeView.{finding_seen};
-ghost use Rattle.style_rules.specs.Findings.{findings, has_faults};
+ghost use Rattle.style_rules.specs.Findings.{findings, findings_in, has_faults};
 ghost use Rattle.style_rules.specs.Reports.{IsReport, IsReportOf, AddsReport};
 
 use crate::diagnostics::{Diagnostic, Diagnostics};
@@ -22,7 +22,7 @@ pub fn examined(alloc: Global, document: &Json) -> Result<Report, AllocError>
 }
 
 /// The three lists of what is reported.
-pub(crate) fn report_of(alloc: Global, reports: Diagnostics) -> Result<Report, AllocError>
+fn report_of(alloc: Global, reports: Diagnostics) -> Result<Report, AllocError>
     ensures { IfOk result (λ report. IsReportOf reports report) }
 {
     let mut report = Report {
@@ -31,18 +31,19 @@ pub(crate) fn report_of(alloc: Global, reports: Diagnostics) -> Result<Report, A
         may_lines: MayLines::new(alloc),
     };
     for one in reports.all {
-        note(&mut report, one)?;
+        note(alloc, &mut report, one)?;
     }
     Ok(report)
 }
 
-fn note(report: &mut Report, diagnostic: Diagnostic) -> Result<(), AllocError>
+fn note(alloc: Global, report: &mut Report, diagnostic: Diagnostic) -> Result<(), AllocError>
     ensures { OnOk result (AddsReport diagnostic report.old report.new) }
 {
     match diagnostic {
         Diagnostic::Finding(path, rule) => report.findings.push(Finding { path, rule }),
         Diagnostic::Note(path) => report.notes.push(path),
         Diagnostic::May(path, faults) => {
+            let faults = faults.found(alloc)?;
             if is_empty(faults) {
                 return Ok(());
             }
@@ -71,6 +72,27 @@ fn is_empty(faults: FaultSet) -> bool
 pub fn findings(alloc: Global, document: &Json) -> Result<Findings, AllocError>
     ensures { IfOk result (λ found. map finding_seen found ≡ findings (tree_of document.now)) }
 {
-    let report = examined(alloc, document)?;
-    Ok(report.findings)
+    let reports = examine(alloc, document)?;
+    findings_of(alloc, reports)
+}
+
+/// The findings among what is reported. What else is reported is freed, and no faults of functions are looked for.
+pub(crate) fn findings_of(alloc: Global, reports: Diagnostics) -> Result<Findings, AllocError>
+    ensures { IfOk result (λ found. map finding_seen found ≡ findings_in reports) }
+{
+    let mut found = Findings::new(alloc);
+    for one in reports.all {
+        note_finding(&mut found, one)?;
+    }
+    Ok(found)
+}
+
+fn note_finding(found: &mut Findings, diagnostic: Diagnostic) -> Result<(), AllocError>
+    ensures { OnOk result (map finding_seen found.new ≡ map finding_seen found.old ++ findings_in (diagnostic ∷ [])) }
+{
+    match diagnostic {
+        Diagnostic::Finding(path, rule) => found.push(Finding { path, rule }),
+        Diagnostic::Note(_) => Ok(()),
+        Diagnostic::May(_, _) => Ok(()),
+    }
 }

@@ -5,8 +5,8 @@ ghost use Rattle.decimal_json.specs.View.{path_of};
 ghost use Rattle.style_rules.specs.Findings.{reports_or};
 ghost use Rattle.style_rules.specs.Places.{unless_broken};
 
+use crate::possible_faults::PossibleFaults;
 use decimal_json::{Here, Path, PathPart, path_to};
-use prop_values::FaultSet;
 use std::alloc::{AllocError, Global};
 use std::marker::Model;
 
@@ -19,7 +19,7 @@ pub(crate) enum Mark {
     /// It is outside of what is evaluated.
     Outside,
     /// It breaks no rule, and its evaluation may have these faults.
-    Sound(FaultSet),
+    Sound(PossibleFaults),
 }
 
 /// What is reported, and the path of its place.
@@ -27,7 +27,7 @@ pub(crate) enum Mark {
 pub(crate) enum Diagnostic {
     Finding(Path, u8),
     Note(Path),
-    May(Path, FaultSet),
+    May(Path, PossibleFaults),
 }
 
 /// What is reported of a document so far.

@@ -5,10 +5,11 @@ ghost use Rattle.decimal_json.specs.View.{tree_of};
 ghost use Rattle.style_rules.specs.Values.{filter_mark};
 
 use crate::diagnostics::Mark;
+use crate::possible_faults::PossibleFaults;
 use crate::values::expression_mark;
 use decimal_json::Json;
 use legacy_filters::{is_legacy, read};
-use prop_values::{FaultSet, Want};
+use prop_values::Want;
 use std::alloc::{AllocError, Global};
 
 /// What is reported of the filter of a layer.
@@ -19,7 +20,7 @@ pub(crate) fn filter_mark(alloc: Global, filter: &Json) -> Result<Mark, AllocErr
         return expression_mark(alloc, &Want::Boolean, None, filter);
     }
     match read(alloc, filter)? {
-        Ok(_) => Ok(Mark::Sound(FaultSet::empty())),
+        Ok(_) => Ok(Mark::Sound(PossibleFaults::none())),
         Err(fault) => Ok(Mark::Broken(fault.path, 20)),
     }
 }

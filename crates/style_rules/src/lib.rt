@@ -9,9 +9,9 @@
 //! the order of the text, and none below another. `examined` gives them too, and in the same walk the notes,
 //! which are the values and filters that are outside of what is evaluated, and the values and filters whose
 //! evaluation may fault, with the faults. Each list is exactly the definition of its name in
-//! `specs/Findings.antt`, and each expression is read and typed once for all three. `property_findings`,
-//! `filter_findings` and `layer_findings` give the findings of one part, for whoever knows that the others have
-//! none.
+//! `specs/Findings.antt`, and each expression is read and typed once for all three. The faults of a
+//! legacy function are looked for by `examined` alone. `property_findings`, `filter_findings` and `layer_findings`
+//! give the findings of one part, for whoever knows that the others have none.
 //!
 //! The text to believe is in `specs/`: `LayerContext`, `Rules`, `Values`, `Places`, `Findings`, `Reports`.
 #![tactic(auto)]
@@ -27,6 +27,7 @@ mod layer_context;
 mod lists;
 mod names;
 mod part_findings;
+mod possible_faults;
 mod properties;
 mod values;
 

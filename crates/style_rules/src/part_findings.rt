@@ -9,7 +9,7 @@ ghost use Rattle.style_rules.specs.Findings.{findings_in, reports_or};
 ghost use Rattle.style_rules.specs.Levels.{layer_reports, property_reports};
 ghost use Rattle.style_rules.specs.Values.{filter_mark};
 
-use crate::calls::report_of;
+use crate::calls::findings_of;
 use crate::diagnostics::{Diagnostics, Mark};
 use crate::filters::filter_mark;
 use crate::layer::report_layer;
@@ -38,7 +38,7 @@ pub fn property_findings<'x>(
         Some(layer_type) => {
             let here = Here::Key(name, properties);
             let mark = property_mark(alloc, layer_type, place, name, value)?;
-            findings_of(alloc, mark, &here)
+            mark_findings(alloc, mark, &here)
         }
         None => Ok(Findings::new(alloc)),
     }
@@ -54,7 +54,7 @@ pub fn filter_findings(
         ≡ findings_in (reports_or (filter_mark (tree_of filter.now)) (path_of here.now) [])) }
 {
     let mark = filter_mark(alloc, filter)?;
-    findings_of(alloc, mark, here)
+    mark_findings(alloc, mark, here)
 }
 
 /// The findings of a layer, by the sources of a document, the ids of the layers before and its place.
@@ -70,15 +70,13 @@ pub fn layer_findings<'x>(
 {
     let mut reports = Diagnostics::new(alloc);
     report_layer(alloc, &mut reports, sources_of(document), used, layer, here)?;
-    let report = report_of(alloc, reports)?;
-    Ok(report.findings)
+    findings_of(alloc, reports)
 }
 
-fn findings_of(alloc: Global, mark: Mark, here: &Here<'_>) -> Result<Findings, AllocError>
+fn mark_findings(alloc: Global, mark: Mark, here: &Here<'_>) -> Result<Findings, AllocError>
     ensures { IfOk result (λ found. map finding_seen found ≡ findings_in (reports_or mark (path_of here.now) [])) }
 {
     let mut reports = Diagnostics::new(alloc);
     reports.report(alloc, here, mark)?;
-    let report = report_of(alloc, reports)?;
-    Ok(report.findings)
+    findings_of(alloc, reports)
 }

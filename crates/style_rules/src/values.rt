@@ -3,20 +3,19 @@
 ghost use Rattle.std.specs.Prelude.{◌≡◌, [], Some, option_map, IfOk};
 ghost use Rattle.decimal_json.specs.View.{tree_of};
 ghost use Rattle.property_tables.specs.RowView.{row_seen};
-ghost use Rattle.expr_syntax.specs.Reading.{reading};
 ghost use Rattle.expr_syntax.specs.ReadView.{reading_of};
 ghost use Rattle.legacy_functions.specs.Form.{form};
-ghost use Rattle.legacy_functions.specs.ToExpression.{function_expression};
 ghost use Rattle.legacy_functions.specs.View.{function_of, row_of};
 ghost use Rattle.style_rules.specs.CodeView.{judged_mark};
-ghost use Rattle.style_rules.specs.Values.{value_mark, literal_mark, read_mark, expression_mark, rule_of, function_mark, function_reads, faults_reports};
+ghost use Rattle.style_rules.specs.Values.{value_mark, literal_mark, read_mark, expression_mark, rule_of, function_mark, function_reads};
 
 use crate::diagnostics::Mark;
+use crate::possible_faults::PossibleFaults;
 use decimal_json::{Json, Path};
 use expr_syntax::{Reading, SynFault, read_expr};
 use expr_types::{TypeCode, TypeFault, Typed, check};
 use legacy_functions::{Function, FunctionReading, read};
-use prop_values::{FaultSet, Want};
+use prop_values::Want;
 use property_tables::{Row, literal};
 use std::alloc::{AllocError, Global};
 use value_forms::{Form, form_of};
@@ -28,7 +27,7 @@ pub(crate) fn value_mark(alloc: Global, row: &Row, json: &Json) -> Result<Mark, 
     match form_of(row, json) {
         Form::Expression => expression_mark(alloc, &row.want, Some(row), json),
         Form::Function => function_mark(alloc, row, json),
-        Form::TokenText => Ok(Mark::Sound(FaultSet::empty())),
+        Form::TokenText => Ok(Mark::Sound(PossibleFaults::none())),
         Form::Literal => literal_mark(alloc, row, json),
     }
 }
@@ -44,7 +43,7 @@ fn literal_mark(alloc: Global, row: &Row, json: &Json) -> Result<Mark, AllocErro
     ensures { IfOk result (λ mark. mark ≡ literal_mark (row_seen row.now) (tree_of json.now)) }
 {
     match literal(alloc, json, row)? {
-        Some(_) => Ok(Mark::Sound(FaultSet::empty())),
+        Some(_) => Ok(Mark::Sound(PossibleFaults::none())),
         None => Ok(broken(alloc, 15)),
     }
 }
@@ -83,7 +82,7 @@ fn typed_mark(typed: Result<Typed<'_>, TypeFault>) -> Mark
     ensures { result ≡ judged_mark typed.entry }
 {
     match typed {
-        Ok(typed) => Mark::Sound(typed.may()),
+        Ok(typed) => Mark::Sound(PossibleFaults::known(typed.may())),
         Err(fault) => Mark::Broken(fault.path, rule_of(fault.code)),
     }
 }
@@ -110,9 +109,8 @@ fn function_mark(alloc: Global, row: &Row, json: &Json) -> Result<Mark, AllocErr
     }
 }
 
-/// A function reads what its row may, and may have the faults of its expression. The function is freed before
-/// its expression is read, and the expression's JSON before it is checked: each is many times as large as the
-/// function's text.
+/// A function reads what its row may, and may have the faults of its expression.
+#[tactic(auto, using(crate::proofs::FunctionFaultLaws::function_reports))]
 fn inside_mark(alloc: Global, row: &Row, function: Function) -> Result<Mark, AllocError>
     requires { row_of function ≡ row_seen row.now }
     ensures { IfOk result (λ mark. mark ≡ function_mark (row_seen row.now) (Some (Some (function_of function)))) }
@@ -120,37 +118,11 @@ fn inside_mark(alloc: Global, row: &Row, function: Function) -> Result<Mark, All
     if !reads_allowed(row, &function) {
         return Ok(broken(alloc, 17));
     }
-    let json = function_json(alloc, function)?;
-    let read = read_json(alloc, json)?;
-    let mark = read_mark(alloc, &row.want, Some(row), read)?;
-    Ok(Mark::Sound(faults_reports(&mark)))
-}
-
-// The expression of a function, which is freed.
-fn function_json(alloc: Global, function: Function) -> Result<Json, AllocError>
-    ensures { IfOk result (λ json. tree_of json ≡ function_expression (row_of function) (function_of function)) }
-{
-    function.to_expr(alloc)
-}
-
-// What JSON reads as, which is freed.
-fn read_json(alloc: Global, json: Json) -> Result<Result<Reading, SynFault>, AllocError>
-    ensures { IfOk result (λ read. reading_of read ≡ reading (tree_of json)) }
-{
-    read_expr(alloc, &json)
+    Ok(Mark::Sound(PossibleFaults::of_function(alloc, row, function)?))
 }
 
 fn reads_allowed(row: &Row, function: &Function) -> bool
     ensures { result ≡ function_reads (row_seen row.now) (function_of function.now) }
 {
     (row.zoom || !function.has_zooms()) && (row.feature || !function.has_property())
-}
-
-fn faults_reports(mark: &Mark) -> FaultSet
-    ensures { result ≡ faults_reports mark.now }
-{
-    match mark {
-        Mark::Sound(faults) => *faults,
-        _ => FaultSet::empty(),
-    }
 }
