@@ -2,6 +2,7 @@
 
 ghost use Rattle.std.specs.Prelude.{◌≡◌, ◌++◌, ◌+◌, ◌<◌, ◌≤◌, Some, true, length, map, IfOk, OnOk};
 ghost use Rattle.eval_face.specs.Resolved.{resolved};
+ghost use Rattle.eval_face.specs.World as world;
 ghost use Rattle.eval_face.specs.World.{World};
 ghost use Rattle.expr_nodes.specs.Evaluators.{nodes_at};
 ghost use Rattle.layer_buckets.specs.Outcomes.{outcome_owned};
@@ -9,7 +10,7 @@ ghost use Rattle.layer_buckets.specs.declared.cell.CellItem.TheVariants as items
 ghost use Rattle.listing_text.specs.Listing.{feature_lines, value_line, value_lines};
 ghost use Rattle.style_layout.specs.CodeView.{feature_seen, property_seen};
 ghost use Rattle.style_layout.specs.Forms.{outcome_of};
-ghost use Rattle.style_layout.specs.Shown.{feature_out, with_state};
+ghost use Rattle.style_layout.specs.Shown.{feature_out, state_of, with_state};
 ghost use Rattle.asked_cells.specs.Expressions.{is_fixed};
 ghost use Rattle.asked_cells.specs.SeenCells.{cell_feature};
 ghost use Rattle.bare_listing.specs.Costs.{nodes_by, one_of, values_cost};
@@ -22,7 +23,7 @@ use expr_nodes::{CountedEvaluator, Workspace};
 use layer_buckets::{Buckets, CellItem, Source};
 use listing_text::{write_feature_line, write_given, write_value};
 use outside_io::Steps;
-use prop_values::{EvalFault, Outcome, Value};
+use prop_values::{Entries, EvalFault, Outcome, Value};
 use std::alloc::{AllocError, Global};
 use std::sync::ledger::Ledger;
 use style_layout::{LayerFeature, Property, PropertyValue, SourceTile, TextTests, state_of};
@@ -171,7 +172,17 @@ impl<E: CountedEvaluator + Drop, V: TextTests> BareLayer<'_, E, V> {
         LayerFeature {
             number,
             feature,
-            state: state_of(self.at.layer, self.at.scene, feature.id),
+            state: self.state(feature.id),
+        }
+    }
+
+    // The members of the state of a feature. One without an id has none, and they are not looked up.
+    fn state(&self, id: Option<u64>) -> Option<&Entries>
+        ensures { world.state_of result ≡ state_of (scene_in V.tests self.now) (layer_in self.now) id }
+    {
+        match id {
+            None => None,
+            Some(_) => state_of(self.at.layer, self.at.scene, id),
         }
     }
 }
