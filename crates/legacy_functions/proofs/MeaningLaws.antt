@@ -1,15 +1,16 @@
 -- What values and faults of parts say of the whole.
 use Rattle.std.proofs.Common.{◌≡◌, ℕ, zero, suc, ◌<◌, ◌≤◌, ℤ, List, [], ◌∷◌, length, get_or, Result, Ok, Err, IsErrAnd, refl, ap, sym, subst, ◌∙◌, arith}
 use Rattle.std.proofs.lemmas.List.Sums.{count_by-le-length}
-use Rattle.std.specs.Prelude.{Option, map, int_le}
+use Rattle.std.specs.Prelude.{Option, unwrap_or, map, int_le}
 use Rattle.fixed_num.specs.declared.fixed.Arith.{Arith}
 use Rattle.interpolate_fixed.specs.Places.{count_not_above}
-use Rattle.prop_values.specs.Data.{Data}
+use Rattle.prop_values.specs.Data.{Data, null}
 use Rattle.prop_values.specs.declared.fault.EvalFault.{EvalFault}
 use Rattle.prop_values.specs.declared.kinds.Want.{Want}
 use Rattle.prop_values.specs.declared.value.Value.{Value}
 use Rattle.property_tables.specs.Fitting.{fit}
 use Rattle.property_tables.specs.Rows.{RowData}
+use Rattle.property_tables.proofs.Stays.{fit_again}
 use Rattle.operator_values.specs.Arithmetic.{then_number}
 use Rattle.operator_values.specs.Evaluated.{Evaluated, GivesValue, then_value, or_fault}
 use Rattle.operator_values.specs.Ramps.{between_of}
@@ -18,8 +19,8 @@ use Rattle.halts.specs.declared.halt.Halt.TheVariants.{Fault, NoMemory}
 use Rattle.tile_reader.specs.declared.tile.Feature.{Feature}
 use Rattle.legacy_functions.specs.declared.function.NumberStop.{NumberStop}
 use Rattle.legacy_functions.specs.declared.function.ZoomRule.{ZoomRule}
-use Rattle.legacy_functions.specs.Function.{Way}
-use Rattle.legacy_functions.specs.Meaning.{output_data, result_at, between_results, stop_results, rule_result, rule_results}
+use Rattle.legacy_functions.specs.Function.{Way, PropertyRule, numeric, categorical}
+use Rattle.legacy_functions.specs.Meaning.{output_data, result_at, between_results, stop_results, numeric_at, category_data, rule_result, rule_results}
 use Rattle.legacy_functions.specs.Parts.{stop_seen, output_seen}
 use Rattle.legacy_functions.specs.Stops.{inputs_in}
 use Rattle.legacy_functions.specs.View.{rule_seen, zoom_rule_seen}
@@ -38,6 +39,20 @@ then_halted NoMemory a go g = tt
 
 pub then_given : (r : Result Value (Halt EvalFault)) (a : Evaluated) (d : Data) (go : Data → Evaluated) → a ≡ Ok d → GivesValue r (go d) → GivesValue r (then_value a go)
 then_given r a d go e g = subst (GivesValue r) (sym (ap (λ x. then_value x go) e)) g
+
+-- ---- a fitted value stays
+
+fitted_stays : (want : Want) (a : Evaluated) → ((d : Data) → a ≡ Ok d → fit want d ≡ Ok d) → then_value a (fit want) ≡ a
+fitted_stays want (Ok d) stays = stays d refl
+fitted_stays want (Err fault) stays = refl
+
+fit_twice : (want : Want) (a : Evaluated) → then_value (then_value a (fit want)) (fit want) ≡ then_value a (fit want)
+fit_twice want (Ok d) = fitted_stays want (fit want d) (λ e h. fit_again want d e h)
+fit_twice want (Err fault) = refl
+
+pub rule_is_fitted : (row : RowData) (default : Data) (feature : Feature) (found : Option Data) (rule : PropertyRule) → then_value (rule_result row default feature found rule) (fit row.want) ≡ rule_result row default feature found rule
+rule_is_fitted row default feature found (numeric way stops) = fit_twice row.want (numeric_at row way stops default feature found)
+rule_is_fitted row default feature found (categorical stops) = fit_twice row.want (Ok (category_data default feature (unwrap_or found null) stops))
 
 -- ---- a moved input
 

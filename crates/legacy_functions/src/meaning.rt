@@ -11,8 +11,8 @@ ghost use Rattle.interpolate_fixed.specs.declared.place.StopPlace.TheVariants.{B
 ghost use Rattle.interpolate_fixed.specs.Warp.{warp_of};
 ghost use Rattle.property_tables.specs.Fitting.{fit};
 ghost use Rattle.tile_reader.specs.declared.tile.Feature.{Feature};
-ghost use Rattle.operator_values.specs.Evaluated.{GivesValue, or_fault};
-ghost use Rattle.legacy_functions.specs.Meaning.{value_of, body_result, property_at, output_data, chosen_output, category_data, numeric_at, numeric_result, rule_result, zoom_rule, step_result, ramp_result, result_at, way_result, zoom_way, rule_zooms, identity_data, is_of_form};
+ghost use Rattle.operator_values.specs.Evaluated.{GivesValue, or_fault, then_value};
+ghost use Rattle.legacy_functions.specs.Meaning.{value_of, plain_by, property_at, output_data, chosen_output, category_data, numeric_at, numeric_result, rule_result, zoom_rule, step_result, ramp_result, result_at, way_result, zoom_way, rule_zooms, identity_data, is_of_form};
 ghost use Rattle.legacy_functions.specs.FunctionView.{default_on, rule_in, rules_in, results_in, zoom_results_in};
 ghost use Rattle.legacy_functions.specs.Parts.{stop_seen, category_seen, output_seen};
 ghost use Rattle.legacy_functions.specs.Stops.{inputs_in};
@@ -59,8 +59,40 @@ fn fitted_value(
 ) -> Result<Value, Halt<EvalFault>>
     ensures { GivesValue result (value_of (row_of function.now) (function_of function.now) zoom feature.now) }
 {
-    let value = body_value(alloc, function, zoom, feature)?;
-    fit_value(alloc, value, &function.row.want)
+    let want = &function.row.want;
+    match &function.body {
+        Body::Plain(rule) => plain_value(alloc, function, rule, zoom, feature),
+        Body::Zoomed(rules) => {
+            let value = zoomed_value(alloc, function, rules, zoom, feature)?;
+            fit_value(alloc, value, want)
+        }
+        Body::Identity => fit_value(alloc, identity_value(alloc, function, feature)?, want),
+    }
+}
+
+// What one rule gives, fitted to the row. A rule by a property gives what is fitted already.
+#[tactic(auto, using(crate::proofs::MeaningLaws::then_rules, crate::proofs::MeaningLaws::rule_is_fitted))]
+fn plain_value(
+    alloc: Global,
+    function: &Function,
+    rule: &PropertyRule,
+    zoom: Fixed,
+    feature: &Feature,
+) -> Result<Value, Halt<EvalFault>>
+    ensures { GivesValue result (then_value (plain_by function.now.property (row_of function.now)
+        (default_on function.now feature.now) zoom feature.now (rule_in function.now rule.now))
+        (fit (row_of function.now).want)) }
+{
+    match &function.property {
+        Some(name) => {
+            let found = feature.properties.get(name.as_str());
+            rule_value(alloc, function, rule, feature, found)
+        }
+        None => {
+            let value = zoom_rule_value(alloc, function, rule, zoom, feature)?;
+            fit_value(alloc, value, &function.row.want)
+        }
+    }
 }
 
 // A value that passes by its kind is not handed to the fitting.
@@ -84,31 +116,6 @@ fn passes_by_kind(value: &Value, want: &Want) -> bool
         Want::Color => matches!(value, Value::Color(_)),
         Want::Text | Want::Shown | Want::Image => matches!(value, Value::Text(_)),
         _ => false,
-    }
-}
-
-fn body_value(
-    alloc: Global,
-    function: &Function,
-    zoom: Fixed,
-    feature: &Feature,
-) -> Result<Value, Halt<EvalFault>>
-    ensures { GivesValue result (body_result (row_of function.now) (default_on function.now feature.now)
-        (function_of function.now) zoom feature.now (function_of function.now).body) }
-{
-    match &function.body {
-        Body::Plain(rule) => match &function.property {
-            Some(name) => rule_value(
-                alloc,
-                function,
-                rule,
-                feature,
-                feature.properties.get(name.as_str()),
-            ),
-            None => zoom_rule_value(alloc, function, rule, zoom, feature),
-        },
-        Body::Zoomed(rules) => zoomed_value(alloc, function, rules, zoom, feature),
-        Body::Identity => identity_value(alloc, function, feature),
     }
 }
 
