@@ -1,9 +1,16 @@
 -- The properties of rows, row by row.
-use Rattle.std.proofs.Common.{◌≡◌, ◌∙◌, ℕ, ◌+◌, ◌<◌, List, [], ◌∷◌, ◌++◌, length, get_or, drop, ap, sym, arith}
-use Rattle.std.specs.Prelude.{flat_map}
+use Rattle.std.proofs.Common.{◌≡◌, ◌∙◌, ℕ, ◌+◌, ◌<◌, List, [], ◌∷◌, ◌++◌, length, get_or, drop, ap, sym, refl, arith, true, false}
+use Rattle.std.specs.Prelude.{Bool, None, flat_map, if◌then◌else◌}
 use Rattle.std.proofs.lemmas.List.{append_assoc, drop_more}
+use Rattle.decimal_json.specs.Tree.{Tree}
+use Rattle.prop_values.specs.Data.{Data}
 use Rattle.property_tables.specs.Rows.{RowData}
 use Rattle.style_layout.specs.Forms.{Property}
+use Rattle.style_layout.specs.Layers.{is_visibility, property_if, set_property, set_value}
+
+same_of_either : {A : Type 0} (b : Bool) (a : A) → (if b then a else a) ≡ a
+same_of_either true a = refl
+same_of_either false a = refl
 
 -- a row more
 grown : (set : RowData → List Property) (rows : List RowData) (n : ℕ) (d : RowData) → n < length rows → (old new whole : List Property)
@@ -18,3 +25,9 @@ pub row_more : (set : RowData → List Property) (rows : List RowData) (n : ℕ)
     → new ++ flat_map set (drop (n + 1) rows) ≡ whole
 row_more set [] n below old new whole pushed before = absurd (omega (arith, below))
 row_more set (r ∷ rows) n below old new whole pushed before = grown set (r ∷ rows) n r below old new whole (pushed r) before
+
+-- a property that is not set
+pub unset_property : (globals : List (List ℕ × Data)) (layer : Tree) (row : RowData) → set_value layer row.place row.name ≡ None
+    → set_property globals layer row ≡ []
+unset_property globals layer row unset =
+    ap (λ value. if is_visibility row then [] else property_if row globals value) unset ∙ same_of_either (is_visibility row) []

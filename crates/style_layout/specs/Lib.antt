@@ -8,5 +8,6 @@ pub mod StyleLayout
 -- What clauses see of the program's values, and the words of private functions' clauses.
 pub mod Tests
 pub mod CodeView
+pub mod PlacedLayer
 pub mod Walk
 pub mod ReadValues

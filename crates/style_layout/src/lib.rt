@@ -11,7 +11,7 @@
 //! What is promised: `prepare` reads each value of a layer once, and gives the layers as `specs/Layers.antt` has them. `cell_count`
 //! is the layout's count of cells, or 2^128 - 1 where there are more. `LayerFeatures` gives the features of a layer over tiles with
 //! their numbers, in their order. `globals_of` gives the values that the names of the global state have from the document, and
-//! `global_default` that of one name.
+//! `global_default` that of one name. `PlacedLayer` gives the values of a layer's properties.
 //!
 //! The layout itself, `layers_layout` of `specs/StyleLayout.antt`, is written by the crates above, from counted evaluations.
 //!
@@ -23,6 +23,7 @@ mod features;
 mod forms;
 mod globals;
 mod layers;
+mod placed_layer;
 mod prepared;
 mod properties;
 mod scene;
@@ -33,6 +34,7 @@ pub use features::{LayerFeature, LayerFeatures, state_of};
 pub use forms::{LayerFilter, PropertyValue};
 pub use globals::{global_default, globals_of};
 pub use layers::{SortProperty, StyleLayer, prepare_layer};
+pub use placed_layer::PlacedLayer;
 pub use prepared::{PreparedStyle, prepare};
 pub use properties::{Property, VISIBILITY, set_value};
 pub use scene::{HostTests, Scene, SourceTile, TextTests};

@@ -11,6 +11,7 @@ ghost use Rattle.style_layout.specs.Forms.{property_of};
 ghost use Rattle.style_layout.specs.Layers.{properties_of, set_property, set_value};
 
 use crate::forms::{PropertyValue, is_per_feature, property_value};
+use crate::placed_layer::PlacedLayer;
 use decimal_json::{Json, Members};
 use prop_values::{Entries, Value};
 use property_tables::{
@@ -41,6 +42,18 @@ pub(crate) fn properties_of(
     ensures { IfOk result (λ properties. map property_seen properties.items
         ≡ properties_of globals.now layer_type (object (fields_of layer.now))) }
 {
+    placed_properties(alloc, globals, layer_type, &PlacedLayer::of(layer))
+}
+
+fn placed_properties(
+    alloc: Global,
+    globals: &Entries,
+    layer_type: LayerType,
+    layer: &PlacedLayer<'_>,
+) -> Result<Vec<Property>, AllocError>
+    ensures { IfOk result (λ properties. map property_seen properties.items
+        ≡ properties_of globals.now layer_type (object (fields_of layer.now))) }
+{
     let mut properties = Vec::new(alloc);
     for number in 0..row_count(layer_type) {
         push_numbered(alloc, globals, layer_type, layer, number, &mut properties)?;
@@ -52,7 +65,7 @@ fn push_numbered(
     alloc: Global,
     globals: &Entries,
     layer_type: LayerType,
-    layer: &Members,
+    layer: &PlacedLayer<'_>,
     number: u16,
     properties: &mut Vec<Property>,
 ) -> Result<(), AllocError>
@@ -75,10 +88,11 @@ fn row_at(layer_type: LayerType, number: u16) -> Option<Row>
 }
 
 // `visibility` says whether the layer is shown, and has no value of its own.
+#[tactic(auto, using(crate::proofs::RowLists::unset_property))]
 fn push_if_set(
     alloc: Global,
     globals: &Entries,
-    layer: &Members,
+    layer: &PlacedLayer<'_>,
     row: &Row,
     properties: &mut Vec<Property>,
 ) -> Result<(), AllocError>
@@ -86,17 +100,15 @@ fn push_if_set(
     ensures { OnOk result (map property_seen properties.new.items
         ≡ map property_seen properties.old.items ++ set_property globals.now (object (fields_of layer.now)) (row_seen row.now)) }
 {
+    let Some(json) = layer.get(row.place, row.name) else {
+        return Ok(());
+    };
     if row.name == VISIBILITY {
         return Ok(());
     }
-    match set_value(layer, row.place, row.name) {
-        Some(json) => {
-            let property = read_property(alloc, globals, row, json)?;
-            properties.push(property)?;
-            Ok(())
-        }
-        None => Ok(()),
-    }
+    let property = read_property(alloc, globals, row, json)?;
+    properties.push(property)?;
+    Ok(())
 }
 
 /// The value of a name in `layout` or `paint` of a layer.

@@ -17,7 +17,7 @@ use std::alloc::{AllocError, Global};
 pub fn examined(alloc: Global, document: &Json) -> Result<Report, AllocError>
     ensures { IfOk result (λ report. IsReport (tree_of document.now) report) }
 {
-    let reports = examine(alloc, document)?;
+    let reports = examine(alloc, document, true)?;
     report_of(alloc, reports)
 }
 
@@ -72,7 +72,7 @@ fn is_empty(faults: FaultSet) -> bool
 pub fn findings(alloc: Global, document: &Json) -> Result<Findings, AllocError>
     ensures { IfOk result (λ found. map finding_seen found ≡ findings (tree_of document.now)) }
 {
-    let reports = examine(alloc, document)?;
+    let reports = examine(alloc, document, false)?;
     findings_of(alloc, reports)
 }
 

@@ -34,6 +34,8 @@ pub(crate) enum Diagnostic {
 #[derive(Drop)]
 pub(crate) struct Diagnostics {
     pub(crate) all: Vec<Diagnostic>,
+    /// Whether faults are listed: then those of a function are found at once, and the function is freed.
+    lists_faults: bool,
 }
 
 impl Model for Diagnostics {
@@ -46,11 +48,12 @@ impl Model for Diagnostics {
 }
 
 impl Diagnostics {
-    pub(crate) fn new(alloc: Global) -> Diagnostics
+    pub(crate) fn new(alloc: Global, lists_faults: bool) -> Diagnostics
         ensures { result ≡ [] }
     {
         Diagnostics {
             all: Vec::new(alloc),
+            lists_faults,
         }
     }
 
@@ -70,11 +73,22 @@ impl Diagnostics {
                 self.all.push(Diagnostic::Finding(path, rule))?;
             }
             Mark::Outside => self.all.push(Diagnostic::Note(path_to(alloc, here)?))?,
-            Mark::Sound(faults) => self
-                .all
-                .push(Diagnostic::May(path_to(alloc, here)?, faults))?,
+            Mark::Sound(faults) => {
+                let faults = self.listed(alloc, faults)?;
+                self.all
+                    .push(Diagnostic::May(path_to(alloc, here)?, faults))?
+            }
         }
         Ok(())
+    }
+
+    fn listed(&self, alloc: Global, faults: PossibleFaults) -> Result<PossibleFaults, AllocError>
+        ensures { IfOk result (λ same. same ≡ faults) }
+    {
+        if self.lists_faults {
+            return Ok(PossibleFaults::known(faults.found(alloc)?));
+        }
+        Ok(faults)
     }
 
     /// Reports that a place breaks a rule.

@@ -24,14 +24,18 @@ use style_parts::{is_between, sources_of};
 
 const MOST_LAYERS: usize = 65_536;
 
-/// What is reported of a document.
-pub(crate) fn examine(alloc: Global, document: &Json) -> Result<Diagnostics, AllocError>
+/// What is reported of a document, whose faults are listed or not.
+pub(crate) fn examine(
+    alloc: Global,
+    document: &Json,
+    lists_faults: bool,
+) -> Result<Diagnostics, AllocError>
     ensures { IfOk result (λ list. list ≡ reports (tree_of document.now)) }
 {
     match document {
-        Json::Object(root) => examine_root(alloc, root, sources_of(document)),
+        Json::Object(root) => examine_root(alloc, root, sources_of(document), lists_faults),
         _ => {
-            let mut reports = Diagnostics::new(alloc);
+            let mut reports = Diagnostics::new(alloc, lists_faults);
             reports.report_broken(alloc, &Here::Root, 1)?;
             Ok(reports)
         }
@@ -42,11 +46,12 @@ fn examine_root(
     alloc: Global,
     root: &Members,
     sources: Option<&Members>,
+    lists_faults: bool,
 ) -> Result<Diagnostics, AllocError>
     requires { fields_at sources ≡ sources_of (object (fields_of root.now)) }
     ensures { IfOk result (λ list. list ≡ reports (object (fields_of root.now))) }
 {
-    let mut reports = Diagnostics::new(alloc);
+    let mut reports = Diagnostics::new(alloc, lists_faults);
     let members = root.as_slice();
     if !has_root_members(root) {
         reports.report_broken(alloc, &Here::Root, 2)?;

@@ -68,7 +68,7 @@ pub fn layer_findings<'x>(
     ensures { IfOk result (λ found. map finding_seen found ≡ findings_in
         (layer_reports (sources_of (tree_of document.now)) (has_name used.now) (path_of here.now) (tree_of layer.now))) }
 {
-    let mut reports = Diagnostics::new(alloc);
+    let mut reports = Diagnostics::new(alloc, false);
     report_layer(alloc, &mut reports, sources_of(document), used, layer, here)?;
     findings_of(alloc, reports)
 }
@@ -76,7 +76,7 @@ pub fn layer_findings<'x>(
 fn mark_findings(alloc: Global, mark: Mark, here: &Here<'_>) -> Result<Findings, AllocError>
     ensures { IfOk result (λ found. map finding_seen found ≡ findings_in (reports_or mark (path_of here.now) [])) }
 {
-    let mut reports = Diagnostics::new(alloc);
+    let mut reports = Diagnostics::new(alloc, false);
     reports.report(alloc, here, mark)?;
     findings_of(alloc, reports)
 }

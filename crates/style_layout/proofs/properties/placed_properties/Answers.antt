@@ -4,7 +4,7 @@ use Rattle.property_tables.specs.Rows.{rows_of}
 use Rattle.style_layout.specs.CodeView.{property_seen}
 use Rattle.style_layout.specs.Layers.{set_property}
 use Rattle.style_layout.proofs.RowLists.{row_more}
-use Rattle.style_layout.proofs.properties.properties_of.Goals as goal
+use Rattle.style_layout.proofs.properties.placed_properties.Goals as goal
 
 pub loop-number-preserved : goal.loop-number-preserved
 loop-number-preserved c =

@@ -4,7 +4,7 @@ use Rattle.decimal_json.specs.Tree.{object, fields_of}
 use Rattle.property_tables.specs.Rows.{rows_of}
 use Rattle.style_layout.specs.CodeView.{property_seen}
 use Rattle.style_layout.specs.Layers.{set_property}
-use Rattle.style_layout.proofs.properties.properties_of.Given as goal
+use Rattle.style_layout.proofs.properties.placed_properties.Given as goal
 
 abbrev pub invariant-loop-number : goal.invariant-loop-number
 invariant-loop-number l =
