@@ -65,7 +65,8 @@ impl PossibleFaults {
         row: &Row,
         function: Function,
     ) -> Result<PossibleFaults, AllocError>
-        ensures { IfOk result (λ faults. faults ≡ faults_of_function (row_seen row.now) (row_of function) (function_of function)) }
+        ensures { IfOk result (λ faults. faults
+            ≡ faults_of_function (row_seen row.now) (row_of function) (function_of function)) }
     {
         let function = RowFunction {
             row: row.copy(),
@@ -94,7 +95,8 @@ impl PossibleFaults {
 /// The function is freed before its expression is read, and the expression's JSON before it is checked: each is many
 /// times as large as the function's text.
 fn function_faults(alloc: Global, row: &Row, function: Function) -> Result<FaultSet, AllocError>
-    ensures { IfOk result (λ faults. faults ≡ faults_of_function (row_seen row.now) (row_of function) (function_of function)) }
+    ensures { IfOk result (λ faults. faults
+        ≡ faults_of_function (row_seen row.now) (row_of function) (function_of function)) }
 {
     let json = function_json(alloc, function)?;
     let read = read_json(alloc, json)?;
