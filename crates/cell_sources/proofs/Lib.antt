@@ -7,3 +7,4 @@ pub mod CellsAlike
 pub mod ReadWithoutGlobals
 pub mod SameExpressions
 mod FormedExpressions
+pub mod UnsetItems

@@ -1,7 +1,8 @@
 //! The sources of a layer's items.
 
-ghost use Rattle.std.specs.Prelude.{◌≡◌, ◌<◌, ℕ, ◌++◌, ◌∷◌, [], None, Some, true, is_some, length, option_map, slice_get, if◌then◌else◌, IfOk, IfSome, OnOk, OnErr};
+ghost use Rattle.std.specs.Prelude.{◌≡◌, ◌<◌, ℕ, List, ◌++◌, ◌∷◌, [], None, Some, false, true, is_some, length, option_map, slice_get, if◌then◌else◌, IfOk, IfSome, OnOk, OnErr};
 ghost use Rattle.decimal_json.specs.Tree.{object, fields_of};
+ghost use Rattle.prop_values.specs.Data.{Data};
 ghost use Rattle.property_tables.specs.Rows.{rows_of};
 ghost use Rattle.property_tables.specs.RowView.{row_seen};
 ghost use Rattle.expr_nodes.specs.Evaluators.{sized_node, sized_term};
@@ -10,7 +11,7 @@ ghost use Rattle.layer_buckets.specs.Seen.{IsSound, evaluator_of, features_of, k
 ghost use Rattle.layer_buckets.specs.declared.cell.Cell.{Cell};
 ghost use Rattle.layer_buckets.specs.declared.cell.CellItem.{CellItem};
 ghost use Rattle.layer_buckets.specs.declared.cell.CellItem.TheVariants as items;
-ghost use Rattle.style_layout.specs.Layers.{has_features};
+ghost use Rattle.style_layout.specs.Layers.{has_features, set_value};
 ghost use Rattle.asked_cells.specs.Expressions.{HasExpressions};
 ghost use Rattle.cell_sources.specs.CellExpressions.{IsItemOf, item_expression, row_expression};
 ghost use Rattle.cell_sources.specs.Sourced.{KeepsNoMore, KeepsOthers, LeavesOthers, SetsItem};
@@ -27,7 +28,7 @@ use layer_buckets::{Buckets, CellItem, Source};
 use prop_values::{Entries, Want};
 use property_tables::{LayerType, Row, row_count, row_numbered, tables_keep_their_rules};
 use std::alloc::{AllocError, Global};
-use style_layout::{VISIBILITY, set_value};
+use style_layout::{PlacedLayer, VISIBILITY, set_value};
 
 /// A layer of a document without findings, and the values of the global state.
 #[derive(Clone, Copy)]
@@ -55,8 +56,9 @@ pub fn add_sources(
         (item_expression layer.now.globals.now layer.now.layer_type (object (fields_of layer.now.members.now))) buckets.new) }
     ensures kept { KeepsNoMore buckets.old buckets.new }
 {
+    let placed = PlacedLayer::of(layer.members);
     for row in 0..row_count(layer.layer_type) {
-        add_property(alloc, number, layer, row, buckets)?;
+        add_property(alloc, number, layer, &placed, row, buckets)?;
     }
     let expression = layer_filter(alloc, layer)?;
     add_item(alloc, number, CellItem::Filter, expression, buckets)
@@ -112,9 +114,11 @@ fn add_property(
     alloc: Global,
     number: u32,
     layer: &LayerValues<'_>,
+    placed: &PlacedLayer<'_>,
     row: u16,
     buckets: &mut Buckets<FormPool>,
 ) -> Result<(), AllocError>
+    requires placed { placed.now ≡ layer.now.members.now }
     requires sound { IsSound buckets.old }
     requires there { is_some (features_of buckets.old number) ≡ true }
     requires row { row < length (rows_of layer.now.layer_type) }
@@ -126,8 +130,30 @@ fn add_property(
         buckets.old buckets.new) }
     ensures kept { KeepsNoMore buckets.old buckets.new }
 {
-    let expression = property_expression(alloc, layer, row)?;
-    add_item(alloc, number, CellItem::Property(row), expression, buckets)
+    if is_set(layer.layer_type, placed, row) {
+        let expression = property_expression(alloc, layer, row)?;
+        return add_item(alloc, number, CellItem::Property(row), expression, buckets);
+    }
+    Ok(())
+}
+
+// Whether a layer sets the property of a row's number. One that it does not set has no expression.
+#[tactic(auto, using(crate::proofs::UnsetItems::unset_item))]
+fn is_set(layer_type: LayerType, layer: &PlacedLayer<'_>, row: u16) -> bool
+    requires { row < length (rows_of layer_type) }
+    ensures { result ≡ false → (globals : List (List ℕ × Data))
+        → item_expression globals layer_type (object (fields_of layer.now)) (items.Property row) ≡ None }
+{
+    match row_at(layer_type, row) {
+        Some(row) => sets_row(layer, &row),
+        None => false,
+    }
+}
+
+fn sets_row(layer: &PlacedLayer<'_>, row: &Row) -> bool
+    ensures { result ≡ is_some (set_value (object (fields_of layer.now)) (row_seen row.now).place (row_seen row.now).name) }
+{
+    layer.get(row.place, row.name).is_some()
 }
 
 // The expression of the property of a row's number.

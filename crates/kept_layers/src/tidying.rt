@@ -23,8 +23,8 @@ const FEW: usize = 256;
 
 impl KeptLayers {
     /// Puts the expressions of all items into an empty evaluator, where it has become more than twice as large as when it had
-    /// no others. What is kept stays. Takes time linear in the style then, after as many new expressions as there were and 130
-    /// at least; and else constant time.
+    /// no others, and has more of them than the style has layers. What is kept stays. Takes time linear in the style then,
+    /// after as many new expressions as there were and 130 at least; and else constant time.
     pub(crate) fn tidy(&mut self, alloc: Global, style: &StyleLayers<'_>) -> Result<(), AllocError>
         requires numbered { AreNumbered self.old }
         requires prepared { IsPrepared style.now }
@@ -34,7 +34,7 @@ impl KeptLayers {
             (tiles_in style.now) (globals_in style.now) (trees_in style.now) self.old self.new) }
     {
         let count = self.cells.buckets.expressions().count();
-        if count <= FEW || count / 2 <= self.tidy_count {
+        if count <= FEW || count <= self.numbers.len() || count / 2 <= self.tidy_count {
             return Ok(());
         }
         self.put_anew(alloc, style)?;
