@@ -3,12 +3,13 @@ use Rattle.std.specs.Prelude.{ℕ, Option, Some, None}
 use Rattle.std.specs.Borrow.{Bor}
 use Rattle.layer_buckets.specs.Seen.{HasFeature, features_of}
 use Rattle.layer_buckets.specs.declared.buckets.Buckets.{Buckets}
-use Rattle.style_layout.specs.CodeView.{feature_seen, layer_seen, scene_seen}
-use Rattle.style_layout.specs.Forms.{Scene}
+use Rattle.style_layout.specs.CodeView.{document_layer, document_property, feature_seen, scene_seen}
+use Rattle.style_layout.specs.Forms.{Property, Scene}
 use Rattle.style_layout.specs.Layers.{StyleLayer}
 use Rattle.style_layout.specs.Shown.{LayerFeature}
 use Rattle.style_layout.specs.Tests.{Tests}
 use Rattle.style_layout.specs.declared.features.LayerFeature as handed
+use Rattle.style_layout.specs.declared.properties.Property as handed_property
 use Rattle.asked_cells.specs.Asked.{feature_number}
 use Rattle.asked_cells.specs.declared.view_cells.LayerAt.{LayerAt}
 
@@ -22,7 +23,11 @@ HasCellFeature b layer feature = HasFeature (features_of b layer) (feature_numbe
 
 module _ {V : Type 0} where
   abbrev pub layer_at : LayerAt V → StyleLayer
-  layer_at at = layer_seen at.layer.now
+  layer_at at = document_layer at.layer
+
+  -- a property that was prepared of it
+  abbrev pub property_at : LayerAt V → handed_property.Property → Property
+  property_at at = document_property at.layer
 
   abbrev pub scene_at : (V → Tests) → LayerAt V → Scene
   scene_at tests at = scene_seen tests at.scene.now

@@ -5,12 +5,13 @@ ghost use Rattle.fixed_num.specs.Number.{floor_of};
 ghost use Rattle.layer_buckets.specs.Seen.{HasFeature, IsSound, features_of, source_of};
 ghost use Rattle.layer_buckets.specs.declared.cell.CellItem.TheVariants.{Filter};
 ghost use Rattle.listing_text.specs.declared.show.Show.TheVariants.{Plain};
-ghost use Rattle.style_layout.specs.CodeView.{feature_seen, property_seen, tile_seen};
+ghost use Rattle.style_layout.specs.CodeView.{document_property, feature_seen, tile_seen};
 ghost use Rattle.style_layout.specs.Shown.{layer_features, numbered};
+ghost use Rattle.style_layout.specs.declared.document_layer.DocumentLayer.{DocumentLayer};
 ghost use Rattle.asked_cells.specs.Asked.{IsDecided, common_asked, common_cell, each_asked, feature_asked, feature_number, features_asked, filter_asked, is_listed, item_asked, passed_asked, shown_asked, value_asked, values_asked};
 ghost use Rattle.asked_cells.specs.Asking.{AsksAll, AsksIf, HasSlots, IsAnswer, IsCommonAnswer, LeavesSources, common_answer};
 ghost use Rattle.asked_cells.specs.Counted.{kept_in};
-ghost use Rattle.asked_cells.specs.SeenCells.{HasCellFeature, cell_feature, layer_at, scene_at};
+ghost use Rattle.asked_cells.specs.SeenCells.{HasCellFeature, cell_feature, layer_at, property_at, scene_at};
 
 use crate::cell_world::CellWorld;
 use crate::filters::{constant_answer, has_feature_cells, is_passed, sum_of};
@@ -123,7 +124,7 @@ impl<E: CountedEvaluator + Drop> ViewCells<E> {
             return None;
         }
         if source.is_none() {
-            return Some(constant_answer(&at.layer.filter));
+            return Some(constant_answer(&at.layer.prepared.filter));
         }
         let cell = Cell {
             layer: at.number,
@@ -153,13 +154,13 @@ impl<E: CountedEvaluator + Drop> ViewCells<E> {
             (numbered 0 (layer_features (map tile_seen tiles.now) (layer_at at.now))))
             self.old.buckets self.new.buckets result steps.old steps.new }
     {
-        let mut features = LayerFeatures::new(at.layer, tiles);
+        let mut features = LayerFeatures::new(at.layer.prepared, tiles);
         let mut number = 0;
         while let Some(found) = features.next() {
             let feature = LayerFeature {
                 number: found.0,
                 feature: found.1,
-                state: state_of(at.layer, at.scene, found.1.id),
+                state: state_of(at.layer.prepared, at.scene, found.1.id),
             };
             let more = self.ask_feature(at, &feature, answer, steps)?;
             number = sum_of(number, more)?;
@@ -259,7 +260,7 @@ impl<E: CountedEvaluator + Drop> ViewCells<E> {
             (cell_feature feature.entry) (layer_at at.now).properties)
             self.old.buckets self.new.buckets result steps.old steps.new }
     {
-        self.ask_listed(at, at.layer.properties.as_slice(), feature, steps)
+        self.ask_listed(at, at.layer.prepared.properties.as_slice(), feature, steps)
     }
 
     fn ask_listed<V: TextTests, L: Ledger>(
@@ -275,7 +276,7 @@ impl<E: CountedEvaluator + Drop> ViewCells<E> {
         ensures sound { IsSound self.new.buckets }
         ensures sources { LeavesSources at.now.number self.old.buckets self.new.buckets }
         ensures asks { AsksAll E.slots at.now.number (λ x. values_asked x (scene_at V.tests at.now)
-            (cell_feature feature.entry) (map property_seen properties.now))
+            (cell_feature feature.entry) (map (property_at at.now) properties.now))
             self.old.buckets self.new.buckets result steps.old steps.new }
     {
         let mut number = 0;
@@ -300,7 +301,7 @@ impl<E: CountedEvaluator + Drop> ViewCells<E> {
         ensures sound { IsSound self.new.buckets }
         ensures sources { LeavesSources at.now.number self.old.buckets self.new.buckets }
         ensures asks { AsksAll E.slots at.now.number (λ x. value_asked x (scene_at V.tests at.now)
-            (cell_feature feature.entry) (property_seen property.now))
+            (cell_feature feature.entry) (property_at at.now property.now))
             self.old.buckets self.new.buckets result steps.old steps.new }
     {
         if is_listed(feature, property) {
@@ -356,7 +357,8 @@ pub fn zoom_for(zoom: Zoom, paint: bool) -> Fixed
 
 /// Whether a value is listed with the feature, or with the layer.
 pub fn is_listed(feature: Option<&LayerFeature<'_>>, property: &Property) -> bool
-    ensures { result ≡ is_listed (cell_feature feature.entry) (property_seen property.now) }
+    ensures { (layer : DocumentLayer) →
+        result ≡ is_listed (cell_feature feature.entry) (document_property layer property.now) }
 {
     match feature {
         Some(_) => property.is_per_feature,

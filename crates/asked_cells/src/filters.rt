@@ -1,24 +1,27 @@
 //! What filters answer.
 
-ghost use Rattle.std.specs.Prelude.{◌≡◌, ◌+◌, IfOk};
+ghost use Rattle.std.specs.Prelude.{◌≡◌, ◌+◌, ℕ, List, IfOk};
+ghost use Rattle.decimal_json.specs.Tree.{Tree};
+ghost use Rattle.prop_values.specs.Data.{Data};
 ghost use Rattle.layer_buckets.specs.Outcomes.{seen_outcome};
-ghost use Rattle.style_layout.specs.CodeView.{filter_seen};
+ghost use Rattle.style_layout.specs.CodeView.{filled_filter};
 ghost use Rattle.asked_cells.specs.Asked.{constant_answer};
 ghost use Rattle.asked_cells.specs.Asking.{has_feature_cells, passes_by};
 
-use expr_syntax::Expr;
 use layer_buckets::Source;
 use prop_values::{EvalFault, Value};
 use std::alloc::AllocError;
 use style_layout::LayerFilter;
 
 /// What a filter that has no cell answers of every feature: a truth value, or true where there is no filter.
+#[tactic(auto, using(crate::proofs::FilterLaws::evaluated_answer))]
 pub fn constant_answer(filter: &LayerFilter) -> bool
-    ensures { result ≡ constant_answer (filter_seen filter.now) }
+    ensures { (globals : List (List ℕ × Data)) (layer : Tree) →
+        result ≡ constant_answer (filled_filter globals layer filter.now) }
 {
     match filter {
         LayerFilter::Every => true,
-        LayerFilter::Condition(Expr::Literal(Value::Bool(answer))) => *answer,
+        LayerFilter::Fixed(answer) => *answer,
         _ => false,
     }
 }

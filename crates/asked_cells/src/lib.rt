@@ -2,9 +2,9 @@
 //!
 //! ```text
 //! let mut cells = ViewCells::new(alloc, evaluator)?;
-//! cells.add_layer(alloc, 0, &layer, &tiles)?;              // its features over the tiles are counted
+//! cells.add_layer(alloc, 0, layer.prepared, &tiles)?;             // its features over the tiles are counted
 //! cells.buckets.set_source(alloc, 0, &source)?;            // what gives the values of one of its items
-//! let at = LayerAt { number: 0, layer: &layer, scene: &scene };
+//! let at = LayerAt { number: 0, layer, scene: &scene };
 //! cells.ask_layer(&at, &tiles, &mut steps)?                // 3: as many were evaluated
 //! cells.ask_layer(&at, &tiles, &mut steps)?                // 0: all are kept
 //! cells.buckets.drop_cells(&Stale::State(0, 1));
@@ -26,7 +26,8 @@
 //!
 //! An item of a layer, its filter or a property, has cells exactly where it has an expression. A literal, what is
 //! not evaluated, a filter that is a truth value and the filter of a layer whose type has no features have none, and
-//! get no source. A layer is read as `style_layout` prepared it. The listing itself is not written here.
+//! get no source. A layer is read as `style_layout` prepared it, beside its document. The listing itself is not written
+//! here.
 //!
 //! The text to believe is in `specs/`: `Expressions`, `Asked`, `Counted`, `Asking`.
 #![tactic(auto)]

@@ -15,7 +15,7 @@ use listing_text::Show;
 use outside_io::Steps;
 use std::alloc::{AllocError, Global};
 use std::sync::ledger::Ledger;
-use style_layout::{LayerFeatures, Scene, SourceTile, StyleLayer, TextTests};
+use style_layout::{DocumentLayer, LayerFeatures, Scene, SourceTile, StyleLayer, TextTests};
 
 /// What a view of a style keeps: the values of its cells, and the memory of evaluations.
 #[derive(Drop)]
@@ -28,7 +28,7 @@ pub struct ViewCells<E: CountedEvaluator + Drop> {
 #[derive(Clone, Copy)]
 pub struct LayerAt<'a, V> {
     pub number: u32,
-    pub layer: &'a StyleLayer,
+    pub layer: DocumentLayer<'a>,
     pub scene: &'a Scene<'a, V>,
 }
 

@@ -1,5 +1,5 @@
 -- A layer that can be listed without keeping a cell.
-use Rattle.std.proofs.Common.{◌≡◌, ◌∙◌, ℕ, ◌+◌, ◌≤◌, List, ◌++◌, length, Result, Ok, Err, ap, subst, arith}
+use Rattle.std.proofs.Common.{◌≡◌, ◌∙◌, ℕ, ◌+◌, ◌≤◌, List, [], ◌∷◌, ◌++◌, length, Bool, true, false, Result, Ok, Err, refl, sym, ap, subst, arith, if◌then◌else◌}
 use Rattle.std.specs.Prelude.{IfOk, OnOk}
 use Rattle.std.specs.Result.{IsErr}
 use Rattle.std.proofs.lemmas.List.{append_assoc}
@@ -8,17 +8,19 @@ use Rattle.layer_buckets.specs.Seen.{evaluator_of, source_of}
 use Rattle.layer_buckets.specs.declared.buckets.Buckets.{Buckets}
 use Rattle.layer_buckets.specs.declared.cell.CellItem.{CellItem}
 use Rattle.layer_buckets.specs.declared.cell.CellItem.TheVariants as items
-use Rattle.listing_text.specs.Listing.{below_layer, layer_line, layer_lines}
+use Rattle.listing_text.specs.Listing.{below_layer, feature_lines, layer_line, layer_lines}
 use Rattle.listing_text.specs.declared.show.Show.{Show}
 use Rattle.style_layout.specs.Forms.{Scene}
 use Rattle.style_layout.specs.Layers.{StyleLayer, show_of}
-use Rattle.style_layout.specs.Shown.{SourceTile}
+use Rattle.style_layout.specs.Shown.{LayerFeature, SourceTile, feature_out, is_shown, those_shown, with_state}
 use Rattle.style_layout.specs.StyleLayout.{features_shown, layer_out, values_shown}
 use Rattle.asked_cells.specs.Asked.{AskedCell, layer_asked, shown_asked}
 use Rattle.asked_cells.specs.Expressions.{HasExpressions, LayerExpressions}
 use Rattle.bare_listing.specs.BareListing.{EvaluatesCells, IsBareListable}
 use Rattle.bare_listing.specs.Costs.{nodes_by, one_of, shown_cost}
 use Rattle.bare_listing.specs.Given.{AreGivenBy, Filters}
+use Rattle.bare_listing.specs.SeenLayer.{lines_of}
+use Rattle.tile_reader.specs.declared.tile.Feature.{Feature}
 use Rattle.bare_listing.proofs.CountLaws.{shown_nodes, shown_number}
 use Rattle.bare_listing.proofs.GivenLaws.{all_given, filters_given}
 
@@ -70,3 +72,27 @@ lines_by scene tiles layer (Ok x) old mid new show is line below =
     below ∙ (ap (λ m. m ++ under show) line ∙ (append_assoc old (layer_line layer.id layer.type show) (under show)
     ∙ ap (λ (s : Show). old ++ (layer_line layer.id layer.type s ++ under s)) is))
 lines_by scene tiles layer (Err x) old mid new show is line below = tt
+
+-- ---- the lines of features as they come
+
+module _ (scene : Scene) (layer : StyleLayer) where
+  abbrev piece : LayerFeature → List ℕ
+  piece f = if is_shown scene layer f then feature_lines (feature_out scene layer f) else []
+
+  lines_if : (b : Bool) (f : LayerFeature) (fs : List LayerFeature) → lines_of scene layer (if b then f ∷ fs else fs)
+      ≡ (if b then feature_lines (feature_out scene layer f) else []) ++ lines_of scene layer fs
+  lines_if true f fs = refl
+  lines_if false f fs = refl
+
+  -- a feature more
+  pub lines_more : (nf : ℕ × Feature) (left rest : List (ℕ × Feature)) (f : LayerFeature) (out new whole : List ℕ)
+      → left ≡ nf ∷ rest → f ≡ with_state scene layer nf → new ≡ out ++ piece f
+      → out ++ lines_of scene layer (those_shown scene layer left) ≡ whole
+      → new ++ lines_of scene layer (those_shown scene layer rest) ≡ whole
+  lines_more nf left rest f out new whole is same written lines =
+      let g = with_state scene layer nf in
+      let later = those_shown scene layer rest in
+      ap (λ o. o ++ lines_of scene layer later) (written ∙ ap (λ x. out ++ piece x) same)
+      ∙ (append_assoc out (piece g) (lines_of scene layer later)
+      ∙ (ap (λ o. out ++ o) (sym (lines_if (is_shown scene layer g) g later))
+      ∙ (ap (λ nfs. out ++ lines_of scene layer (those_shown scene layer nfs)) (sym is) ∙ lines)))

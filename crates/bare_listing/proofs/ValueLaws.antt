@@ -4,10 +4,20 @@ use Rattle.std.specs.Prelude.{OnOk, Result, Ok, Err}
 use Rattle.std.specs.List.{slice_get}
 use Rattle.std.proofs.lemmas.List.{append_assoc}
 use Rattle.listing_text.specs.Listing.{value_line, value_lines}
-use Rattle.style_layout.specs.Forms.{Property, Scene}
+use Rattle.style_layout.specs.Forms.{Property, PropertyValue, Scene, expression, legacy_function, literal, outside, token_text}
+use Rattle.style_layout.specs.Outlines.{evaluated_value}
 use Rattle.style_layout.specs.Shown.{LayerFeature}
 use Rattle.asked_cells.specs.Asked.{is_listed}
+use Rattle.asked_cells.specs.Expressions.{is_fixed}
 use Rattle.bare_listing.specs.Given.{outcome_in, shown_value, shown_values}
+
+-- a value that is evaluated has a cell
+pub evaluated_is_not_fixed : (value : PropertyValue) → is_fixed (evaluated_value value) ≡ false
+evaluated_is_not_fixed (literal d) = refl
+evaluated_is_not_fixed (expression t) = refl
+evaluated_is_not_fixed (legacy_function row f) = refl
+evaluated_is_not_fixed (token_text s) = refl
+evaluated_is_not_fixed outside = refl
 
 module _ (scene : Scene) (f : LayerFeature) (margin : List ℕ) where
   abbrev lines : List Property → List ℕ

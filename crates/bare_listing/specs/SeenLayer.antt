@@ -10,12 +10,13 @@ use Rattle.layer_buckets.specs.declared.cell.CellItem.TheVariants as items
 use Rattle.layer_buckets.specs.declared.cell.Source.{Source}
 use Rattle.listing_text.specs.Listing.{feature_lines}
 use Rattle.stable_order.specs.Keys.{key_before}
-use Rattle.style_layout.specs.CodeView.{feature_seen, property_seen, tile_seen}
-use Rattle.style_layout.specs.Forms.{Scene}
+use Rattle.style_layout.specs.CodeView.{feature_seen, tile_seen}
+use Rattle.style_layout.specs.Forms.{Property, Scene}
 use Rattle.style_layout.specs.Layers.{StyleLayer, sort_property}
 use Rattle.style_layout.specs.Shown.{LayerFeature, SourceTile, feature_out}
 use Rattle.style_layout.specs.SortKeys.{key_of}
 use Rattle.style_layout.specs.Tests.{Tests}
+use Rattle.style_layout.specs.declared.properties.Property as handed
 use Rattle.asked_cells.specs.SeenCells as cells
 use Rattle.bare_listing.specs.Given.{AreGivenBy, Filters, ItemSources, given_from}
 use Rattle.bare_listing.specs.declared.bare_layer.BareLayer.{BareLayer}
@@ -25,6 +26,10 @@ use Rattle.bare_listing.specs.declared.feature_order.SortSource.{SortSource}
 module _ {E V : Type 0} where
   abbrev pub layer_in : BareLayer E V → StyleLayer
   layer_in l = cells.layer_at l.at.now
+
+  -- a property that was prepared of it
+  abbrev pub property_in : BareLayer E V → handed.Property → Property
+  property_in l = cells.property_at l.at.now
 
   abbrev pub scene_in : (V → Tests) → BareLayer E V → Scene
   scene_in tests l = cells.scene_at tests l.at.now
@@ -49,11 +54,11 @@ lines_of scene layer fs = flat_map feature_lines (map (feature_out scene layer) 
 -- ---- features in the order of a property
 
 -- a property that orders features of a layer, its place among the properties, and its source
-pub record Sorts (layer : StyleLayer) (sources : ItemSources) (sort : SortSource) : Type 0 where
-  pub property : sort_property layer.type layer.properties ≡ Some (property_seen sort.property.now)
-  pub within : sort.place < length layer.properties
-  pub place : slice_get layer.properties sort.place ≡ Some (property_seen sort.property.now)
-  pub source : sources (items.Property (property_seen sort.property.now).row.number) ≡ Some sort.source
+pub record Sorts {E V : Type 0} (l : BareLayer E V) (sort : SortSource) : Type 0 where
+  pub property : sort_property (layer_in l).type (layer_in l).properties ≡ Some (property_in l sort.property.now)
+  pub within : sort.place < length (layer_in l).properties
+  pub place : slice_get (layer_in l).properties sort.place ≡ Some (property_in l sort.property.now)
+  pub source : sources_in l (items.Property (property_in l sort.property.now).row.number) ≡ Some sort.source
   pub own : sort.property.now.is_per_feature ≡ true
 
 abbrev pub keyed_seen : PassedFeature → Option Evaluated × LayerFeature

@@ -11,11 +11,12 @@ ghost use Rattle.listing_text.specs.Listing.{feature_lines, value_line, value_li
 ghost use Rattle.style_layout.specs.CodeView.{feature_seen, property_seen};
 ghost use Rattle.style_layout.specs.Forms.{outcome_of};
 ghost use Rattle.style_layout.specs.Shown.{feature_out, state_of, with_state};
+ghost use Rattle.asked_cells.specs.Asked.{is_listed};
 ghost use Rattle.asked_cells.specs.Expressions.{is_fixed};
 ghost use Rattle.asked_cells.specs.SeenCells.{cell_feature};
 ghost use Rattle.bare_listing.specs.Costs.{nodes_by, one_of, values_cost};
 ghost use Rattle.bare_listing.specs.Given.{AreGivenBy, GivesValue, given_from, margin_of, outcome_in, shown_values};
-ghost use Rattle.bare_listing.specs.SeenLayer.{layer_in, scene_in, slots_in, sources_in};
+ghost use Rattle.bare_listing.specs.SeenLayer.{layer_in, property_in, scene_in, slots_in, sources_in};
 
 use asked_cells::{CellWorld, LayerAt, is_listed, sum_of, zoom_for};
 use cell_listing::write_fault;
@@ -93,9 +94,10 @@ impl<E: CountedEvaluator + Drop, V: TextTests> BareLayer<'_, E, V> {
             feature.feature.id,
             out,
         )?;
+        let layer = self.at.layer;
         self.write_values(
             workspace,
-            self.at.layer.properties.as_slice(),
+            layer.prepared.properties.as_slice(),
             Some(feature),
             steps,
             out,
@@ -113,23 +115,31 @@ impl<E: CountedEvaluator + Drop, V: TextTests> BareLayer<'_, E, V> {
         out: &mut Vec<u8>,
     ) -> Result<u64, AllocError>
         requires given { AreGivenBy (scene_in V.tests self.now) (slots_in E.slots self.now) (sources_in self.now)
-            (map property_seen properties.now) }
+            (map (property_in self.now) properties.now) }
         ensures number { IfOk result (λ n. n ≡ values_cost one_of (sources_in self.now) (cell_feature feature.entry)
-            (map property_seen properties.now)) }
+            (map (property_in self.now) properties.now)) }
         ensures least { IfOk result (λ n. steps.old + n ≤ steps.new) }
         ensures most { steps.new ≤ steps.old + values_cost (nodes_by (slots_in E.slots self.now)) (sources_in self.now)
-            (cell_feature feature.entry) (map property_seen properties.now) }
+            (cell_feature feature.entry) (map (property_in self.now) properties.now) }
         ensures lines { OnOk result (out.new.items ≡ out.old.items ++ value_lines (margin_of (cell_feature feature.entry))
-            (shown_values (scene_in V.tests self.now) (cell_feature feature.entry) (map property_seen properties.now))) }
+            (shown_values (scene_in V.tests self.now) (cell_feature feature.entry)
+            (map (property_in self.now) properties.now))) }
     {
         let mut number = 0;
         for property in properties {
-            if is_listed(feature, property) {
+            if self.is_listed(feature, property) {
                 let more = self.write_property(workspace, property, feature, steps, out)?;
                 number = sum_of(number, more)?;
             }
         }
         Ok(number)
+    }
+
+    // Whether a value is listed with the feature, or with the layer.
+    fn is_listed(&self, feature: Option<&LayerFeature<'_>>, property: &Property) -> bool
+        ensures { result ≡ is_listed (cell_feature feature.entry) (property_in self.now property.now) }
+    {
+        is_listed(feature, property)
     }
 
     // Appends the line of a property, and gives how many cells were evaluated for it.
@@ -142,19 +152,19 @@ impl<E: CountedEvaluator + Drop, V: TextTests> BareLayer<'_, E, V> {
         out: &mut Vec<u8>,
     ) -> Result<u64, AllocError>
         requires given { GivesValue (scene_in V.tests self.now) (slots_in E.slots self.now)
-            (sources_in self.now (items.Property property.now.row.number)) (property_seen property.now) }
+            (sources_in self.now (items.Property property.now.row.number)) (property_in self.now property.now) }
         ensures number { IfOk result (λ n. n ≡ one_of (sources_in self.now (items.Property property.now.row.number))) }
         ensures least { IfOk result (λ n. steps.old + n ≤ steps.new) }
         ensures most { steps.new ≤ steps.old + nodes_by (slots_in E.slots self.now)
             (sources_in self.now (items.Property property.now.row.number)) }
         ensures line { OnOk result (out.new.items ≡ out.old.items
             ++ value_line (margin_of (cell_feature feature.entry)) property.now.row.name.now
-            (outcome_in (scene_in V.tests self.now) (cell_feature feature.entry) (property_seen property.now))) }
+            (outcome_in (scene_in V.tests self.now) (cell_feature feature.entry) (property_in self.now property.now))) }
     {
         let margin = margin_of(feature);
         match self.source(CellItem::Property(property.row.number)) {
             None => {
-                write_fixed(margin, property, out)?;
+                self.write_fixed(margin, property, out)?;
                 Ok(0)
             }
             Some(source) => {
@@ -162,6 +172,27 @@ impl<E: CountedEvaluator + Drop, V: TextTests> BareLayer<'_, E, V> {
                 write_evaluated(margin, property, &value, out)?;
                 Ok(1)
             }
+        }
+    }
+
+    // Appends the line of a property that has no cell.
+    #[tactic(auto, using(prop_values::proofs::ViewLaws::value_again, crate::proofs::ValueLaws::evaluated_is_not_fixed))]
+    fn write_fixed(
+        &self,
+        margin: &'static [u8],
+        property: &Property,
+        out: &mut Vec<u8>,
+    ) -> Result<(), AllocError>
+        requires { is_fixed (property_in self.now property.now).value ≡ true }
+        ensures { (world : World) → OnOk result (out.new.items ≡ out.old.items
+            ++ value_line margin.now property.now.row.name.now (outcome_of (property_in self.now property.now) world)) }
+    {
+        match &property.value {
+            PropertyValue::Literal(value) => write_given(margin, property.row.name, value, out),
+            PropertyValue::Outside => {
+                write_value(margin, property.row.name, &Outcome::Outside, out)
+            }
+            PropertyValue::Evaluated => unreachable!(),
         }
     }
 
@@ -180,9 +211,10 @@ impl<E: CountedEvaluator + Drop, V: TextTests> BareLayer<'_, E, V> {
     fn state(&self, id: Option<u64>) -> Option<&Entries>
         ensures { world.state_of result ≡ state_of (scene_in V.tests self.now) (layer_in self.now) id }
     {
+        let layer = self.at.layer;
         match id {
             None => None,
-            Some(_) => state_of(self.at.layer, self.at.scene, id),
+            Some(_) => state_of(layer.prepared, self.at.scene, id),
         }
     }
 }
@@ -194,24 +226,6 @@ fn margin_of(feature: Option<&LayerFeature<'_>>) -> &'static [u8]
     match feature {
         Some(_) => b"    ",
         None => b"  ",
-    }
-}
-
-// Appends the line of a property that has no cell.
-#[tactic(auto, using(prop_values::proofs::ViewLaws::value_again))]
-fn write_fixed(
-    margin: &'static [u8],
-    property: &Property,
-    out: &mut Vec<u8>,
-) -> Result<(), AllocError>
-    requires { is_fixed (property_seen property.now).value ≡ true }
-    ensures { (world : World) → OnOk result (out.new.items ≡ out.old.items
-        ++ value_line margin.now property.now.row.name.now (outcome_of (property_seen property.now) world)) }
-{
-    match &property.value {
-        PropertyValue::Literal(value) => write_given(margin, property.row.name, value, out),
-        PropertyValue::Outside => write_value(margin, property.row.name, &Outcome::Outside, out),
-        _ => unreachable!(),
     }
 }
 

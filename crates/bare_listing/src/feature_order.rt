@@ -6,13 +6,15 @@ ghost use Rattle.layer_buckets.specs.Outcomes.{outcome_owned};
 ghost use Rattle.layer_buckets.specs.declared.cell.CellItem.TheVariants as items;
 ghost use Rattle.listing_text.specs.Listing.{feature_lines};
 ghost use Rattle.stable_order.specs.InOrder.{in_order};
-ghost use Rattle.style_layout.specs.CodeView.{feature_seen, property_seen};
+ghost use Rattle.style_layout.specs.CodeView.{document_property, feature_seen};
 ghost use Rattle.style_layout.specs.Layers.{has_features};
 ghost use Rattle.style_layout.specs.Shown.{feature_out, goes_before, is_shown, layer_features, numbered, shown_features};
+ghost use Rattle.style_layout.specs.declared.document_layer.DocumentLayer.{DocumentLayer};
 ghost use Rattle.bare_listing.specs.Costs.{features_cost, key_cost, keys_cost, nodes_by, one_of, rest_cost, rests_cost};
 ghost use Rattle.bare_listing.specs.Given.{IsCommonAnswer, KeepsOrder, given_from};
 ghost use Rattle.bare_listing.specs.SeenLayer.{AreKeyed, IsGivenIn, IsKeyed, Sorts, feature_of, key_by, keyed_before, keyed_seen};
-ghost use Rattle.bare_listing.specs.SeenLayer.{layer_in, lines_of, scene_in, slots_in, sources_in, tiles_in, with_given};
+ghost use Rattle.bare_listing.specs.SeenLayer.{layer_in, lines_of, property_in, scene_in, slots_in, sources_in};
+ghost use Rattle.bare_listing.specs.SeenLayer.{tiles_in, with_given};
 
 use crate::bare_layer::{BareLayer, write_evaluated};
 use asked_cells::sum_of;
@@ -47,7 +49,7 @@ impl<E: CountedEvaluator + Drop, V: TextTests> BareLayer<'_, E, V> {
     pub(crate) fn sort_source(&self) -> Option<SortSource<'_>>
         requires { IsGivenIn E.slots V.tests self.now }
         ensures { MatchOption result (KeepsOrder (scene_in V.tests self.now) (layer_in self.now))
-            (λ sort. Sorts (layer_in self.now) (sources_in self.now) sort) }
+            (λ sort. Sorts self.now sort) }
     {
         let sort = self.at.layer.sort_property()?;
         if !sort.property.is_per_feature {
@@ -75,14 +77,14 @@ impl<E: CountedEvaluator + Drop, V: TextTests> BareLayer<'_, E, V> {
         requires given { IsGivenIn E.slots V.tests self.now }
         requires common { IsCommonAnswer (scene_in V.tests self.now) (sources_in self.now items.Filter)
             (layer_in self.now) common }
-        requires sorts { Sorts (layer_in self.now) (sources_in self.now) sort.now }
+        requires sorts { Sorts self.now sort.now }
         ensures number { IfOk result (λ n. n ≡ features_cost one_of (sources_in self.now) (scene_in V.tests self.now)
             (layer_in self.now) (tiles_in self.now)) }
         ensures least { IfOk result (λ n. steps.old + n ≤ steps.new) }
         ensures most { steps.new ≤ steps.old + features_cost (nodes_by (slots_in E.slots self.now)) (sources_in self.now)
             (scene_in V.tests self.now) (layer_in self.now) (tiles_in self.now) }
         ensures lines { OnOk result (out.new.items ≡ out.old.items ++ lines_of (scene_in V.tests self.now) (layer_in self.now)
-            (in_order (goes_before (scene_in V.tests self.now) (property_seen sort.now.property.now))
+            (in_order (goes_before (scene_in V.tests self.now) (property_in self.now sort.now.property.now))
             (shown_features (scene_in V.tests self.now) (layer_in self.now) (tiles_in self.now)))) }
     {
         let mut first = 0;
@@ -117,7 +119,8 @@ impl<E: CountedEvaluator + Drop, V: TextTests> BareLayer<'_, E, V> {
             (shown_features (scene_in V.tests self.now) (layer_in self.now) (tiles_in self.now))) }
     {
         let mut keyed = Vec::new(self.alloc);
-        let mut features = LayerFeatures::new(self.at.layer, self.tiles);
+        let layer = self.at.layer;
+        let mut features = LayerFeatures::new(layer.prepared, self.tiles);
         while let Some(found) = features.next() {
             let feature = self.with_state(found.0, found.1);
             let (key, more) = self.key_value(workspace, common, sort, &feature, steps)?;
@@ -172,7 +175,7 @@ impl<E: CountedEvaluator + Drop, V: TextTests> BareLayer<'_, E, V> {
         out: &mut Vec<u8>,
     ) -> Result<u64, AllocError>
         requires given { IsGivenIn E.slots V.tests self.now }
-        requires sorts { Sorts (layer_in self.now) (sources_in self.now) sort.now }
+        requires sorts { Sorts self.now sort.now }
         requires keyed { AreKeyed (scene_in V.tests self.now) (slots_in E.slots self.now) sort.now.source keyed.now }
         ensures number { IfOk result (λ n. n ≡ rests_cost one_of (sources_in self.now) sort.now.place
             (layer_in self.now).properties (map feature_of keyed.now)) }
@@ -200,7 +203,7 @@ impl<E: CountedEvaluator + Drop, V: TextTests> BareLayer<'_, E, V> {
         out: &mut Vec<u8>,
     ) -> Result<u64, AllocError>
         requires given { IsGivenIn E.slots V.tests self.now }
-        requires sorts { Sorts (layer_in self.now) (sources_in self.now) sort.now }
+        requires sorts { Sorts self.now sort.now }
         requires keyed { IsKeyed (scene_in V.tests self.now) (slots_in E.slots self.now) sort.now.source one.now }
         ensures number { IfOk result (λ n. n ≡ rest_cost one_of (sources_in self.now) sort.now.place
             (layer_in self.now).properties (feature_of one.now)) }
@@ -211,7 +214,8 @@ impl<E: CountedEvaluator + Drop, V: TextTests> BareLayer<'_, E, V> {
             ++ feature_lines (feature_out (scene_in V.tests self.now) (layer_in self.now) (feature_of one.now))) }
     {
         let feature = &one.feature;
-        let properties = self.at.layer.properties.as_slice();
+        let layer = self.at.layer;
+        let properties = layer.prepared.properties.as_slice();
         write_feature_line(
             feature.number,
             feature.feature.shape,
@@ -230,7 +234,8 @@ impl<E: CountedEvaluator + Drop, V: TextTests> BareLayer<'_, E, V> {
 // The properties before a place.
 fn before(properties: &[Property], place: usize) -> &[Property]
     requires { place < length properties.now }
-    ensures { map property_seen result.now ≡ take place (map property_seen properties.now) }
+    ensures { (layer : DocumentLayer) → map (document_property layer) result.now
+        ≡ take place (map (document_property layer) properties.now) }
 {
     &properties[..place]
 }
@@ -238,7 +243,8 @@ fn before(properties: &[Property], place: usize) -> &[Property]
 // The properties after a place.
 fn after(properties: &[Property], place: usize) -> &[Property]
     requires { place < length properties.now }
-    ensures { map property_seen result.now ≡ drop (place + 1) (map property_seen properties.now) }
+    ensures { (layer : DocumentLayer) → map (document_property layer) result.now
+        ≡ drop (place + 1) (map (document_property layer) properties.now) }
 {
     &properties[place + 1..]
 }

@@ -41,8 +41,9 @@ impl<E: CountedEvaluator + Drop, V: TextTests> BareLayer<'_, E, V> {
         if has_feature_cells(source) {
             return Ok((None, 0));
         }
+        let layer = self.at.layer;
         match source {
-            None => Ok((Some(constant_answer(&self.at.layer.filter)), 0)),
+            None => Ok((Some(constant_answer(&layer.prepared.filter)), 0)),
             Some(source) => {
                 let value = self.evaluate(workspace, &source, None, steps)?;
                 Ok((Some(passes(&value)), 1))

@@ -49,7 +49,8 @@ pub fn write_bare_layer<E: CountedEvaluator + Drop, V: TextTests, L: Ledger>(
         tiles,
     };
     let show = at.layer.show(at.scene.zoom.exact());
-    write_layer_line(at.layer.id.as_str(), at.layer.layer_type, show, out)?;
+    let prepared = at.layer.prepared;
+    write_layer_line(prepared.id.as_str(), prepared.layer_type, show, out)?;
     layer.write_below(&mut cells.workspace, show, steps, out)
 }
 
@@ -77,7 +78,8 @@ impl<E: CountedEvaluator + Drop, V: TextTests> BareLayer<'_, E, V> {
             Show::Hidden => Ok(0),
             Show::Unread => Ok(0),
             Show::OutsideFilter => {
-                let properties = self.at.layer.properties.as_slice();
+                let layer = self.at.layer;
+                let properties = layer.prepared.properties.as_slice();
                 self.write_values(workspace, properties, None, steps, out)
             }
             Show::Plain => self.write_plain(workspace, steps, out),
@@ -102,7 +104,8 @@ impl<E: CountedEvaluator + Drop, V: TextTests> BareLayer<'_, E, V> {
             (values_shown (scene_in V.tests self.now) (tiles_in self.now) Plain (layer_in self.now))
             (features_shown (scene_in V.tests self.now) (tiles_in self.now) Plain (layer_in self.now))) }
     {
-        let properties = self.at.layer.properties.as_slice();
+        let layer = self.at.layer;
+        let properties = layer.prepared.properties.as_slice();
         let own = self.write_values(workspace, properties, None, steps, out)?;
         let (common, first) = self.common_answer(workspace, steps)?;
         let others = self.write_features(workspace, common, steps, out)?;
@@ -155,7 +158,8 @@ impl<E: CountedEvaluator + Drop, V: TextTests> BareLayer<'_, E, V> {
             (layer_in self.now) (shown_features (scene_in V.tests self.now) (layer_in self.now) (tiles_in self.now))) }
     {
         let mut number = 0;
-        let mut features = LayerFeatures::new(self.at.layer, self.tiles);
+        let layer = self.at.layer;
+        let mut features = LayerFeatures::new(layer.prepared, self.tiles);
         while let Some(found) = features.next() {
             let feature = self.with_state(found.0, found.1);
             let more = self.write_if_passed(workspace, common, &feature, steps, out)?;

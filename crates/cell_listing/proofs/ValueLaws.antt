@@ -1,6 +1,6 @@
 -- What is kept of the cells of values is what is listed for them.
 use Rattle.std.proofs.Common.{◌≡◌, ◌∙◌, ℕ, ℤ, List, [], ◌∷◌, Bool, true, false, not, ◌||◌, Option, Some, None, map, refl, sym, ap, subst, if◌then◌else◌}
-use Rattle.std.specs.Prelude.{filter}
+use Rattle.std.specs.Prelude.{filter, is_some}
 use Rattle.std.specs.List.{AllByRecursion}
 use Rattle.std.proofs.lemmas.Bool.{true≢false}
 use Rattle.fixed_num.specs.Number.{floor_of}
@@ -20,13 +20,14 @@ use Rattle.listing_text.specs.Layout.{ListedValue}
 use Rattle.style_layout.specs.Forms as forms
 use Rattle.style_layout.specs.Forms.{Property, PropertyValue, Scene, literal, expression, legacy_function, token_text, outside, outcome_of, reads_feature}
 use Rattle.style_layout.specs.Layers.{StyleLayer}
+use Rattle.style_layout.specs.Outlines.{evaluated_value}
 use Rattle.style_layout.specs.Shown.{LayerFeature, SourceTile, sort_key, zoom_at}
 use Rattle.style_layout.specs.SortKeys.{key_of}
 use Rattle.asked_cells.specs.Asked as asked
 use Rattle.asked_cells.specs.Asked.{LayerCell, asked_by, cell_world, feature_at, feature_number, given_by, meaning, meaning_by, value_asked, values_asked}
 use Rattle.asked_cells.specs.Counted.{KeptValues, is_asked}
 use Rattle.asked_cells.specs.Expressions.{AreGiven, CellExpression, IsGivenBy, LayerExpressions, is_fixed, is_paint}
-use Rattle.cell_listing.specs.KeptListing.{AreKnown, is_known, is_listed, kept_for, kept_key, kept_outcome, kept_value, kept_values, listed_by}
+use Rattle.cell_listing.specs.KeptListing.{AreKnown, is_known, is_listed, kept_for, kept_key, kept_outcome, kept_value, kept_values, listed_by, outcome_by}
 use Rattle.cell_listing.specs.Listable.{ReadsAsListed}
 use Rattle.cell_listing.proofs.CellLaws.{asked_first, asked_then, own_asked}
 
@@ -46,6 +47,22 @@ abbrev pub AllAgree : Scene → KeptValues → Option ℕ → Option LayerFeatur
 AllAgree scene kept n feature ps = AllByRecursion (AgreesIfListed scene kept n feature) ps
 
 -- ---- a value
+
+-- a value that is evaluated is listed by its cell
+pub listed_evaluated : (value : PropertyValue) (fallback : Option Data) (kept : Option Evaluated)
+    → listed_by (evaluated_value value) fallback kept ≡ outcome_by fallback kept
+listed_evaluated (literal d) fallback kept = refl
+listed_evaluated (expression t) fallback kept = refl
+listed_evaluated (legacy_function r f) fallback kept = refl
+listed_evaluated (token_text s) fallback kept = refl
+listed_evaluated outside fallback kept = refl
+
+pub known_evaluated : (value : PropertyValue) (kept : Option Evaluated) → is_known (evaluated_value value) kept ≡ is_some kept
+known_evaluated (literal d) kept = refl
+known_evaluated (expression t) kept = refl
+known_evaluated (legacy_function r f) kept = refl
+known_evaluated (token_text s) kept = refl
+known_evaluated outside kept = refl
 
 fixed_value : (value : PropertyValue) (row : RowData) (fallback : Option Data) (world : World) (o : Option Evaluated) → is_fixed value ≡ true
     → (is_known value o ≡ true) × (listed_by value fallback o ≡ forms.outcome_by value row fallback world)

@@ -5,8 +5,9 @@ use Rattle.tile_reader.specs.declared.tile.Feature.{Feature}
 use Rattle.layer_buckets.specs.Seen.{source_of}
 use Rattle.layer_buckets.specs.declared.cell.CellItem.TheVariants as items
 use Rattle.listing_text.specs.Layout.{FeatureOut, ListedValue}
-use Rattle.style_layout.specs.CodeView.{layer_seen}
+use Rattle.style_layout.specs.CodeView.{document_layer, document_property}
 use Rattle.style_layout.specs.Forms.{Property}
+use Rattle.style_layout.specs.declared.properties.Property as handed
 use Rattle.style_layout.specs.Layers.{StyleLayer, sort_property}
 use Rattle.style_layout.specs.Shown.{SourceTile, layer_features, numbered}
 use Rattle.asked_cells.specs.Asked.{common_cell}
@@ -21,7 +22,11 @@ module _ {E : Type 0} where
   values_in k = kept_in k.buckets.now k.number
 
   abbrev pub layer_in : KeptLayer E → StyleLayer
-  layer_in k = layer_seen k.layer.now
+  layer_in k = document_layer k.layer
+
+  -- a property that was prepared of it
+  abbrev pub property_in : KeptLayer E → handed.Property → Property
+  property_in k = document_property k.layer
 
   -- what the filter answers of all features, where it has no cell for each
   abbrev pub answer_in : KeptLayer E → Option Bool

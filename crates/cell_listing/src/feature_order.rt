@@ -6,11 +6,13 @@ ghost use Rattle.prop_values.specs.View.{data_of};
 ghost use Rattle.stable_order.specs.InOrder.{in_order};
 ghost use Rattle.layer_buckets.specs.Outcomes.{seen_outcome};
 ghost use Rattle.layer_buckets.specs.Seen.{IsSound};
-ghost use Rattle.style_layout.specs.CodeView.{property_seen, tile_seen};
+ghost use Rattle.style_layout.specs.CodeView.{document_property, tile_seen};
 ghost use Rattle.style_layout.specs.Shown.{layer_features};
+ghost use Rattle.style_layout.specs.declared.document_layer.DocumentLayer.{DocumentLayer};
 ghost use Rattle.style_layout.specs.SortKeys.{key_of, number_of};
-ghost use Rattle.cell_listing.specs.KeptListing.{kept_key, key_feature, key_goes_before, outcome_by};
-ghost use Rattle.cell_listing.specs.SeenLayers.{KnowsFeatures, keyed_before, keyed_seen, layer_in, lines_in, numbered_seen, passed_in, values_in, with_key};
+ghost use Rattle.cell_listing.specs.KeptListing.{kept_for, kept_key, key_feature, key_goes_before, outcome_by};
+ghost use Rattle.cell_listing.specs.SeenLayers.{KnowsFeatures, keyed_before, keyed_seen, layer_in, lines_in};
+ghost use Rattle.cell_listing.specs.SeenLayers.{numbered_seen, passed_in, property_in, values_in, with_key};
 
 use crate::kept_layer::KeptLayer;
 use expr_nodes::CountedEvaluator;
@@ -42,7 +44,7 @@ impl<E: CountedEvaluator + Drop> KeptLayer<'_, E> {
         requires few { length (layer_features (map tile_seen tiles.now) (layer_in self.now)) < 2 ^ 32 }
         requires known { KnowsFeatures self.now (passed_in self.now (map tile_seen tiles.now)) }
         ensures { OnOk result (out.new.items ≡ out.old.items ++ lines_in self.now (in_order
-            (key_goes_before (values_in self.now) (property_seen sort.now))
+            (key_goes_before (values_in self.now) (property_in self.now sort.now))
             (passed_in self.now (map tile_seen tiles.now)))) }
     {
         let mut keyed = self.keyed_features(alloc, sort, tiles)?;
@@ -59,12 +61,12 @@ impl<E: CountedEvaluator + Drop> KeptLayer<'_, E> {
         requires sound { IsSound self.now.buckets.now }
         requires few { length (layer_features (map tile_seen tiles.now) (layer_in self.now)) < 2 ^ 32 }
         ensures { IfOk result (λ keyed. map keyed_seen keyed.items
-            ≡ map (with_key (values_in self.now) (property_seen sort.now))
+            ≡ map (with_key (values_in self.now) (property_in self.now sort.now))
             (passed_in self.now (map tile_seen tiles.now))) }
     {
         let mut keyed = Vec::new(alloc);
         let answer = self.common_answer();
-        let mut features = LayerFeatures::new(self.layer, tiles);
+        let mut features = LayerFeatures::new(self.layer.prepared, tiles);
         while let Some((number, feature)) = self.next_passed(answer, &mut features) {
             let key = self.sort_key(sort, number);
             keyed.push(KeyedFeature {
@@ -76,18 +78,27 @@ impl<E: CountedEvaluator + Drop> KeptLayer<'_, E> {
         Ok(keyed)
     }
 
+    #[tactic(auto, using(crate::proofs::ValueLaws::listed_evaluated))]
     fn sort_key(&self, sort: &Property, number: u32) -> Option<i128>
         requires { IsSound self.now.buckets.now }
-        ensures { result ≡ kept_key (values_in self.now) (property_seen sort.now) number }
+        ensures { result ≡ kept_key (values_in self.now) (property_in self.now sort.now) number }
     {
         match &sort.value {
             PropertyValue::Literal(value) => number_of(value),
             PropertyValue::Outside => None,
-            _ => {
-                let item = CellItem::Property(sort.row.number);
-                number_in(self.value(key_feature(sort, number), item))
-            }
+            PropertyValue::Evaluated => self.cell_key(sort, number),
         }
+    }
+
+    // The key that is kept of the cell of a feature, or of that of the layer.
+    fn cell_key(&self, sort: &Property, number: u32) -> Option<i128>
+        requires { IsSound self.now.buckets.now }
+        ensures { result ≡ key_of (outcome_by (property_in self.now sort.now).fallback
+            (kept_for (values_in self.now) (key_feature (property_in self.now sort.now) number)
+            (property_in self.now sort.now))) }
+    {
+        let item = CellItem::Property(sort.row.number);
+        number_in(self.value(key_feature(sort, number), item))
     }
 
     fn write_keyed(&self, keyed: &[KeyedFeature<'_>], out: &mut Vec<u8>) -> Result<(), AllocError>
@@ -104,7 +115,7 @@ impl<E: CountedEvaluator + Drop> KeptLayer<'_, E> {
 
 // The feature whose cell gives the key: none where the cell of the layer does.
 fn key_feature(sort: &Property, number: u32) -> Option<u32>
-    ensures { result ≡ key_feature (property_seen sort.now) number }
+    ensures { (layer : DocumentLayer) → result ≡ key_feature (document_property layer sort.now) number }
 {
     if sort.is_per_feature {
         Some(number)

@@ -5,10 +5,11 @@ ghost use Rattle.layer_buckets.specs.Outcomes.{seen_outcome};
 ghost use Rattle.layer_buckets.specs.Seen.{IsSound};
 ghost use Rattle.eval_face.specs.Resolved.{resolved};
 ghost use Rattle.listing_text.specs.Listing.{feature_lines, value_line, value_lines};
-ghost use Rattle.style_layout.specs.CodeView.{property_seen};
+ghost use Rattle.style_layout.specs.CodeView.{document_property, property_seen};
+ghost use Rattle.style_layout.specs.declared.document_layer.DocumentLayer.{DocumentLayer};
 ghost use Rattle.style_layout.specs.Walk.{HasFewLeft, features_left};
 ghost use Rattle.cell_listing.specs.KeptListing.{is_known, is_listed, kept_for, kept_outcome, outcome_by, passed, passes_at};
-ghost use Rattle.cell_listing.specs.SeenLayers.{KnowsValues, answer_in, feature_in, listed_in, values_in};
+ghost use Rattle.cell_listing.specs.SeenLayers.{KnowsValues, answer_in, feature_in, listed_in, property_in, values_in};
 
 use asked_cells::{constant_answer, has_feature_cells, is_passed};
 use expr_nodes::CountedEvaluator;
@@ -16,7 +17,7 @@ use layer_buckets::{Buckets, Cell, CellItem};
 use listing_text::{write_feature_line, write_given, write_value};
 use prop_values::{EvalFault, Outcome, Value, copy};
 use std::alloc::AllocError;
-use style_layout::{LayerFeatures, Property, PropertyValue, StyleLayer};
+use style_layout::{DocumentLayer, LayerFeatures, Property, PropertyValue};
 use tile_reader::Feature;
 
 /// A layer, and the buckets that keep the values of its cells under its number.
@@ -24,7 +25,7 @@ use tile_reader::Feature;
 pub(crate) struct KeptLayer<'a, E: CountedEvaluator + Drop> {
     pub(crate) buckets: &'a Buckets<E>,
     pub(crate) number: u32,
-    pub(crate) layer: &'a StyleLayer,
+    pub(crate) layer: DocumentLayer<'a>,
 }
 
 impl<E: CountedEvaluator + Drop> KeptLayer<'_, E> {
@@ -56,7 +57,7 @@ impl<E: CountedEvaluator + Drop> KeptLayer<'_, E> {
         ensures { OnOk result (out.new.items ≡ out.old.items
             ++ value_lines margin.now (listed_in self.now feature)) }
     {
-        for property in self.layer.properties.as_slice() {
+        for property in self.layer.prepared.properties.as_slice() {
             if is_listed(feature, property) {
                 self.write_property(feature, property, margin, out)?;
             }
@@ -64,7 +65,7 @@ impl<E: CountedEvaluator + Drop> KeptLayer<'_, E> {
         Ok(())
     }
 
-    #[tactic(auto, using(prop_values::proofs::ViewLaws::value_again))]
+    #[tactic(auto, using(prop_values::proofs::ViewLaws::value_again, crate::proofs::ValueLaws::listed_evaluated, crate::proofs::ValueLaws::known_evaluated))]
     fn write_property(
         &self,
         feature: Option<u32>,
@@ -73,17 +74,17 @@ impl<E: CountedEvaluator + Drop> KeptLayer<'_, E> {
         out: &mut Vec<u8>,
     ) -> Result<(), AllocError>
         requires sound { IsSound self.now.buckets.now }
-        requires known { is_known (property_seen property.now).value
-            (kept_for (values_in self.now) feature (property_seen property.now)) ≡ true }
+        requires known { is_known (property_in self.now property.now).value
+            (kept_for (values_in self.now) feature (property_in self.now property.now)) ≡ true }
         ensures { OnOk result (out.new.items ≡ out.old.items ++ value_line margin.now property.now.row.name.now
-            (kept_outcome (values_in self.now) feature (property_seen property.now))) }
+            (kept_outcome (values_in self.now) feature (property_in self.now property.now))) }
     {
         match &property.value {
             PropertyValue::Literal(value) => write_given(margin, property.row.name, value, out),
             PropertyValue::Outside => {
                 write_value(margin, property.row.name, &Outcome::Outside, out)
             }
-            _ => self.write_kept(feature, property, margin, out),
+            PropertyValue::Evaluated => self.write_kept(feature, property, margin, out),
         }
     }
 
@@ -97,10 +98,10 @@ impl<E: CountedEvaluator + Drop> KeptLayer<'_, E> {
         out: &mut Vec<u8>,
     ) -> Result<(), AllocError>
         requires sound { IsSound self.now.buckets.now }
-        requires kept { is_some (kept_for (values_in self.now) feature (property_seen property.now)) ≡ true }
+        requires kept { is_some (kept_for (values_in self.now) feature (property_in self.now property.now)) ≡ true }
         ensures { OnOk result (out.new.items ≡ out.old.items ++ value_line margin.now property.now.row.name.now
-            (outcome_by (property_seen property.now).fallback
-            (kept_for (values_in self.now) feature (property_seen property.now)))) }
+            (outcome_by (property_in self.now property.now).fallback
+            (kept_for (values_in self.now) feature (property_in self.now property.now)))) }
     {
         match self.value(feature, CellItem::Property(property.row.number)) {
             Some(Ok(value)) => write_given(margin, property.row.name, value, out),
@@ -166,7 +167,7 @@ impl<E: CountedEvaluator + Drop> KeptLayer<'_, E> {
             return None;
         }
         if source.is_none() {
-            return Some(constant_answer(&self.layer.filter));
+            return Some(constant_answer(&self.layer.prepared.filter));
         }
         Some(is_passed(self.value(None, CellItem::Filter)))
     }
@@ -174,7 +175,7 @@ impl<E: CountedEvaluator + Drop> KeptLayer<'_, E> {
 
 // Whether a value is listed with the feature of a number, or with the layer.
 fn is_listed(feature: Option<u32>, property: &Property) -> bool
-    ensures { result ≡ is_listed feature (property_seen property.now) }
+    ensures { (layer : DocumentLayer) → result ≡ is_listed feature (document_property layer property.now) }
 {
     match feature {
         Some(_) => property.is_per_feature,

@@ -41,7 +41,8 @@ pub fn write_layer<E: CountedEvaluator + Drop, V: TextTests>(
         layer: at.layer,
     };
     let show = at.layer.show(at.scene.zoom.exact());
-    write_layer_line(at.layer.id.as_str(), at.layer.layer_type, show, out)?;
+    let prepared = at.layer.prepared;
+    write_layer_line(prepared.id.as_str(), prepared.layer_type, show, out)?;
     layer.write_below(alloc, show, tiles, out)
 }
 
@@ -99,7 +100,7 @@ impl<E: CountedEvaluator + Drop> KeptLayer<'_, E> {
             ++ lines_in self.now (passed_in self.now (map tile_seen tiles.now))) }
     {
         let answer = self.common_answer();
-        let mut features = LayerFeatures::new(self.layer, tiles);
+        let mut features = LayerFeatures::new(self.layer.prepared, tiles);
         while let Some(found) = self.next_passed(answer, &mut features) {
             self.write_feature(found.0, found.1, out)?;
         }

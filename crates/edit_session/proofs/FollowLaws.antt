@@ -1,5 +1,5 @@
 -- Documents whose layers are prepared one by one.
-use Rattle.std.proofs.Common.{◌≡◌, ◌∙◌, ◌≤◌, ℕ, List, [], ◌∷◌, refl, ap, arith, sym, subst, Bool, true, false, Some, None}
+use Rattle.std.proofs.Common.{◌≡◌, ◌∙◌, ◌≤◌, ℕ, List, [], ◌∷◌, map, refl, ap, arith, sym, subst, Bool, true, false, Some, None}
 use Rattle.std.proofs.lemmas.Bool.{leb-true}
 use Rattle.std.specs.Prelude.{codes, if◌then◌else◌}
 use Rattle.decimal_json.specs.Tree.{Tree, list, trees_of}
@@ -18,6 +18,7 @@ use Rattle.style_edits.specs.declared.undo.Undo.{Undo}
 use Rattle.style_parts.specs.Parts.{layers_of, sources_of}
 use Rattle.style_layout.specs.CodeView.{layers_seen}
 use Rattle.style_layout.specs.Layers.{layers_in, style_layers}
+use Rattle.style_layout.specs.Outlines.{layer_outline}
 use Rattle.style_layout.specs.Shown.{SourceTile}
 use Rattle.style_layout.specs.StyleLayout.{cell_count}
 use Rattle.style_rules.specs.Findings.{findings}
@@ -27,7 +28,8 @@ use Rattle.edit_session.proofs.LayerLists.{all_prepared}
 use Rattle.edit_session.specs.Applied.{limit_refusal, whole_refusal}
 use Rattle.edit_session.specs.Opening.{cell_limit, within_limit}
 use Rattle.edit_session.specs.PreparedLayers.{ArePrepared}
-use Rattle.kept_layers.specs.KeptLayers.{prepared_layers}
+use Rattle.kept_layers.proofs.OneLayers.{cells_of_outlines, outlines_again}
+use Rattle.kept_layers.specs.KeptLayers.{outlines_of, prepared_layers}
 use Rattle.kept_layers.specs.View.{AreTyped, IsPrepared, IsTyped, globals_in, tiles_in, trees_in}
 use Rattle.kept_layers.specs.declared.style_layers.StyleLayers.{StyleLayers}
 use Rattle.edit_session.specs.View.{IsWholeDocument}
@@ -63,8 +65,8 @@ module _ (tiles : List SourceTile) (globals : List (List ℕ × Data)) where
   is_prepared d p us whole typed is =
       let same = style_is d typed ∙ ap (prepared_layers globals) is in
       record {
-        layers = whole.is_prepared ∙ same;
-        counted = whole.is_counted ∙ ap (cell_count tiles) same;
+        layers = whole.is_prepared ∙ (ap (map layer_outline) same ∙ outlines_again globals us);
+        counted = whole.is_counted ∙ (ap (cell_count tiles) same ∙ sym (cells_of_outlines tiles globals us));
         noted = λ off. ap items_name_globals (ap trees_of (sym is) ∙ elements_back (layers_of d)) ∙ whole.is_noted off;
       }
 
@@ -95,8 +97,8 @@ module _ (tiles : List SourceTile) (globals : List (List ℕ × Data)) where
       ∙ (ap (cell_count tiles) (sym (style_is d typed)) ∙ sym whole.is_counted) in
       record {
         typed = subst AreTyped (sym layers) typed;
-        prepared = seen ∙ (whole.is_prepared ∙ (style_is d typed
-            ∙ (λ k. prepared_layers (sym values k) (sym layers k))));
+        prepared = seen ∙ (whole.is_prepared ∙ (ap (map layer_outline) (style_is d typed)
+            ∙ (outlines_again globals (layer_list d) ∙ (λ k. outlines_of (sym values k) (sym layers k)))));
         few = let few = leb-true p.cells p.limit (few_cells d p whole none) in
             omega (arith, same, few, whole.is_limited);
       }
@@ -105,23 +107,26 @@ module _ (tiles : List SourceTile) (globals : List (List ℕ × Data)) where
     same_layers : style_layers globals d ≡ prepared_layers globals us
     same_layers = style_is d typed ∙ ap (prepared_layers globals) (sym is)
 
-    same_limit : (b : Bool) → b ≡ within_limit limit (cell_count tiles (prepared_layers globals us))
-        → within_limit limit (cell_count tiles (style_layers globals d)) ≡ b
-    same_limit b h = ap (λ ls. within_limit limit (cell_count tiles ls)) same_layers ∙ sym h
+    same_cells : cell_count tiles (style_layers globals d) ≡ cell_count tiles (outlines_of globals us)
+    same_cells = ap (cell_count tiles) same_layers ∙ sym (cells_of_outlines tiles globals us)
 
-    pub not_refused : true ≡ within_limit limit (cell_count tiles (prepared_layers globals us)) → whole_refusal limit tiles globals d ≡ None
+    same_limit : (b : Bool) → b ≡ within_limit limit (cell_count tiles (outlines_of globals us))
+        → within_limit limit (cell_count tiles (style_layers globals d)) ≡ b
+    same_limit b h = ap (within_limit limit) same_cells ∙ sym h
+
+    pub not_refused : true ≡ within_limit limit (cell_count tiles (outlines_of globals us)) → whole_refusal limit tiles globals d ≡ None
     not_refused h = whole_by_cells limit tiles globals d none ∙ unlimited limit _ (same_limit true h)
 
-    pub is_refused : false ≡ within_limit limit (cell_count tiles (prepared_layers globals us))
+    pub is_refused : false ≡ within_limit limit (cell_count tiles (outlines_of globals us))
         → whole_refusal limit tiles globals d ≡ Some CellLimit
     is_refused h = whole_by_cells limit tiles globals d none ∙ limited limit _ (same_limit false h)
 
-    pub is_whole : (p : PreparedLayers) → p.limit ≡ limit → limit ≤ cell_limit → true ≡ within_limit limit (cell_count tiles (prepared_layers globals us))
+    pub is_whole : (p : PreparedLayers) → p.limit ≡ limit → limit ≤ cell_limit → true ≡ within_limit limit (cell_count tiles (outlines_of globals us))
         → ArePrepared tiles globals us p → IsWholeDocument tiles globals d p
     is_whole p same few h prepared = record {
       is_limited = subst (λ n. n ≤ cell_limit) (sym same) few;
       is_accepted = ap (λ n. whole_refusal n tiles globals d) same ∙ not_refused h;
-      is_prepared = prepared.layers ∙ sym same_layers;
-      is_counted = prepared.counted ∙ ap (cell_count tiles) (sym same_layers);
+      is_prepared = prepared.layers ∙ (sym (outlines_again globals us) ∙ ap (map layer_outline) (sym same_layers));
+      is_counted = prepared.counted ∙ sym same_cells;
       is_noted = λ off. ap items_name_globals (sym (ap trees_of is ∙ elements_back (layers_of d))) ∙ prepared.noted off;
     }

@@ -12,6 +12,7 @@ use Rattle.property_tables.specs.declared.layer_type.LayerType.TheVariants.{Back
 use Rattle.style_edits.proofs.ListLaws.{insert_removed, remove_inserted, moved_back}
 use Rattle.global_laws.specs.GlobalLaw.{names_globals, items_name_globals}
 use Rattle.style_layout.specs.Layers.{StyleLayer, typed_layer, with_layer, layers_in}
+use Rattle.style_layout.specs.Outlines.{layer_outline}
 use Rattle.style_layout.specs.Shown.{SourceTile}
 use Rattle.style_layout.specs.StyleLayout.{layer_cells, cell_count}
 use Rattle.value_forms.specs.LayerTypes.{layer_type}
@@ -22,10 +23,10 @@ use Rattle.kept_layers.specs.View.{AreTyped}
 -- ---- layers that have types
 
 module _ (globals : List (List ℕ × Data)) where
-  pub one_prepared : (t : Tree) (type : Option LayerType) (l : StyleLayer) → Some l ≡ option_map (typed_layer globals t) type
-      → l ≡ typed_layer globals t (unwrap_or type Background)
-  one_prepared t (Some type) l h = cc
-  one_prepared t None l h = absurd (cc)
+  pub one_outline : (t : Tree) (type : Option LayerType) (l : StyleLayer) → Some l ≡ option_map layer_outline (option_map (typed_layer globals t) type)
+      → l ≡ layer_outline (typed_layer globals t (unwrap_or type Background))
+  one_outline t (Some type) l h = cc
+  one_outline t None l h = absurd (cc)
 
   one_more : (t : Tree) (type : Option LayerType) (ls ms : List StyleLayer) → is_some type ≡ true → ls ≡ ms
       → with_layer (option_map (typed_layer globals t) type) ls ≡ typed_layer globals t (unwrap_or type Background) ∷ ms

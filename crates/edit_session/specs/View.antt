@@ -15,6 +15,7 @@ use Rattle.style_edits.specs.Layers.{layer_list}
 use Rattle.style_parts.specs.Parts.{layers_of}
 use Rattle.style_layout.specs.CodeView.{layers_seen, tile_seen}
 use Rattle.style_layout.specs.Layers.{style_layers}
+use Rattle.style_layout.specs.Outlines.{layer_outline}
 use Rattle.style_layout.specs.Shown.{SourceTile}
 use Rattle.style_layout.specs.StyleLayout.{cell_count}
 use Rattle.edit_session.specs.Applied.{Reply, done, listed, counted, styled, refused, whole_refusal}
@@ -95,7 +96,7 @@ pub record IsWholeDocument (tiles : List SourceTile) (globals : List (List ℕ �
     (layers : PreparedLayers) : Type 0 where
   pub is_limited : layers.limit ≤ cell_limit
   pub is_accepted : whole_refusal layers.limit tiles globals document ≡ None
-  pub is_prepared : layers_seen layers.style ≡ style_layers globals document
+  pub is_prepared : layers_seen layers.style ≡ map layer_outline (style_layers globals document)
   pub is_counted : layers.cells ≡ cell_count tiles (style_layers globals document)
   pub is_noted : layers.reads_globals ≡ false → reads_globals document ≡ false
 

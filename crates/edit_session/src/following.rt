@@ -8,9 +8,10 @@ ghost use Rattle.edit_session.specs.Answering.{FollowsEdit, IsAccepted, IsOfAcce
 ghost use Rattle.edit_session.specs.SessionState.{SessionState};
 ghost use Rattle.edit_session.specs.View.{IsWholeDocument};
 ghost use Rattle.feature_index.specs.Indexes.{AreIndexed};
+ghost use Rattle.kept_layers.specs.KeptLayers.{prepared_layers};
 ghost use Rattle.kept_layers.specs.View.{IsPrepared, globals_in, tiles_in, trees_in};
 ghost use Rattle.style_edits.specs.Layers.{layer_list};
-ghost use Rattle.style_layout.specs.CodeView.{layers_seen, tile_seen};
+ghost use Rattle.style_layout.specs.CodeView.{tile_seen};
 ghost use Rattle.style_layout.specs.Layers.{style_layers};
 
 use crate::layers::PreparedLayers;
@@ -44,7 +45,8 @@ pub(crate) fn shown_style<'s>(
     ensures layers { trees_in result ≡ layer_list (tree_of document.now) }
     ensures globals { globals_in result ≡ globals.now }
     ensures tiles { tiles_in result ≡ map tile_seen tiles.now }
-    ensures style { layers_seen result.style.now ≡ style_layers globals.now (tree_of document.now) }
+    ensures style { prepared_layers (globals_in result) (trees_in result)
+        ≡ style_layers globals.now (tree_of document.now) }
 {
     note_types(document);
     StyleLayers {

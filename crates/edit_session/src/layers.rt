@@ -1,16 +1,17 @@
-//! The layers of a session's document, each prepared once, and how many cells they have.
+//! What is prepared of the layers of a session's document, each once, and how many cells they have.
 
 ghost use Rattle.std.specs.Prelude.{◌≡◌, ◌-◌, ◌<◌, ◌≤◌, ◌^◌, insert, length, map, min, remove, slice_set, true, ◌||◌, IfOk, IsOkAnd};
 ghost use Rattle.decimal_json.specs.View.{items_view, tree_of};
 ghost use Rattle.edit_session.specs.Opening.{within_limit};
 ghost use Rattle.edit_session.specs.PreparedLayers.{ArePrepared, Becomes, Follows};
-ghost use Rattle.kept_layers.specs.KeptLayers.{prepared_layer};
+ghost use Rattle.kept_layers.specs.KeptLayers.{outline_of};
 ghost use Rattle.kept_layers.specs.View.{AreTyped, IsTyped};
 ghost use Rattle.edit_session.specs.View.{reads_globals};
 ghost use Rattle.global_laws.specs.GlobalLaw.{names_globals};
 ghost use Rattle.style_edits.specs.Undone.{IsWithin, adds_nothing, undone_layers};
 ghost use Rattle.style_layout.specs.CodeView.{layer_seen, layers_seen, tile_seen};
 ghost use Rattle.style_layout.specs.Layers.{style_layers};
+ghost use Rattle.style_layout.specs.Outlines.{layer_outline};
 ghost use Rattle.style_layout.specs.StyleLayout.{cell_count};
 
 use crate::globals::{names_globals, reads_globals};
@@ -23,7 +24,7 @@ use style_layout::{
     PreparedStyle, SourceTile, StyleLayer, cell_count, layer_cells, prepare, prepare_layer,
 };
 
-/// The layers of a document by the values of the global state, each prepared once. After an edit only the layer that it
+/// What is prepared of the layers of a document by the values of the global state. After an edit only the layer that it
 /// changed is prepared anew.
 #[derive(Drop)]
 pub struct PreparedLayers {
@@ -38,6 +39,7 @@ pub struct PreparedLayers {
 
 impl PreparedLayers {
     /// Those of a document, which may have so many cells.
+    #[tactic(auto, using(style_layout::proofs::CellLaws::outlines_cells))]
     pub(crate) fn of(
         alloc: Global,
         document: &Json,
@@ -45,7 +47,8 @@ impl PreparedLayers {
         tiles: &[SourceTile<'_>],
         limit: u64,
     ) -> Result<PreparedLayers, AllocError>
-        ensures style { IfOk result (λ made. layers_seen made.style ≡ style_layers globals.now (tree_of document.now)) }
+        ensures style { IfOk result (λ made. layers_seen made.style
+            ≡ map layer_outline (style_layers globals.now (tree_of document.now))) }
         ensures cells { IfOk result (λ made. made.cells
             ≡ min (cell_count (map tile_seen tiles.now) (style_layers globals.now (tree_of document.now))) (2 ^ 128 - 1)) }
         ensures reads { IfOk result (λ made. made.reads_globals ≡ reads_globals (tree_of document.now)) }
@@ -112,7 +115,7 @@ impl PreparedLayers {
         requires within { place < length (layers_seen self.old.style) }
         requires counted { self.old.cells ≡ cell_count (map tile_seen tiles.now) (layers_seen self.old.style) }
         ensures { IfOk result (λ is_done. Becomes (map tile_seen tiles.now)
-            (slice_set (layers_seen self.old.style) place (prepared_layer globals.now (tree_of layer.now)))
+            (slice_set (layers_seen self.old.style) place (outline_of globals.now (tree_of layer.now)))
             (names_globals (tree_of layer.now)) is_done self.old self.new) }
     {
         let prepared = prepared_layer(alloc, globals, layer)?;
@@ -150,7 +153,7 @@ impl PreparedLayers {
         requires within { place ≤ length (layers_seen self.old.style) }
         requires counted { self.old.cells ≡ cell_count (map tile_seen tiles.now) (layers_seen self.old.style) }
         ensures { IfOk result (λ is_done. Becomes (map tile_seen tiles.now)
-            (insert (layers_seen self.old.style) place (prepared_layer globals.now (tree_of layer.now)))
+            (insert (layers_seen self.old.style) place (outline_of globals.now (tree_of layer.now)))
             (names_globals (tree_of layer.now)) is_done self.old self.new) }
     {
         let prepared = prepared_layer(alloc, globals, layer)?;
@@ -199,7 +202,7 @@ impl PreparedLayers {
 // A layer that has a type, prepared.
 fn prepared_layer(alloc: Global, globals: &Entries, layer: &Json) -> Result<StyleLayer, AllocError>
     requires { IsTyped (tree_of layer.now) }
-    ensures { IfOk result (λ made. layer_seen made ≡ prepared_layer globals.now (tree_of layer.now)) }
+    ensures { IfOk result (λ made. layer_seen made ≡ outline_of globals.now (tree_of layer.now)) }
 {
     match prepare_layer(alloc, globals, layer)? {
         Some(layer) => Ok(layer),

@@ -1,5 +1,5 @@
 -- The state of a feature is another: one layer after another.
-use Rattle.std.proofs.Common.{◌≡◌, ◌≢◌, ℕ, ◌+◌, ◌<◌, ◌≤◌, List, length, get_or, take, Bool, true, false, ◌&&◌, ◌||◌, nat_eq, Option, None, refl, sym, ap, ◌∙◌, subst, if◌then◌else◌}
+use Rattle.std.proofs.Common.{◌≡◌, ◌≢◌, ℕ, ◌+◌, ◌<◌, ◌≤◌, List, length, get_or, take, Bool, true, false, ◌&&◌, ◌||◌, nat_eq, Option, Some, None, refl, sym, ap, ◌∙◌, subst, if◌then◌else◌}
 use Rattle.std.proofs.lemmas.Bool.{false≢true}
 use Rattle.std.proofs.lemmas.List.Folds.{list_any_more}
 use Rattle.std.specs.Str.{bytes_eq}
@@ -13,6 +13,7 @@ use Rattle.layer_buckets.specs.declared.buckets.Buckets.{Buckets}
 use Rattle.layer_buckets.specs.declared.cell.Cell.{Cell}
 use Rattle.noted_places.specs.Places.{AreNoted, is_noted}
 use Rattle.style_layout.specs.Layers.{StyleLayer}
+use Rattle.style_layout.specs.Outlines.{layer_outline}
 use Rattle.style_layout.specs.Shown.{SourceTile}
 use Rattle.asked_cells.specs.Asked.{LayerCell, cell_in}
 use Rattle.asked_cells.specs.Counted.{kept_in}
@@ -22,7 +23,7 @@ use Rattle.kept_layers.proofs.Lists.{apart_at, pairs_at, pairs_from, take_whole}
 use Rattle.kept_layers.proofs.NumberedLaws.{off_first, off_second}
 use Rattle.kept_layers.proofs.StateLaws.{feature_is}
 use Rattle.kept_layers.specs.Holding.{AreApart, AreHeld, HasLayer, Pairwise, ReadsNoState, Still}
-use Rattle.kept_layers.specs.KeptLayers.{id_at, is_feature, is_stale_state, layer_expressions, prepared_layer, reads_state}
+use Rattle.kept_layers.specs.KeptLayers.{id_at, is_feature, is_stale_state, layer_expressions, outline_of, prepared_layer, reads_state}
 use Rattle.feature_index.specs.Ids.{is_id}
 
 no_second : (a : Bool) → (a && false) ≡ false
@@ -46,6 +47,16 @@ twice_dropped false o = refl
 or_first : (a b : Bool) → b ≡ false → (a || b) ≡ true → a ≡ true
 or_first true b off h = refl
 or_first false b off h = absurd (false≢true (sym off ∙ h))
+
+-- a feature of the outline of a layer is one of the layer
+pub outline_feature : (source layer : List ℕ) (id : ℕ) (shown : StyleLayer) (o : Option ℕ)
+    → is_feature source layer id (layer_outline shown) o ≡ is_feature source layer id shown o
+outline_feature source layer id shown (Some i) = refl
+outline_feature source layer id shown None = refl
+
+outline_id : (tiles : List SourceTile) (shown : StyleLayer) (o : Option ℕ) → id_at tiles (layer_outline shown) o ≡ id_at tiles shown o
+outline_id tiles shown (Some n) = refl
+outline_id tiles shown None = refl
 
 module _ {E : Type 0} (slots : E → List Sized) (tiles : List SourceTile) (globals : List (List ℕ × Data)) (source layer : List ℕ) (id : ℕ)
     (old : Buckets E) (ns : List ℕ) (ts : List Tree) (ps : List ℕ) where
@@ -152,7 +163,7 @@ module _ {E : Type 0} (slots : E → List Sized) (tiles : List SourceTile) (glob
               ∙ no_second (reads_state (layer_expressions globals tree c.item))
 
     -- a layer that shows features of the source layer
-    module _ (new : Buckets E) (shown : StyleLayer) (is_shown : shown ≡ prepared_layer globals tree)
+    module _ (new : Buckets E) (shown : StyleLayer) (is_shown : shown ≡ outline_of globals tree)
         (same_source : bytes_eq source shown.source ≡ true) (same_layer : bytes_eq layer shown.source_layer ≡ true) (still : Still now new)
         (kept : (cell : Cell) → kept_at new cell ≡ (if (nat_eq here cell.layer && is_id id (id_at tiles shown cell.feature))
         && cells.reads_state (source_of now cell.layer cell.item) then None else kept_at now cell)) where
@@ -161,10 +172,13 @@ module _ {E : Type 0} (slots : E → List Sized) (tiles : List SourceTile) (glob
           ap (λ b. (b && is_id id (id_at tiles shown c.feature)) && cells.reads_state (source_of now here c.item)) (nat_itself here)
           ∙ ((λ i. sym (feature_is source layer id shown (id_at tiles shown c.feature) same_source same_layer) i && cells.reads_state (source_of now here c.item))
           ∙ ((λ i. is_feature source layer id (is_shown i) (id_at tiles (is_shown i) c.feature) && cells.reads_state (turned.still.source here c.item i))
+          ∙ (ap (λ b. b && cells.reads_state (source_of old here c.item))
+          (outline_feature source layer id (prepared_layer globals tree) (id_at tiles (outline_of globals tree) c.feature)
+          ∙ ap (is_feature source layer id (prepared_layer globals tree)) (outline_id tiles (prepared_layer globals tree) c.feature))
           ∙ (ap (λ b. is_feature source layer id (prepared_layer globals tree) (id_at tiles (prepared_layer globals tree) c.feature) && b)
           (states_stale (slots (evaluator_of old)) c.item (layer_expressions globals tree c.item) (source_of old here c.item) (held_here.sources c.item))
           ∙ turned_about (is_feature source layer id (prepared_layer globals tree) (id_at tiles (prepared_layer globals tree) c.feature))
-          (reads_state (layer_expressions globals tree c.item)))))
+          (reads_state (layer_expressions globals tree c.item))))))
 
       other_layer : (l : ℕ) (c : LayerCell) → nat_eq here l ≡ false → kept_in new l c ≡ kept_in now l c
       other_layer l c e = kept (cell_in l c)

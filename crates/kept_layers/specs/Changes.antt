@@ -12,7 +12,8 @@ use Rattle.style_layout.specs.Forms.{Scene}
 use Rattle.style_layout.specs.Shown.{SourceTile, layer_features}
 use Rattle.asked_cells.specs.Asked.{LayerCell}
 use Rattle.kept_layers.specs.Holding.{ChangesItem}
-use Rattle.kept_layers.specs.KeptLayers.{StyleKept, evaluations_of, is_stale_global, kept_after, kept_of_each, kept_without, none_kept, nodes_of, prepared_layer}
+use Rattle.kept_layers.specs.KeptLayers.{StyleKept, evaluations_of, is_stale_global, kept_after, kept_of_each}
+use Rattle.kept_layers.specs.KeptLayers.{kept_without, none_kept, nodes_of, outline_of}
 use Rattle.kept_layers.specs.View.{AreNumbered, HoldsLayers, IsRightIn, IsTyped, kept_seen}
 use Rattle.kept_layers.specs.declared.kept_layers.KeptLayers.{KeptLayers}
 use Rattle.kept_layers.specs.declared.style_layers.OneLayer.{OneLayer}
@@ -32,7 +33,7 @@ globals_of one = one.globals.now
 -- it has a type, is prepared, and has fewer than 2^32 - 1 features
 pub record IsOneLayer (one : OneLayer) : Type 0 where
   pub typed : IsTyped (tree_of one.layer.now)
-  pub prepared : layer_seen one.prepared.now ≡ prepared_layer (globals_of one) (tree_of one.layer.now)
+  pub prepared : layer_seen one.prepared.now ≡ outline_of (globals_of one) (tree_of one.layer.now)
   pub few : length (layer_features (tiles_of one) (layer_seen one.prepared.now)) < 4294967295
 
 module _ (slots : FormPool → List Sized) where

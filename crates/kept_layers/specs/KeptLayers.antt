@@ -15,6 +15,7 @@ use Rattle.layer_buckets.specs.declared.cell.CellItem.{CellItem}
 use Rattle.feature_states.specs.Features.{same_feature}
 use Rattle.style_layout.specs.Forms.{Scene}
 use Rattle.style_layout.specs.Layers.{StyleLayer, typed_layer}
+use Rattle.style_layout.specs.Outlines.{layer_outline}
 use Rattle.style_layout.specs.Shown.{SourceTile, layer_features}
 use Rattle.tile_reader.specs.declared.tile.Feature.{Feature}
 use Rattle.asked_cells.specs.Asked.{AskedCell, LayerCell, layer_asked}
@@ -34,6 +35,13 @@ prepared_layer globals t = typed_layer globals t (type_of t)
 
 abbrev pub prepared_layers : List (List ℕ × Data) → List Tree → List StyleLayer
 prepared_layers globals ts = map (prepared_layer globals) ts
+
+-- what is prepared of a layer
+abbrev pub outline_of : List (List ℕ × Data) → Tree → StyleLayer
+outline_of globals t = layer_outline (prepared_layer globals t)
+
+abbrev pub outlines_of : List (List ℕ × Data) → List Tree → List StyleLayer
+outlines_of globals ts = map (outline_of globals) ts
 
 abbrev pub layer_expressions : List (List ℕ × Data) → Tree → LayerExpressions
 layer_expressions globals t = item_expression globals (type_of t) t

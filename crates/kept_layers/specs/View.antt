@@ -14,7 +14,7 @@ use Rattle.style_layout.specs.Shown.{SourceTile}
 use Rattle.style_layout.specs.StyleLayout.{cell_count}
 use Rattle.kept_layers.specs.Holding as holding
 use Rattle.kept_layers.specs.Holding.{AbsentAreBare, AreApart, AreThere, NoneReadsGlobals, ReadsNoState, style_kept}
-use Rattle.kept_layers.specs.KeptLayers.{StyleKept, prepared_layers}
+use Rattle.kept_layers.specs.KeptLayers.{StyleKept, outlines_of, prepared_layers}
 use Rattle.kept_layers.specs.declared.kept_layers.KeptLayers.{KeptLayers}
 use Rattle.kept_layers.specs.declared.style_layers.StyleLayers.{StyleLayers}
 
@@ -63,5 +63,5 @@ AreTyped (t ∷ ts) = IsTyped t × AreTyped ts
 -- Its layers have types, are prepared, and have fewer than 2^32 - 1 cells.
 pub record IsPrepared (s : StyleLayers) : Type 0 where
   pub typed : AreTyped (trees_in s)
-  pub prepared : layers_seen s.style.now ≡ prepared_layers (globals_in s) (trees_in s)
+  pub prepared : layers_seen s.style.now ≡ outlines_of (globals_in s) (trees_in s)
   pub few : cell_count (tiles_in s) (prepared_layers (globals_in s) (trees_in s)) < 4294967295

@@ -4,11 +4,12 @@ ghost use Rattle.std.specs.Prelude.{◌≡◌, ◌++◌, None, flat_map, map, On
 ghost use Rattle.layer_buckets.specs.Seen.{IsSound, kept_at};
 ghost use Rattle.layer_buckets.specs.declared.cell.Cell.{Cell};
 ghost use Rattle.listing_text.specs.Listing.{layer_lines, listing};
-ghost use Rattle.style_layout.specs.CodeView.{layers_seen, scene_seen, tile_seen};
+ghost use Rattle.style_layout.specs.CodeView.{scene_seen, tile_seen};
 ghost use Rattle.style_layout.specs.StyleLayout.{layer_out, layers_layout};
 ghost use Rattle.asked_cells.specs.Asking.{AsksLayer, LeavesSources};
 ghost use Rattle.asked_cells.specs.SeenCells.{layer_at, scene_at};
 ghost use Rattle.kept_layers.specs.Changes.{Counts, HaveListed};
+ghost use Rattle.kept_layers.specs.KeptLayers.{prepared_layers};
 ghost use Rattle.kept_layers.specs.LayerListing.{IsKeptLayer};
 ghost use Rattle.kept_layers.specs.View.{AreNumbered, HoldsLayers, IsPrepared, IsRightIn, globals_in, kept_seen, tiles_in, trees_in};
 
@@ -51,7 +52,7 @@ impl KeptLayers {
             (tiles_in style.now) (globals_in style.now) (trees_in style.now) self.old self.new) }
         ensures text { OnOk result (out.new.items ≡ out.old.items
             ++ listing (layers_layout (scene_seen V.tests scene.now) (tiles_in style.now)
-            (layers_seen style.now.style.now))) }
+            (prepared_layers (globals_in style.now) (trees_in style.now)))) }
     {
         write_zoom(scene.zoom.exact(), out)?;
         let number = self.list_layers(alloc, style, scene, steps, out)?;
@@ -81,7 +82,7 @@ impl KeptLayers {
             (trees_in style.now) (kept_seen self.old) result steps.old steps.new }
         ensures text { OnOk result (out.new.items ≡ out.old.items
             ++ listing (layers_layout (scene_seen V.tests scene.now) (tiles_in style.now)
-            (layers_seen style.now.style.now))) }
+            (prepared_layers (globals_in style.now) (trees_in style.now)))) }
     {
         write_zoom(scene.zoom.exact(), out)?;
         let number = self.list_layers_last(alloc, style, scene, steps, out)?;
@@ -109,14 +110,15 @@ impl KeptLayers {
         ensures listed { OnOk result (HaveListed ⟦<FormPool as CountedEvaluator>⟧.slots (scene_seen V.tests scene.now)
             (tiles_in style.now) (globals_in style.now) (trees_in style.now) self.old self.new) }
         ensures text { OnOk result (out.new.items ≡ out.old.items ++ flat_map layer_lines
-            (map (layer_out (scene_seen V.tests scene.now) (tiles_in style.now)) (layers_seen style.now.style.now))) }
+            (map (layer_out (scene_seen V.tests scene.now) (tiles_in style.now))
+            (prepared_layers (globals_in style.now) (trees_in style.now)))) }
     {
         filters_are_decided();
         let mut number = 0;
         for place in 0..self.numbers.len() {
             let at = LayerAt {
                 number: self.numbers[place],
-                layer: style.style.layer(place),
+                layer: style.listed_layer(place),
                 scene,
             };
             let more = self.list_layer(alloc, &at, style.tiles, steps, out)?;
@@ -144,7 +146,8 @@ impl KeptLayers {
         ensures counts { Counts (scene_seen V.tests scene.now) (tiles_in style.now) (globals_in style.now)
             (trees_in style.now) (kept_seen self.old) result steps.old steps.new }
         ensures text { OnOk result (out.new.items ≡ out.old.items ++ flat_map layer_lines
-            (map (layer_out (scene_seen V.tests scene.now) (tiles_in style.now)) (layers_seen style.now.style.now))) }
+            (map (layer_out (scene_seen V.tests scene.now) (tiles_in style.now))
+            (prepared_layers (globals_in style.now) (trees_in style.now)))) }
     {
         if self.cells.buckets.is_bare() {
             return self.list_bare(alloc, style, scene, steps, out);
@@ -172,7 +175,8 @@ impl KeptLayers {
         ensures counts { Counts (scene_seen V.tests scene.now) (tiles_in style.now) (globals_in style.now)
             (trees_in style.now) (kept_seen self.old) result steps.old steps.new }
         ensures text { OnOk result (out.new.items ≡ out.old.items ++ flat_map layer_lines
-            (map (layer_out (scene_seen V.tests scene.now) (tiles_in style.now)) (layers_seen style.now.style.now))) }
+            (map (layer_out (scene_seen V.tests scene.now) (tiles_in style.now))
+            (prepared_layers (globals_in style.now) (trees_in style.now)))) }
     {
         filters_are_decided();
         properties_are_given();
@@ -181,7 +185,7 @@ impl KeptLayers {
         for place in 0..self.numbers.len() {
             let at = LayerAt {
                 number: self.numbers[place],
-                layer: style.style.layer(place),
+                layer: style.listed_layer(place),
                 scene,
             };
             let more = write_bare_layer(alloc, &mut self.cells, &at, style.tiles, steps, out)?;

@@ -4,13 +4,14 @@ ghost use Rattle.std.specs.Prelude.{◌≡◌, ◌<◌, length, slice_index_or};
 ghost use Rattle.decimal_json.specs.Tree.{null, object, fields_of};
 ghost use Rattle.decimal_json.specs.View.{tree_of};
 ghost use Rattle.kept_layers.specs.Changes.{IsOneLayer, globals_of, tiles_of};
-ghost use Rattle.kept_layers.specs.KeptLayers.{type_of};
+ghost use Rattle.style_layout.specs.CodeView.{document_layer};
+ghost use Rattle.kept_layers.specs.KeptLayers.{prepared_layers, type_of};
 ghost use Rattle.kept_layers.specs.View.{IsPrepared, globals_in, tiles_in, trees_in};
 
 use cell_sources::LayerValues;
 use decimal_json::Json;
 use prop_values::Entries;
-use style_layout::{PreparedStyle, SourceTile, StyleLayer};
+use style_layout::{DocumentLayer, PreparedStyle, SourceTile, StyleLayer};
 
 /// The layers of a document without findings, over tiles.
 #[derive(Clone, Copy)]
@@ -37,6 +38,20 @@ impl<'a> StyleLayers<'a> {
             prepared: self.style.layer(place),
             globals: self.globals,
             tiles: self.tiles,
+        }
+    }
+
+    /// The layer at a place, as a listing reads it. Takes constant time.
+    pub(crate) fn listed_layer(&self, place: usize) -> DocumentLayer<'a>
+        requires prepared { IsPrepared self.now }
+        requires within { place < length (trees_in self.now) }
+        ensures { document_layer result
+            ≡ slice_index_or (prepared_layers (globals_in self.now) (trees_in self.now)) place (document_layer result) }
+    {
+        DocumentLayer {
+            prepared: self.style.layer(place),
+            json: &self.layers[place],
+            globals: self.globals,
         }
     }
 }

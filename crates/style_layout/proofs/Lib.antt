@@ -3,4 +3,5 @@ pub mod CellLaws
 pub mod RowLists
 pub mod Defaults
 mod LegacyReads
+pub mod FilledLayers
 pub mod TableRows

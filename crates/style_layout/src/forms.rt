@@ -1,4 +1,4 @@
-//! What the value of a property is, and what a filter is.
+//! What the value of a property is, and what a filter is: what is read of them, and what is prepared.
 
 ghost use Rattle.std.specs.Prelude.{◌≡◌, ℕ, List, IfOk};
 ghost use Rattle.decimal_json.specs.View.{tree_of, tree_at};
@@ -7,17 +7,20 @@ ghost use Rattle.property_tables.specs.RowView.{row_seen};
 ghost use Rattle.expr_syntax.specs.Mentioned.{mentions};
 ghost use Rattle.expr_syntax.specs.Reading.{reading_with};
 ghost use Rattle.expr_syntax.specs.TermView.{term_of};
+ghost use Rattle.legacy_filters.specs.Form.{reading};
 ghost use Rattle.legacy_functions.specs.Form.{form};
 ghost use Rattle.legacy_functions.specs.View.{function_of, row_of};
 ghost use Rattle.property_tables.specs.Literals.{literal_of};
-ghost use Rattle.style_layout.specs.CodeView.{value_seen, filter_seen};
-ghost use Rattle.style_layout.specs.Forms.{property_value, is_per_feature, layer_filter, legacy_function, literal_value, expression_value, function_value, text_value, token_text, reads_feature};
+ghost use Rattle.style_layout.specs.CodeView.{filter_seen, value_read, value_seen};
+ghost use Rattle.style_layout.specs.Forms.{condition, condition_of, expression_value, function_value, is_per_feature};
+ghost use Rattle.style_layout.specs.Forms.{layer_filter, legacy_function, legacy_of, literal_value, property_value};
+ghost use Rattle.style_layout.specs.Forms.{reads_feature, text_value, token_text};
+ghost use Rattle.style_layout.specs.Outlines.{filter_outline, value_outline};
 ghost use Rattle.style_layout.specs.ReadValues.{IsReadFunction, IsReadValue};
 
 use decimal_json::{Json, Text};
 use dependency_sets::mentions;
 use expr_syntax::{Expr, Reading, read_with};
-use legacy_filters::LegacyFilter;
 use legacy_functions::{Function, FunctionReading, has_tokens};
 use legacy_laws::{
     expressions_mean_their_functions, migrated_functions_mention_the_same,
@@ -33,9 +36,8 @@ use value_forms::{Form, form_of};
 pub enum PropertyValue {
     /// A literal, fitted to its row.
     Literal(Value),
-    Expression(Expr),
-    Function(Function),
-    TokenText(Text),
+    /// An expression, a function or a text with tokens, which is in the document.
+    Evaluated,
     /// It is not evaluated.
     Outside,
 }
@@ -43,9 +45,25 @@ pub enum PropertyValue {
 /// The filter of a layer.
 #[derive(Drop)]
 pub enum LayerFilter {
+    /// There is none, and every feature passes.
     Every,
-    Condition(Expr),
-    Legacy(LegacyFilter),
+    /// A truth value.
+    Fixed(bool),
+    /// An expression or a legacy filter, which is in the document.
+    Evaluated,
+    /// It is not evaluated.
+    Outside,
+}
+
+/// What the value of a property is read as.
+#[derive(Drop)]
+pub(crate) enum ReadValue {
+    /// A literal, fitted to its row.
+    Literal(Value),
+    Expression(Expr),
+    Function(Function),
+    TokenText(Text),
+    /// It is not evaluated.
     Outside,
 }
 
@@ -55,8 +73,9 @@ pub(crate) fn property_value(
     row: &Row,
     globals: &Entries,
     json: &Json,
-) -> Result<PropertyValue, AllocError>
-    ensures { IfOk result (λ value. value_seen value ≡ property_value (row_seen row.now) globals.now (tree_of json.now)) }
+) -> Result<ReadValue, AllocError>
+    ensures { IfOk result (λ value. value_read value
+        ≡ property_value (row_seen row.now) globals.now (tree_of json.now)) }
 {
     match form_of(row, json) {
         Form::Expression => expression_value(alloc, globals, json),
@@ -66,56 +85,54 @@ pub(crate) fn property_value(
     }
 }
 
-fn text_value(json: &Json) -> Result<PropertyValue, AllocError>
-    ensures { IfOk result (λ value. value_seen value ≡ text_value (tree_of json.now)) }
+fn text_value(json: &Json) -> Result<ReadValue, AllocError>
+    ensures { IfOk result (λ value. value_read value ≡ text_value (tree_of json.now)) }
 {
     match json {
-        Json::Text(text) => Ok(PropertyValue::TokenText(text.share()?)),
-        _ => Ok(PropertyValue::Outside),
+        Json::Text(text) => Ok(ReadValue::TokenText(text.share()?)),
+        _ => Ok(ReadValue::Outside),
     }
 }
 
-fn literal_value(alloc: Global, row: &Row, json: &Json) -> Result<PropertyValue, AllocError>
-    ensures { IfOk result (λ value. value_seen value ≡ literal_value (literal_of (tree_of json.now) (row_seen row.now))) }
+fn literal_value(alloc: Global, row: &Row, json: &Json) -> Result<ReadValue, AllocError>
+    ensures { IfOk result (λ value. value_read value
+        ≡ literal_value (literal_of (tree_of json.now) (row_seen row.now))) }
 {
     match literal(alloc, json, row)? {
-        Some(value) => Ok(PropertyValue::Literal(value)),
-        None => Ok(PropertyValue::Outside),
+        Some(value) => Ok(ReadValue::Literal(value)),
+        None => Ok(ReadValue::Outside),
     }
 }
 
-fn expression_value(
-    alloc: Global,
-    globals: &Entries,
-    json: &Json,
-) -> Result<PropertyValue, AllocError>
-    ensures { IfOk result (λ value. value_seen value ≡ expression_value (reading_with (tree_of json.now) globals.now)) }
+fn expression_value(alloc: Global, globals: &Entries, json: &Json) -> Result<ReadValue, AllocError>
+    ensures { IfOk result (λ value. value_read value ≡ expression_value (reading_with (tree_of json.now) globals.now)) }
 {
     match read_with(alloc, json, globals)? {
-        Ok(Reading::Inside(expression)) => Ok(PropertyValue::Expression(expression)),
-        _ => Ok(PropertyValue::Outside),
+        Ok(Reading::Inside(expression)) => Ok(ReadValue::Expression(expression)),
+        _ => Ok(ReadValue::Outside),
     }
 }
 
-fn function_value(alloc: Global, row: &Row, json: &Json) -> Result<PropertyValue, AllocError>
-    ensures { IfOk result (λ value. value_seen value ≡ function_value (row_seen row.now) (form (row_seen row.now) (tree_of json.now))) }
+fn function_value(alloc: Global, row: &Row, json: &Json) -> Result<ReadValue, AllocError>
+    ensures { IfOk result (λ value. value_read value
+        ≡ function_value (row_seen row.now) (form (row_seen row.now) (tree_of json.now))) }
 {
     match legacy_functions::read(alloc, json, row)? {
-        Ok(FunctionReading::Inside(function)) => Ok(PropertyValue::Function(function)),
-        _ => Ok(PropertyValue::Outside),
+        Ok(FunctionReading::Inside(function)) => Ok(ReadValue::Function(function)),
+        _ => Ok(ReadValue::Outside),
     }
 }
 
 /// Whether a value is listed with each feature. A function and a token text read what their expressions read, which
 /// are not made.
-pub(crate) fn is_per_feature(value: &PropertyValue) -> bool
-    requires { IsReadValue (value_seen value.now) }
-    ensures { (globals : List (List ℕ × Data)) → result ≡ is_per_feature globals (value_seen value.now) }
+pub(crate) fn is_per_feature(value: &ReadValue) -> bool
+    requires { IsReadValue (value_read value.now) }
+    ensures { (globals : List (List ℕ × Data)) → result ≡ is_per_feature globals (value_read value.now) }
 {
     match value {
-        PropertyValue::Expression(expression) => reads_feature(expression),
-        PropertyValue::Function(function) => function_reads_feature(function),
-        PropertyValue::TokenText(text) => tokens_read_feature(text),
+        ReadValue::Expression(expression) => reads_feature(expression),
+        ReadValue::Function(function) => function_reads_feature(function),
+        ReadValue::TokenText(text) => tokens_read_feature(text),
         _ => false,
     }
 }
@@ -147,25 +164,63 @@ fn reads_feature(expression: &Expr) -> bool
     found.feature || found.state
 }
 
-/// What the filter of a layer is, by the values of the global state.
+/// What is prepared of a value.
+pub(crate) fn outlined(value: ReadValue) -> PropertyValue
+    ensures { value_seen result ≡ value_outline (value_read value) }
+{
+    match value {
+        ReadValue::Literal(value) => PropertyValue::Literal(value),
+        ReadValue::Outside => PropertyValue::Outside,
+        _ => PropertyValue::Evaluated,
+    }
+}
+
+/// What is prepared of the filter of a layer, by the values of the global state.
 pub(crate) fn layer_filter(
     alloc: Global,
     globals: &Entries,
     filter: Option<&Json>,
 ) -> Result<LayerFilter, AllocError>
-    ensures { IfOk result (λ value. filter_seen value ≡ layer_filter globals.now (tree_at filter.entry)) }
+    ensures { IfOk result (λ value. filter_seen value
+        ≡ filter_outline (layer_filter globals.now (tree_at filter.entry))) }
 {
     let Some(filter) = filter else {
         return Ok(LayerFilter::Every);
     };
     if legacy_filters::is_legacy(filter) {
-        match legacy_filters::read(alloc, filter)? {
-            Ok(filter) => return Ok(LayerFilter::Legacy(filter)),
-            Err(_) => return Ok(LayerFilter::Outside),
-        }
+        return legacy_outline(alloc, filter);
     }
+    condition_outline(alloc, globals, filter)
+}
+
+fn legacy_outline(alloc: Global, filter: &Json) -> Result<LayerFilter, AllocError>
+    ensures { IfOk result (λ value. filter_seen value ≡ filter_outline (legacy_of (reading (tree_of filter.now)))) }
+{
+    match legacy_filters::read(alloc, filter)? {
+        Ok(_) => Ok(LayerFilter::Evaluated),
+        Err(_) => Ok(LayerFilter::Outside),
+    }
+}
+
+fn condition_outline(
+    alloc: Global,
+    globals: &Entries,
+    filter: &Json,
+) -> Result<LayerFilter, AllocError>
+    ensures { IfOk result (λ value. filter_seen value
+        ≡ filter_outline (condition_of (reading_with (tree_of filter.now) globals.now))) }
+{
     match read_with(alloc, filter, globals)? {
-        Ok(Reading::Inside(expression)) => Ok(LayerFilter::Condition(expression)),
+        Ok(Reading::Inside(expression)) => Ok(outlined_condition(&expression)),
         _ => Ok(LayerFilter::Outside),
+    }
+}
+
+fn outlined_condition(expression: &Expr) -> LayerFilter
+    ensures { filter_seen result ≡ filter_outline (condition (term_of expression.now)) }
+{
+    match expression {
+        Expr::Literal(Value::Bool(answer)) => LayerFilter::Fixed(*answer),
+        _ => LayerFilter::Evaluated,
     }
 }

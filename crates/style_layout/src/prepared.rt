@@ -1,10 +1,12 @@
-//! A style, of which each value is read once.
+//! A style, of whose layers outlines are prepared.
 
-ghost use Rattle.std.specs.Prelude.{◌≡◌, ◌<◌, ◌≤◌, insert, length, remove, slice_index_or, slice_set, IfOk, OnErr, OnOk};
+ghost use Rattle.std.specs.Prelude.{◌≡◌, ◌<◌, ◌≤◌, insert, length, map, remove, slice_index_or, slice_set};
+ghost use Rattle.std.specs.Prelude.{IfOk, OnErr, OnOk};
 ghost use Rattle.decimal_json.specs.View.{tree_of};
 ghost use Rattle.style_parts.specs.Parts.{layers_of};
 ghost use Rattle.style_layout.specs.CodeView.{layer_seen, layers_seen};
 ghost use Rattle.style_layout.specs.Layers.{style_layers, StyleLayer as Layer};
+ghost use Rattle.style_layout.specs.Outlines.{layer_outline};
 
 use crate::layers::{StyleLayer, prepare_layer};
 use decimal_json::Json;
@@ -20,13 +22,14 @@ pub struct PreparedStyle {
     pub(crate) layers: Vec<StyleLayer>,
 }
 
-/// The layers of a document without findings, by the values of the global state.
+/// What is prepared of the layers of a document without findings, by the values of the global state.
 pub fn prepare(
     alloc: Global,
     document: &Json,
     globals: &Entries,
 ) -> Result<PreparedStyle, AllocError>
-    ensures { IfOk result (λ style. layers_seen style ≡ style_layers globals.now (tree_of document.now)) }
+    ensures { IfOk result (λ style. layers_seen style
+        ≡ map layer_outline (style_layers globals.now (tree_of document.now))) }
 {
     let found = layers_of(document);
     let mut layers = Vec::new(alloc);

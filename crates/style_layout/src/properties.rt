@@ -9,8 +9,9 @@ ghost use Rattle.legacy_laws.specs.LegacyFunctionLaw.{IsTableRow};
 ghost use Rattle.style_layout.specs.CodeView.{property_seen};
 ghost use Rattle.style_layout.specs.Forms.{property_of};
 ghost use Rattle.style_layout.specs.Layers.{properties_of, set_property, set_value};
+ghost use Rattle.style_layout.specs.Outlines.{property_outline};
 
-use crate::forms::{PropertyValue, is_per_feature, property_value};
+use crate::forms::{PropertyValue, is_per_feature, outlined, property_value};
 use crate::placed_layer::PlacedLayer;
 use decimal_json::{Json, Members};
 use prop_values::{Entries, Value};
@@ -40,7 +41,7 @@ pub(crate) fn properties_of(
     layer: &Members,
 ) -> Result<Vec<Property>, AllocError>
     ensures { IfOk result (λ properties. map property_seen properties.items
-        ≡ properties_of globals.now layer_type (object (fields_of layer.now))) }
+        ≡ map property_outline (properties_of globals.now layer_type (object (fields_of layer.now)))) }
 {
     placed_properties(alloc, globals, layer_type, &PlacedLayer::of(layer))
 }
@@ -52,7 +53,7 @@ fn placed_properties(
     layer: &PlacedLayer<'_>,
 ) -> Result<Vec<Property>, AllocError>
     ensures { IfOk result (λ properties. map property_seen properties.items
-        ≡ properties_of globals.now layer_type (object (fields_of layer.now))) }
+        ≡ map property_outline (properties_of globals.now layer_type (object (fields_of layer.now)))) }
 {
     let mut properties = Vec::new(alloc);
     for number in 0..row_count(layer_type) {
@@ -71,7 +72,8 @@ fn push_numbered(
 ) -> Result<(), AllocError>
     requires { number < length (rows_of layer_type) }
     ensures { (other : RowData) → OnOk result (map property_seen properties.new.items ≡ map property_seen properties.old.items
-        ++ set_property globals.now (object (fields_of layer.now)) (get_or (rows_of layer_type) number other)) }
+        ++ map property_outline (set_property globals.now (object (fields_of layer.now))
+        (get_or (rows_of layer_type) number other))) }
 {
     tables_keep_their_rules();
     match row_at(layer_type, number) {
@@ -98,7 +100,8 @@ fn push_if_set(
 ) -> Result<(), AllocError>
     requires { IsTableRow (row_seen row.now) }
     ensures { OnOk result (map property_seen properties.new.items
-        ≡ map property_seen properties.old.items ++ set_property globals.now (object (fields_of layer.now)) (row_seen row.now)) }
+        ≡ map property_seen properties.old.items
+        ++ map property_outline (set_property globals.now (object (fields_of layer.now)) (row_seen row.now))) }
 {
     let Some(json) = layer.get(row.place, row.name) else {
         return Ok(());
@@ -129,14 +132,15 @@ fn read_property(
     json: &Json,
 ) -> Result<Property, AllocError>
     requires { IsTableRow (row_seen row.now) }
-    ensures { IfOk result (λ property. property_seen property ≡ property_of (row_seen row.now) globals.now (tree_of json.now)) }
+    ensures { IfOk result (λ property. property_seen property
+        ≡ property_outline (property_of (row_seen row.now) globals.now (tree_of json.now))) }
 {
     let value = property_value(alloc, row, globals, json)?;
     let is_per_feature = is_per_feature(&value);
     let fallback = default_value(alloc, row)?;
     Ok(Property {
         row: row.copy(),
-        value,
+        value: outlined(value),
         fallback,
         is_per_feature,
     })

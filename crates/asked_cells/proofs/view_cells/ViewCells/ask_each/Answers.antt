@@ -3,7 +3,7 @@ use Rattle.eval_face.specs.World.{state_of}
 use Rattle.tile_reader.specs.declared.tile.Feature.{Feature}
 use Rattle.layer_buckets.specs.LaidOut.{feature_count}
 use Rattle.layer_buckets.specs.Seen.{HasFeature}
-use Rattle.style_layout.specs.CodeView.{layer_seen, scene_seen, tile_seen}
+use Rattle.style_layout.specs.CodeView.{scene_seen, tile_seen}
 use Rattle.style_layout.specs.Layers.{has_features}
 use Rattle.style_layout.specs.Shown.{LayerFeature, layer_features, numbered, with_state}
 use Rattle.style_layout.specs.Walk.{features_left}
@@ -12,6 +12,7 @@ use Rattle.asked_cells.specs.Counted.{kept_in}
 use Rattle.asked_cells.proofs.AskLaws.{all_asked, all_remain, first_meant, remain_same, some_asked, stops, stops_within}
 use Rattle.asked_cells.proofs.FeatureLaws.{AreBelow, has_some, no_features, numbers_below}
 use Rattle.asked_cells.proofs.SourceLaws.{expressions_on, feature_on, leaves_all, leaves_then, slots_on}
+use Rattle.asked_cells.specs.SeenCells.{layer_at}
 use Rattle.asked_cells.proofs.view_cells.ViewCells.ask_each.Goals as goal
 
 pub new-features-requires : goal.new-features-requires
@@ -24,7 +25,7 @@ pub loop-found-init : goal.loop-found-init
 loop-found-init g c =
     let at = c.args.at.now in
     let scene = scene_seen g.V.TextTests.tests at.scene.now in
-    let layer = layer_seen at.layer.now in
+    let layer = layer_at at in
     let all = numbered 0 (layer_features (map tile_seen c.args.tiles.now) layer) in
     let fs = layer_features (map tile_seen c.args.tiles.now) layer in
     let left = c.new-features.ensures.left in
@@ -47,7 +48,7 @@ ask_feature-requires-clause-slots g c = slots_on g.E.CountedEvaluator.slots c.ar
 
 pub ask_feature-requires-clause-feature : goal.ask_feature-requires-clause-feature
 ask_feature-requires-clause-feature g c =
-    let count = length (layer_features (map tile_seen c.args.tiles.now) (layer_seen c.args.at.now.layer.now)) in
+    let count = length (layer_features (map tile_seen c.args.tiles.now) (layer_at c.args.at.now)) in
     let found = c.in-Some.found in
     let below = (subst (λ nfs. AreBelow count nfs) c.in-Some.ensures.left c.loop-found.invariant.below).0 in
     feature_on c.args.at.now.number c.args.self.now.buckets c.loop-found.self.buckets (Some found.0) c.loop-found.invariant.sources
@@ -57,7 +58,7 @@ pub loop-found-preserved : goal.loop-found-preserved
 loop-found-preserved g c =
     let at = c.args.at.now in
     let scene = scene_seen g.V.TextTests.tests at.scene.now in
-    let layer = layer_seen at.layer.now in
+    let layer = layer_at at in
     let all = numbered 0 (layer_features (map tile_seen c.args.tiles.now) layer) in
     let first = c.args.self.now.buckets in
     let now = c.loop-found.self.buckets in
@@ -105,7 +106,7 @@ pub returns-in_err-more-clause-asks : goal.returns-in_err-more-clause-asks
 returns-in_err-more-clause-asks g c = λ x meaning s right common meant.
     let at = c.args.at.now in
     let scene = scene_seen g.V.TextTests.tests at.scene.now in
-    let layer = layer_seen at.layer.now in
+    let layer = layer_at at in
     let all = numbered 0 (layer_features (map tile_seen c.args.tiles.now) layer) in
     let first = c.args.self.now.buckets in
     let now = c.loop-found.self.buckets in
@@ -142,7 +143,7 @@ pub returns-in_err-number-clause-asks : goal.returns-in_err-number-clause-asks
 returns-in_err-number-clause-asks g c = λ x meaning s right common meant.
     let at = c.args.at.now in
     let scene = scene_seen g.V.TextTests.tests at.scene.now in
-    let layer = layer_seen at.layer.now in
+    let layer = layer_at at in
     let all = numbered 0 (layer_features (map tile_seen c.args.tiles.now) layer) in
     let first = c.args.self.now.buckets in
     let now = c.loop-found.self.buckets in
@@ -176,7 +177,7 @@ pub returns-clause-asks : goal.returns-clause-asks
 returns-clause-asks g c = λ x meaning s right common meant.
     let at = c.args.at.now in
     let scene = scene_seen g.V.TextTests.tests at.scene.now in
-    let layer = layer_seen at.layer.now in
+    let layer = layer_at at in
     let all = numbered 0 (layer_features (map tile_seen c.args.tiles.now) layer) in
     let asked = λ (nfs : List (ℕ × Feature)). each_asked x scene layer nfs in
     let left = features_left c.loop-found.features in

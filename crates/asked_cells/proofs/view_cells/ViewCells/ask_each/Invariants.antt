@@ -2,7 +2,7 @@ use Rattle.std.proofs.Common.{◌≡◌, ℕ, List, [], length, map, false}
 use Rattle.operator_values.specs.Evaluated.{Evaluated}
 use Rattle.tile_reader.specs.declared.tile.Feature.{Feature}
 use Rattle.layer_buckets.specs.Seen.{IsSound}
-use Rattle.style_layout.specs.CodeView.{layer_seen, scene_seen, tile_seen}
+use Rattle.style_layout.specs.CodeView.{scene_seen, tile_seen}
 use Rattle.style_layout.specs.Layers.{has_features}
 use Rattle.style_layout.specs.Shown.{layer_features, numbered}
 use Rattle.style_layout.specs.Walk.{HasFewLeft, features_left}
@@ -12,12 +12,13 @@ use Rattle.asked_cells.specs.Counted.{AreMeant, AreRight, kept_in}
 use Rattle.asked_cells.specs.Expressions.{HasExpressions, LayerExpressions}
 use Rattle.asked_cells.proofs.AskLaws.{Remain}
 use Rattle.asked_cells.proofs.FeatureLaws.{AreBelow}
+use Rattle.asked_cells.specs.SeenCells.{layer_at}
 use Rattle.asked_cells.proofs.view_cells.ViewCells.ask_each.Given as goal
 
 abbrev pub invariant-loop-found : goal.invariant-loop-found
 invariant-loop-found g l =
     let scene = scene_seen g.V.TextTests.tests l.at.scene.now in
-    let layer = layer_seen l.at.layer.now in
+    let layer = layer_at l.at in
     let all = layer_features (map tile_seen l.fn.tiles) layer in
     let asked = λ (x : LayerExpressions) (nfs : List (ℕ × Feature)). each_asked x scene layer nfs in
     record {

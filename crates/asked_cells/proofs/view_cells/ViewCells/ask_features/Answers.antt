@@ -1,11 +1,12 @@
 use Rattle.std.proofs.Common.{◌∙◌, map}
-use Rattle.style_layout.specs.CodeView.{layer_seen, scene_seen, tile_seen}
+use Rattle.style_layout.specs.CodeView.{scene_seen, tile_seen}
 use Rattle.asked_cells.proofs.AskLaws.{both_asked, first_stops, meant_first, meant_then, second_right, second_stops}
 use Rattle.asked_cells.proofs.SourceLaws.{expressions_on, leaves_then, slots_on}
 use Rattle.style_layout.specs.Shown.{layer_features, numbered}
 use Rattle.asked_cells.specs.Asked.{common_asked, each_asked}
 use Rattle.asked_cells.specs.Counted.{kept_in}
 use Rattle.asked_cells.proofs.FeatureLaws.{common_answer_of, common_shown}
+use Rattle.asked_cells.specs.SeenCells.{layer_at}
 use Rattle.asked_cells.proofs.view_cells.ViewCells.ask_features.Goals as goal
 
 pub ask_each-requires-clause-slots : goal.ask_each-requires-clause-slots
@@ -21,7 +22,7 @@ pub returns-in_err-common-clause-asks : goal.returns-in_err-common-clause-asks
 returns-in_err-common-clause-asks g c = λ x meaning s right decided meant.
     let scene = scene_seen g.V.TextTests.tests c.args.at.now.scene.now in
     let n = c.args.at.now.number in
-    let layer = layer_seen c.args.at.now.layer.now in
+    let layer = layer_at c.args.at.now in
     let tiles = map tile_seen c.args.tiles.now in
     let xs = common_asked x scene in
     let ys = each_asked x scene layer (numbered 0 (layer_features tiles layer)) in
@@ -39,7 +40,7 @@ pub returns-in_err-others-clause-asks : goal.returns-in_err-others-clause-asks
 returns-in_err-others-clause-asks g c = λ x meaning s right decided meant.
     let scene = scene_seen g.V.TextTests.tests c.args.at.now.scene.now in
     let n = c.args.at.now.number in
-    let layer = layer_seen c.args.at.now.layer.now in
+    let layer = layer_at c.args.at.now in
     let tiles = map tile_seen c.args.tiles.now in
     let xs = common_asked x scene in
     let ys = each_asked x scene layer (numbered 0 (layer_features tiles layer)) in
@@ -68,7 +69,7 @@ pub returns-clause-asks : goal.returns-clause-asks
 returns-clause-asks g c = λ x meaning s right decided meant.
     let scene = scene_seen g.V.TextTests.tests c.args.at.now.scene.now in
     let n = c.args.at.now.number in
-    let layer = layer_seen c.args.at.now.layer.now in
+    let layer = layer_at c.args.at.now in
     let tiles = map tile_seen c.args.tiles.now in
     let xs = common_asked x scene in
     let ys = each_asked x scene layer (numbered 0 (layer_features tiles layer)) in

@@ -1,5 +1,5 @@
 use Rattle.std.proofs.Common.{◌≡◌, ◌∙◌, ◌++◌, Some, Bool, Ok, refl, sym, ap, subst}
-use Rattle.style_layout.specs.CodeView.{feature_seen, layer_seen, scene_seen}
+use Rattle.style_layout.specs.CodeView.{feature_seen, scene_seen}
 use Rattle.asked_cells.proofs.AskLaws.{asks_same, both_asked, first_stops, meant_first, meant_same, meant_then, second_right, second_stops}
 use Rattle.asked_cells.proofs.SourceLaws.{expressions_on, feature_on, leaves_then, slots_on}
 use Rattle.asked_cells.specs.Asked.{feature_asked, filter_asked, passed_asked}
@@ -8,6 +8,7 @@ use Rattle.asked_cells.specs.Counted.{AreMeant, Asks, kept_in}
 use Rattle.asked_cells.proofs.FeatureLaws.{own_feature, own_shown}
 use Rattle.style_layout.specs.Shown.{is_shown}
 use Rattle.std.specs.declared.alloc.AllocError.{AllocError}
+use Rattle.asked_cells.specs.SeenCells.{layer_at}
 use Rattle.asked_cells.proofs.view_cells.ViewCells.ask_if_passed.Goals as goal
 
 pub ask_passed-requires-clause-slots : goal.ask_passed-requires-clause-slots
@@ -23,7 +24,7 @@ pub returns-in_err-first-clause-asks : goal.returns-in_err-first-clause-asks
 returns-in_err-first-clause-asks g c = λ x meaning s right answer meant_all.
     let scene = scene_seen g.V.TextTests.tests c.args.at.now.scene.now in
     let n = c.args.at.now.number in
-    let layer = layer_seen c.args.at.now.layer.now in
+    let layer = layer_at c.args.at.now in
     let f = feature_seen c.args.feature.now in
     let xs = filter_asked x scene (Some f) in
     let ys = passed_asked x scene (is_shown scene layer f) f layer.properties in
@@ -44,7 +45,7 @@ pub returns-in_err-others-clause-asks : goal.returns-in_err-others-clause-asks
 returns-in_err-others-clause-asks g c = λ x meaning s right answer meant_all.
     let scene = scene_seen g.V.TextTests.tests c.args.at.now.scene.now in
     let n = c.args.at.now.number in
-    let layer = layer_seen c.args.at.now.layer.now in
+    let layer = layer_at c.args.at.now in
     let f = feature_seen c.args.feature.now in
     let xs = filter_asked x scene (Some f) in
     let ys = passed_asked x scene (is_shown scene layer f) f layer.properties in
@@ -79,7 +80,7 @@ pub returns-clause-asks : goal.returns-clause-asks
 returns-clause-asks g c = λ x meaning s right answer meant_all.
     let scene = scene_seen g.V.TextTests.tests c.args.at.now.scene.now in
     let n = c.args.at.now.number in
-    let layer = layer_seen c.args.at.now.layer.now in
+    let layer = layer_at c.args.at.now in
     let f = feature_seen c.args.feature.now in
     let xs = filter_asked x scene (Some f) in
     let ys = passed_asked x scene (is_shown scene layer f) f layer.properties in

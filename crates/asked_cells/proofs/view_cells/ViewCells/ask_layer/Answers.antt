@@ -1,20 +1,21 @@
 use Rattle.std.proofs.Common.{◌≡◌, ◌∙◌, map, ap, sym}
 use Rattle.listing_text.specs.declared.show.Show.{Show}
 use Rattle.listing_text.specs.declared.show.Show.TheVariants.{Plain, Hidden, Unread, OutsideFilter}
-use Rattle.style_layout.specs.CodeView.{layer_seen, scene_seen, tile_seen}
+use Rattle.style_layout.specs.CodeView.{scene_seen, tile_seen}
 use Rattle.style_layout.specs.Layers.{show_of}
 use Rattle.asked_cells.specs.Asked.{layer_asked, meaning, shown_asked}
 use Rattle.asked_cells.specs.Counted.{kept_in}
 use Rattle.asked_cells.proofs.AskLaws.{asks_same, meant_same, none_asked}
 use Rattle.asked_cells.proofs.MeantLaws.{all_meant}
 use Rattle.asked_cells.proofs.SceneLaws.{scene_zoom}
+use Rattle.asked_cells.specs.SeenCells.{layer_at}
 use Rattle.asked_cells.proofs.view_cells.ViewCells.ask_layer.Goals as goal
 
 pub returns-in-Hidden-clause-asks : goal.returns-in-Hidden-clause-asks
 returns-in-Hidden-clause-asks g c = λ x s right decided.
     let at = c.args.at.now in
     let scene = scene_seen g.V.TextTests.tests at.scene.now in
-    let layer = layer_seen at.layer.now in
+    let layer = layer_at at in
     let tiles = map tile_seen c.args.tiles.now in
     let means = meaning scene tiles layer x in
     let asked = λ (show : Show). shown_asked x scene tiles show layer in
@@ -29,7 +30,7 @@ pub returns-in-Unread-clause-asks : goal.returns-in-Unread-clause-asks
 returns-in-Unread-clause-asks g c = λ x s right decided.
     let at = c.args.at.now in
     let scene = scene_seen g.V.TextTests.tests at.scene.now in
-    let layer = layer_seen at.layer.now in
+    let layer = layer_at at in
     let tiles = map tile_seen c.args.tiles.now in
     let means = meaning scene tiles layer x in
     let asked = λ (show : Show). shown_asked x scene tiles show layer in
@@ -44,7 +45,7 @@ pub returns-in-OutsideFilter-clause-asks : goal.returns-in-OutsideFilter-clause-
 returns-in-OutsideFilter-clause-asks g c = λ x s right decided.
     let at = c.args.at.now in
     let scene = scene_seen g.V.TextTests.tests at.scene.now in
-    let layer = layer_seen at.layer.now in
+    let layer = layer_at at in
     let tiles = map tile_seen c.args.tiles.now in
     let means = meaning scene tiles layer x in
     let asked = λ (show : Show). shown_asked x scene tiles show layer in
@@ -61,7 +62,7 @@ pub returns-in-Plain-clause-asks : goal.returns-in-Plain-clause-asks
 returns-in-Plain-clause-asks g c = λ x s right decided.
     let at = c.args.at.now in
     let scene = scene_seen g.V.TextTests.tests at.scene.now in
-    let layer = layer_seen at.layer.now in
+    let layer = layer_at at in
     let tiles = map tile_seen c.args.tiles.now in
     let means = meaning scene tiles layer x in
     let asked = λ (show : Show). shown_asked x scene tiles show layer in

@@ -1,9 +1,9 @@
 use Rattle.std.proofs.Common.{◌≡◌, ◌∙◌, ◌+◌, List, [], ◌∷◌, ◌++◌, drop, map, refl, ap, sym}
 use Rattle.std.proofs.lemmas.List.{drop_all, drop_more}
-use Rattle.style_layout.specs.CodeView.{property_seen, scene_seen}
+use Rattle.style_layout.specs.CodeView.{scene_seen}
 use Rattle.style_layout.specs.declared.properties.Property.{Property}
 use Rattle.asked_cells.specs.Asked.{value_asked, values_asked}
-use Rattle.asked_cells.specs.SeenCells.{cell_feature}
+use Rattle.asked_cells.specs.SeenCells.{cell_feature, property_at}
 use Rattle.asked_cells.specs.Counted.{kept_in}
 use Rattle.asked_cells.proofs.AskLaws.{all_asked, all_remain, first_meant, remain_same, some_asked, stops, stops_within}
 use Rattle.asked_cells.proofs.SourceLaws.{expressions_on, feature_on, leaves_all, leaves_then, slots_on}
@@ -15,7 +15,7 @@ loop-property-init g c = record {
   sources = leaves_all c.args.at.now.number c.args.self.now.buckets;
   asks = λ x meaning s right meant. all_remain meaning
       (values_asked x (scene_seen g.V.TextTests.tests c.args.at.now.scene.now) (cell_feature c.args.feature)
-      (map property_seen c.args.properties.now)) (kept_in c.args.self.now.buckets c.args.at.now.number) c.args.steps.now right meant;
+      (map (property_at c.args.at.now) c.args.properties.now)) (kept_in c.args.self.now.buckets c.args.at.now.number) c.args.steps.now right meant;
 }
 
 pub ask_value-requires-clause-slots : goal.ask_value-requires-clause-slots
@@ -44,8 +44,8 @@ loop-property-preserved g c =
       sound = c.ask_value.ensures.sound;
       sources = leaves_then n first now new c.loop-property.invariant.sources c.ask_value.ensures.sources;
       asks = λ x meaning s right meant.
-          let asked = λ (xs : List Property). values_asked x scene feature (map property_seen xs) in
-          let one = value_asked x scene feature (property_seen p) in
+          let asked = λ (xs : List Property). values_asked x scene feature (map (property_at c.args.at.now) xs) in
+          let one = value_asked x scene feature (property_at c.args.at.now p) in
           let left = remain_same meaning (asked (drop i ps)) (one ++ asked (drop (i + 1) ps)) (asked ps) (kept_in first n) (kept_in now n)
           c.loop-property.number c.args.steps.now c.loop-property.steps (ap asked split)
           (c.loop-property.invariant.asks x meaning s right meant) in
@@ -74,8 +74,8 @@ returns-in_err-more-clause-asks g c = λ x meaning s right meant.
     let p = c.property-item.result in
     let split : drop i ps ≡ p ∷ drop (i + 1) ps =
     drop_more ps i p c.loop-property-test.true ∙ ap (λ x. x ∷ drop (i + 1) ps) (sym c.property-item.is) in
-    let asked = λ (xs : List Property). values_asked x scene feature (map property_seen xs) in
-    let one = value_asked x scene feature (property_seen p) in
+    let asked = λ (xs : List Property). values_asked x scene feature (map (property_at c.args.at.now) xs) in
+    let one = value_asked x scene feature (property_at c.args.at.now p) in
     let later = asked (drop (i + 1) ps) in
     let number = c.loop-property.number in
     let before = c.args.steps.now in
@@ -106,8 +106,8 @@ returns-in_err-number-clause-asks g c = λ x meaning s right meant.
     let p = c.property-item.result in
     let split : drop i ps ≡ p ∷ drop (i + 1) ps =
     drop_more ps i p c.loop-property-test.true ∙ ap (λ x. x ∷ drop (i + 1) ps) (sym c.property-item.is) in
-    let asked = λ (xs : List Property). values_asked x scene feature (map property_seen xs) in
-    let one = value_asked x scene feature (property_seen p) in
+    let asked = λ (xs : List Property). values_asked x scene feature (map (property_at c.args.at.now) xs) in
+    let one = value_asked x scene feature (property_at c.args.at.now p) in
     let later = asked (drop (i + 1) ps) in
     let number = c.loop-property.number in
     let before = c.args.steps.now in
@@ -125,7 +125,7 @@ pub returns-clause-asks : goal.returns-clause-asks
 returns-clause-asks g c = λ x meaning s right meant.
     let scene = scene_seen g.V.TextTests.tests c.args.at.now.scene.now in
     let asked = λ (xs : List Property).
-    values_asked x scene (cell_feature c.args.feature) (map property_seen xs) in
+    values_asked x scene (cell_feature c.args.feature) (map (property_at c.args.at.now) xs) in
     let ps = c.args.properties.now in
     let i = c.loop-property.property-index in
     let first = kept_in c.args.self.now.buckets c.args.at.now.number in

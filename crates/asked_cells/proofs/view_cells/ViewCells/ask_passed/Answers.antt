@@ -1,8 +1,9 @@
 use Rattle.std.proofs.Common.{◌≡◌, Some, [], ap, sym, if◌then◌else◌}
-use Rattle.style_layout.specs.CodeView.{feature_seen, layer_seen, scene_seen}
+use Rattle.style_layout.specs.CodeView.{feature_seen, scene_seen}
 use Rattle.asked_cells.specs.Asked.{passed_asked, values_asked}
 use Rattle.asked_cells.specs.Counted.{kept_in}
 use Rattle.asked_cells.proofs.AskLaws.{asks_same, meant_same, none_asked}
+use Rattle.asked_cells.specs.SeenCells.{layer_at}
 use Rattle.asked_cells.proofs.view_cells.ViewCells.ask_passed.Goals as goal
 
 pub returns-then-passes-clause-asks : goal.returns-then-passes-clause-asks
@@ -10,7 +11,7 @@ returns-then-passes-clause-asks g c = λ x meaning s right meant.
     let at = c.args.at.now in
     let scene = scene_seen g.V.TextTests.tests at.scene.now in
     let f = feature_seen c.args.feature.now in
-    let ps = (layer_seen at.layer.now).properties in
+    let ps = (layer_at at).properties in
     let values = values_asked x scene (Some f) ps in
     let passed = passed_asked x scene c.args.passes f ps in
     let same : values ≡ passed = sym (ap (λ b. if b then values else []) c.if-passes.true) in
@@ -22,7 +23,7 @@ returns-else-passes-clause-asks g c = λ x meaning s right meant.
     let at = c.args.at.now in
     let scene = scene_seen g.V.TextTests.tests at.scene.now in
     let f = feature_seen c.args.feature.now in
-    let ps = (layer_seen at.layer.now).properties in
+    let ps = (layer_at at).properties in
     let same : [] ≡ passed_asked x scene c.args.passes f ps =
     sym (ap (λ b. if b then values_asked x scene (Some f) ps else []) c.if-passes.false) in
     asks_same meaning [] (passed_asked x scene c.args.passes f ps) (kept_in c.args.self.now.buckets at.number)

@@ -1,9 +1,10 @@
 use Rattle.std.proofs.Common.{◌∙◌, map, None}
-use Rattle.style_layout.specs.CodeView.{layer_seen, scene_seen, tile_seen}
+use Rattle.style_layout.specs.CodeView.{scene_seen, tile_seen}
 use Rattle.asked_cells.proofs.AskLaws.{both_asked, first_stops, meant_first, meant_then, second_right, second_stops}
 use Rattle.asked_cells.proofs.SourceLaws.{expressions_on, leaves_then, slots_on}
 use Rattle.asked_cells.specs.Asked.{features_asked, values_asked}
 use Rattle.asked_cells.specs.Counted.{kept_in}
+use Rattle.asked_cells.specs.SeenCells.{layer_at}
 use Rattle.asked_cells.proofs.view_cells.ViewCells.ask_plain.Goals as goal
 
 pub ask_features-requires-clause-slots : goal.ask_features-requires-clause-slots
@@ -17,7 +18,7 @@ pub returns-in_err-own-clause-asks : goal.returns-in_err-own-clause-asks
 returns-in_err-own-clause-asks g c = λ x meaning s right decided meant.
     let scene = scene_seen g.V.TextTests.tests c.args.at.now.scene.now in
     let n = c.args.at.now.number in
-    let layer = layer_seen c.args.at.now.layer.now in
+    let layer = layer_at c.args.at.now in
     let tiles = map tile_seen c.args.tiles.now in
     let xs = values_asked x scene None layer.properties in
     let ys = features_asked x scene tiles layer in
@@ -35,7 +36,7 @@ pub returns-in_err-others-clause-asks : goal.returns-in_err-others-clause-asks
 returns-in_err-others-clause-asks g c = λ x meaning s right decided meant.
     let scene = scene_seen g.V.TextTests.tests c.args.at.now.scene.now in
     let n = c.args.at.now.number in
-    let layer = layer_seen c.args.at.now.layer.now in
+    let layer = layer_at c.args.at.now in
     let tiles = map tile_seen c.args.tiles.now in
     let xs = values_asked x scene None layer.properties in
     let ys = features_asked x scene tiles layer in
@@ -61,7 +62,7 @@ pub returns-clause-asks : goal.returns-clause-asks
 returns-clause-asks g c = λ x meaning s right decided meant.
     let scene = scene_seen g.V.TextTests.tests c.args.at.now.scene.now in
     let n = c.args.at.now.number in
-    let layer = layer_seen c.args.at.now.layer.now in
+    let layer = layer_at c.args.at.now in
     let tiles = map tile_seen c.args.tiles.now in
     let xs = values_asked x scene None layer.properties in
     let ys = features_asked x scene tiles layer in

@@ -1,8 +1,7 @@
 use Rattle.std.proofs.Common.{◌≡◌, ◌∙◌, ◌++◌, List, ap, arith, map, subst, sym}
-use Rattle.style_layout.specs.CodeView.{property_seen}
 use Rattle.style_layout.specs.Shown.{goes_before, layer_features, numbered, shown_features}
 use Rattle.bare_listing.specs.Costs.{keys_cost, nodes_by, one_of, rests_cost}
-use Rattle.bare_listing.specs.SeenLayer.{AreKeyed, feature_of, layer_in, lines_of, scene_in, slots_in, sources_in, tiles_in}
+use Rattle.bare_listing.specs.SeenLayer.{AreKeyed, feature_of, layer_in, lines_of, property_in, scene_in, slots_in, sources_in, tiles_in}
 use Rattle.bare_listing.specs.declared.feature_order.PassedFeature.{PassedFeature}
 use Rattle.bare_listing.proofs.CostLaws.{sorted_cost}
 use Rattle.bare_listing.proofs.OrderLaws.{in_key_order, on_ok, place_gives, sorted_keyed, summed}
@@ -13,14 +12,14 @@ keyed_features-requires-clause-slot g c =
     let l = c.args.self.now in
     let sort = c.args.sort.now in
     (place_gives (scene_in g.V.TextTests.tests l) (slots_in g.E.CountedEvaluator.slots l) (layer_in l) (sources_in l) sort.place
-    (property_seen sort.property.now) c.requires.given.values c.requires.sorts.place sort.source c.requires.sorts.source).0
+    (property_in l sort.property.now) c.requires.given.values c.requires.sorts.place sort.source c.requires.sorts.source).0
 
 pub returns-in_err-keyed-clause-most : goal.returns-in_err-keyed-clause-most
 returns-in_err-keyed-clause-most g c =
     let l = c.args.self.now in
     let scene = scene_in g.V.TextTests.tests l in
     let sort = c.args.sort.now in
-    let p = property_seen sort.property.now in
+    let p = property_in l sort.property.now in
     let all = numbered 0 (layer_features (tiles_in l) (layer_in l)) in
     let whole = sorted_cost (nodes_by (slots_in g.E.CountedEvaluator.slots l)) (sources_in l) scene (layer_in l) sort.source sort.place p
     c.requires.sorts.place c.requires.sorts.own c.requires.sorts.source (goes_before scene p) all in
@@ -32,7 +31,7 @@ returns-in_err-put_in_order-clause-most g c =
     let l = c.args.self.now in
     let scene = scene_in g.V.TextTests.tests l in
     let sort = c.args.sort.now in
-    let p = property_seen sort.property.now in
+    let p = property_in l sort.property.now in
     let all = numbered 0 (layer_features (tiles_in l) (layer_in l)) in
     let whole = sorted_cost (nodes_by (slots_in g.E.CountedEvaluator.slots l)) (sources_in l) scene (layer_in l) sort.source sort.place p
     c.requires.sorts.place c.requires.sorts.own c.requires.sorts.source (goes_before scene p) all in
@@ -45,7 +44,7 @@ write_keyed-requires-clause-keyed g c =
     let scene = scene_in g.V.TextTests.tests l in
     let slots = slots_in g.E.CountedEvaluator.slots l in
     let sort = c.args.sort.now in
-    let p = property_seen sort.property.now in
+    let p = property_in l sort.property.now in
     let gives = place_gives scene slots (layer_in l) (sources_in l) sort.place p c.requires.given.values c.requires.sorts.place
     sort.source c.requires.sorts.source in
     let sorted = c.as_slice.ensures.value ∙ c.in_ok-put_in_order.ensures in
@@ -59,7 +58,7 @@ returns-in_err-others-clause-most g c =
     let scene = scene_in g.V.TextTests.tests l in
     let slots = slots_in g.E.CountedEvaluator.slots l in
     let sort = c.args.sort.now in
-    let p = property_seen sort.property.now in
+    let p = property_in l sort.property.now in
     let all = numbered 0 (layer_features (tiles_in l) (layer_in l)) in
     let gives = place_gives scene slots (layer_in l) (sources_in l) sort.place p c.requires.given.values c.requires.sorts.place
     sort.source c.requires.sorts.source in
@@ -79,7 +78,7 @@ returns-clause-most g c =
     let scene = scene_in g.V.TextTests.tests l in
     let slots = slots_in g.E.CountedEvaluator.slots l in
     let sort = c.args.sort.now in
-    let p = property_seen sort.property.now in
+    let p = property_in l sort.property.now in
     let all = numbered 0 (layer_features (tiles_in l) (layer_in l)) in
     let gives = place_gives scene slots (layer_in l) (sources_in l) sort.place p c.requires.given.values c.requires.sorts.place
     sort.source c.requires.sorts.source in
@@ -99,7 +98,7 @@ returns-clause-number g c =
     let scene = scene_in g.V.TextTests.tests l in
     let slots = slots_in g.E.CountedEvaluator.slots l in
     let sort = c.args.sort.now in
-    let p = property_seen sort.property.now in
+    let p = property_in l sort.property.now in
     let all = numbered 0 (layer_features (tiles_in l) (layer_in l)) in
     let gives = place_gives scene slots (layer_in l) (sources_in l) sort.place p c.requires.given.values c.requires.sorts.place
     sort.source c.requires.sorts.source in
@@ -120,7 +119,7 @@ returns-clause-lines g c =
     let scene = scene_in g.V.TextTests.tests l in
     let slots = slots_in g.E.CountedEvaluator.slots l in
     let sort = c.args.sort.now in
-    let p = property_seen sort.property.now in
+    let p = property_in l sort.property.now in
     let gives = place_gives scene slots (layer_in l) (sources_in l) sort.place p c.requires.given.values c.requires.sorts.place
     sort.source c.requires.sorts.source in
     let features = ap (map feature_of) (c.as_slice.ensures.value ∙ c.in_ok-put_in_order.ensures)

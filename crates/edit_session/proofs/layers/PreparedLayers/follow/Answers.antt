@@ -6,7 +6,7 @@ use Rattle.style_edits.specs.Undone.{IsWithin, undone_layers}
 use Rattle.style_edits.specs.declared.undo.Undo.{Undo}
 use Rattle.style_layout.specs.CodeView.{tile_seen}
 use Rattle.edit_session.specs.PreparedLayers.{ArePrepared}
-use Rattle.kept_layers.specs.KeptLayers.{prepared_layer}
+use Rattle.kept_layers.specs.KeptLayers.{outline_of}
 use Rattle.kept_layers.specs.View.{IsTyped}
 use Rattle.edit_session.proofs.FollowSteps.{added_follows, changed_follows, moved_follows, removed_follows}
 use Rattle.edit_session.proofs.LayerLists.{item_at, typed_at}
@@ -54,7 +54,7 @@ returns-in-Removed-clause-follows c =
     let globals = c.args.globals.now in
     let within = subst (λ (u : Undo). IsWithin u us) c.in-Removed.is c.requires.within in
     let before = subst (λ (u : Undo). ArePrepared tiles globals (undone_layers u us) old) c.in-Removed.is c.requires.before in
-    removed_follows tiles globals us old c.remove.new.self _ _ within before c.requires.few (prepared_layer globals null)
+    removed_follows tiles globals us old c.remove.new.self _ _ within before c.requires.few (outline_of globals null)
     c.remove.ensures.layers c.remove.ensures.cells c.remove.ensures.reads c.remove.ensures.limit
 
 pub returns-in-Moved-clause-follows : goal.returns-in-Moved-clause-follows
@@ -65,5 +65,5 @@ returns-in-Moved-clause-follows c =
     let globals = c.args.globals.now in
     let within = subst (λ (u : Undo). IsWithin u us) c.in-Moved.is c.requires.within in
     let before = subst (λ (u : Undo). ArePrepared tiles globals (undone_layers u us) old) c.in-Moved.is c.requires.before in
-    moved_follows tiles globals us old _ _ _ within.0 within.1 before c.requires.few (prepared_layer globals null)
-    (c.move_layer.ensures (prepared_layer globals null)) refl refl refl
+    moved_follows tiles globals us old _ _ _ within.0 within.1 before c.requires.few (outline_of globals null)
+    (c.move_layer.ensures (outline_of globals null)) refl refl refl

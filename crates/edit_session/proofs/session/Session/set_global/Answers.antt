@@ -1,7 +1,8 @@
-use Rattle.std.proofs.Common.{◌∙◌, sym, subst}
+use Rattle.std.proofs.Common.{◌∙◌, ap, map, sym, subst}
 use Rattle.decimal_json.specs.View.{tree_of}
 use Rattle.feature_index.specs.Indexes.{AreIndexed}
 use Rattle.style_edits.specs.Layers.{layer_list}
+use Rattle.style_layout.specs.Outlines.{layer_outline}
 use Rattle.edit_session.specs.LayerMarks.{AreMarks}
 use Rattle.edit_session.specs.View.{tiles_of, IsWholeDocument}
 use Rattle.edit_session.specs.declared.session.Session.{Session}
@@ -29,7 +30,7 @@ returns-clause-ready c =
             record {
               is_limited = ready.is_limited;
               is_accepted = whole;
-              is_prepared = ready.is_prepared ∙ sym (style_steady document new s.globals (ready.is_noted w.if-self.false));
+              is_prepared = ready.is_prepared ∙ ap (map layer_outline) (sym (style_steady document new s.globals (ready.is_noted w.if-self.false)));
               is_counted = counted;
               is_noted = ready.is_noted;
             },

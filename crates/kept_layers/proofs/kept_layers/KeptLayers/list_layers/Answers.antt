@@ -1,9 +1,11 @@
 use Rattle.std.proofs.Common.{◌≡◌, ◌+◌, ◌<◌, ◌≤◌, length, get_or, refl, ap, sym, subst, ◌∙◌, arith, vec_len}
-use Rattle.style_layout.specs.CodeView.{layer_seen, layers_seen, scene_seen}
+use Rattle.style_layout.specs.CodeView.{document_layer, scene_seen}
+use Rattle.std.proofs.lemmas.List.{length-map}
 use Rattle.form_pool.specs.PoolSlots.{pool_slots}
 use Rattle.kept_layers.proofs.ListLaws.{all_counts, all_kept_after, asked_counts, asked_keeps, failed_counts, layers_length, lines_end, lines_first, lines_next, most_taken, none_counted, stops_here, this_kept_layer, this_layer, this_there, this_within}
 use Rattle.kept_layers.proofs.NumberedLaws.{asked_numbered}
 use Rattle.kept_layers.specs.Holding.{AreHeld, AreRightIn, style_kept}
+use Rattle.kept_layers.specs.KeptLayers.{prepared_layer, prepared_layers}
 use Rattle.kept_layers.specs.View.{globals_in, kept_seen, tiles_in, trees_in}
 use Rattle.kept_layers.proofs.kept_layers.KeptLayers.list_layers.Goals as goal
 
@@ -17,7 +19,7 @@ loop-place-init g c =
       counts = none_counted pool_slots scene (tiles_in style) (globals_in style) c.args.self.now.numbers.items (trees_in style)
           c.args.self.now.cells.buckets c.args.steps.now c.requires.holds c.requires.right;
       keeps = refl;
-      text = lines_first scene (tiles_in style) c.args.out.now.items (layers_seen style.style.now);
+      text = lines_first scene (tiles_in style) c.args.out.now.items (prepared_layers (globals_in style) (trees_in style));
     }
 
 pub index-requires : goal.index-requires
@@ -25,15 +27,17 @@ index-requires g c =
     let same = ap (λ v. vec_len v) c.loop-place.invariant.numbers in
     omega (arith, same, c.loop-place-test.true, c.len-place-end.ensures)
 
-pub layer-requires : goal.layer-requires
-layer-requires g c =
+pub listed_layer-requires-clause-within : goal.listed_layer-requires-clause-within
+listed_layer-requires-clause-within g c =
     let ns = c.args.self.now.numbers.items in
     let i = c.loop-place.invariant in
     let k = c.loop-place.place in
     let x = c.index.result.now in
     let within : k < length ns = omega (arith, c.loop-place-test.true, c.len-place-end.ensures, c.args.self.now.numbers.ok.0) in
     let is : x ≡ get_or ns k x = c.index.ensures ∙ ap (λ v. get_or v.items k x) i.numbers in
-    this_within i.counts x within is (layers_seen c.args.style.now.style.now) c.requires.prepared.prepared
+    let style = c.args.style.now in
+    let there = this_within i.counts x within is (prepared_layers (globals_in style) (trees_in style)) refl in
+    omega (arith, there, length-map (trees_in style) (prepared_layer (globals_in style)))
 
 pub list_layer-requires-clause-sound : goal.list_layer-requires-clause-sound
 list_layer-requires-clause-sound g c =
@@ -47,8 +51,8 @@ list_layer-requires-clause-layer g c =
     let x = c.index.result.now in
     let within : k < length ns = omega (arith, c.loop-place-test.true, c.len-place-end.ensures, c.args.self.now.numbers.ok.0) in
     let is : x ≡ get_or ns k x = c.index.ensures ∙ ap (λ v. get_or v.items k x) i.numbers in
-    let layer = layer_seen c.layer.result.now in
-    let found = this_layer i.counts x within is (layers_seen c.args.style.now.style.now) layer c.requires.prepared.prepared c.layer.ensures in
+    let layer = document_layer c.listed_layer.result in
+    let found = this_layer i.counts x within is (prepared_layers (globals_in c.args.style.now) (trees_in c.args.style.now)) layer refl c.listed_layer.ensures in
     this_kept_layer i.counts x within is layer found c.requires.prepared.few
 
 pub returns-in_err-more-clause-numbered : goal.returns-in_err-more-clause-numbered
@@ -73,8 +77,8 @@ returns-in_err-more-clause-counts g c =
     let x = c.index.result.now in
     let within : k < length ns = omega (arith, c.loop-place-test.true, c.len-place-end.ensures, c.args.self.now.numbers.ok.0) in
     let is : x ≡ get_or ns k x = c.index.ensures ∙ ap (λ v. get_or v.items k x) i.numbers in
-    let layer = layer_seen c.layer.result.now in
-    let found = this_layer i.counts x within is (layers_seen c.args.style.now.style.now) layer c.requires.prepared.prepared c.layer.ensures in
+    let layer = document_layer c.listed_layer.result in
+    let found = this_layer i.counts x within is (prepared_layers (globals_in c.args.style.now) (trees_in c.args.style.now)) layer refl c.listed_layer.ensures in
     failed_counts scene (tiles_in style) (globals_in style) (trees_in style) (kept_seen c.args.self.now) c.args.steps.now c.list_layer.new.steps
     c.from_residual.result c.from_residual.ensures.0
     (stops_here i.counts x within is layer found c.filters_are_decided.ensures c.list_layer.new.self.cells.buckets c.list_layer.new.steps
@@ -102,8 +106,8 @@ returns-in_err-number-clause-counts g c =
     let x = c.index.result.now in
     let within : k < length ns = omega (arith, c.loop-place-test.true, c.len-place-end.ensures, c.args.self.now.numbers.ok.0) in
     let is : x ≡ get_or ns k x = c.index.ensures ∙ ap (λ v. get_or v.items k x) i.numbers in
-    let layer = layer_seen c.layer.result.now in
-    let found = this_layer i.counts x within is (layers_seen c.args.style.now.style.now) layer c.requires.prepared.prepared c.layer.ensures in
+    let layer = document_layer c.listed_layer.result in
+    let found = this_layer i.counts x within is (prepared_layers (globals_in c.args.style.now) (trees_in c.args.style.now)) layer refl c.listed_layer.ensures in
     let law = c.filters_are_decided.ensures in
     let asked = c.list_layer.new.self.cells.buckets in
     let leaves = c.list_layer.ensures.sources in
@@ -121,8 +125,8 @@ loop-place-preserved g c =
     let x = c.index.result.now in
     let within : k < length ns = omega (arith, c.loop-place-test.true, c.len-place-end.ensures, c.args.self.now.numbers.ok.0) in
     let is : x ≡ get_or ns k x = c.index.ensures ∙ ap (λ v. get_or v.items k x) i.numbers in
-    let layer = layer_seen c.layer.result.now in
-    let found = this_layer i.counts x within is (layers_seen c.args.style.now.style.now) layer c.requires.prepared.prepared c.layer.ensures in
+    let layer = document_layer c.listed_layer.result in
+    let found = this_layer i.counts x within is (prepared_layers (globals_in c.args.style.now) (trees_in c.args.style.now)) layer refl c.listed_layer.ensures in
     let law = c.filters_are_decided.ensures in
     let asked = c.list_layer.new.self.cells.buckets in
     let leaves = c.list_layer.ensures.sources in
@@ -134,8 +138,8 @@ loop-place-preserved g c =
           c.in_ok-number.number c.in_ok-number.ensures;
       keeps = asked_keeps i.counts x within is layer found law asked c.list_layer.new.steps c.requires.numbered.apart c.in_ok-more.more c.in_ok-more.ensures.asks leaves i.keeps;
       text = lines_next scene (tiles_in c.args.style.now) c.args.out.now.items c.loop-place.out.items c.list_layer.new.out.items
-          (layers_seen c.args.style.now.style.now) k layer (this_within i.counts x within is (layers_seen c.args.style.now.style.now) c.requires.prepared.prepared)
-          c.layer.ensures i.text c.in_ok-more.ensures.lines;
+          (prepared_layers (globals_in c.args.style.now) (trees_in c.args.style.now)) k layer (this_within i.counts x within is (prepared_layers (globals_in c.args.style.now) (trees_in c.args.style.now)) refl)
+          c.listed_layer.ensures i.text c.in_ok-more.ensures.lines;
     }
 
 pub returns-clause-numbered : goal.returns-clause-numbered
@@ -164,9 +168,9 @@ returns-clause-listed g c =
 pub returns-clause-text : goal.returns-clause-text
 returns-clause-text g c =
     let scene = scene_seen g.V.TextTests.tests c.args.scene.now in
-    let layers = layers_seen c.args.style.now.style.now in
+    let layers = prepared_layers (globals_in c.args.style.now) (trees_in c.args.style.now) in
     let i = c.loop-place.invariant in
     let past : length c.args.self.now.numbers.items ≤ c.loop-place.place =
     omega (arith, c.loop-place-test.false, c.len-place-end.ensures, c.args.self.now.numbers.ok.0) in
-    let all : length layers ≤ c.loop-place.place = omega (arith, past, layers_length i.counts layers c.requires.prepared.prepared) in
+    let all : length layers ≤ c.loop-place.place = omega (arith, past, layers_length i.counts layers refl) in
     lines_end scene (tiles_in c.args.style.now) c.args.out.now.items c.loop-place.out.items layers c.loop-place.place all i.text

@@ -1,7 +1,8 @@
 use Rattle.std.proofs.Common.{◌≡◌, ◌++◌, drop}
-use Rattle.style_layout.specs.CodeView.{layers_seen, scene_seen}
+use Rattle.style_layout.specs.CodeView.{scene_seen}
 use Rattle.form_pool.specs.PoolSlots.{pool_slots}
 use Rattle.kept_layers.proofs.ListLaws.{CountsFirst, KeepsFirst, lines_of}
+use Rattle.kept_layers.specs.KeptLayers.{prepared_layers}
 use Rattle.kept_layers.specs.View.{AreNumbered, globals_in, kept_seen, tiles_in, trees_in}
 use Rattle.kept_layers.proofs.kept_layers.KeptLayers.list_layers.Given as goal
 
@@ -11,7 +12,7 @@ invariant-loop-place g l =
     let ns = l.fn.self.numbers.items in
     let first = kept_seen l.fn.self in
     let lines = lines_of scene (tiles_in l.style) in
-    let layers = layers_seen l.style.style.now in
+    let layers = prepared_layers (globals_in l.style) (trees_in l.style) in
     record {
       numbered : AreNumbered l.self;
       numbers : l.self.numbers ≡ l.fn.self.numbers;

@@ -13,7 +13,7 @@ use Rattle.style_layout.specs.CodeView.{layer_seen, layers_seen}
 use Rattle.style_layout.specs.Shown.{layer_features}
 use Rattle.form_pool.specs.PoolSlots.{pool_slots}
 use Rattle.kept_layers.specs.Holding.{HasLayer, IsRight, Pairwise, style_kept}
-use Rattle.kept_layers.specs.KeptLayers.{id_at, is_feature, is_stale_state, prepared_layer, prepared_layers}
+use Rattle.kept_layers.specs.KeptLayers.{id_at, is_feature, is_stale_state, outline_of, prepared_layer, prepared_layers}
 use Rattle.feature_index.specs.Ids.{is_id}
 use Rattle.feature_index.specs.Indexes.{AreIndexed}
 use Rattle.feature_index.specs.declared.indexes.FeatureIndexes.{FeatureIndexes}
@@ -21,10 +21,10 @@ use Rattle.kept_layers.specs.View.{globals_in, tiles_in, trees_in}
 use Rattle.kept_layers.proofs.DropLaws.{all_kept, all_right, all_still, bare_still}
 use Rattle.kept_layers.proofs.Lists.{get_same, pairs_lengths}
 use Rattle.kept_layers.proofs.NumberedLaws.{still_numbered}
-use Rattle.kept_layers.proofs.OneLayers.{few_at, prepared_at}
+use Rattle.kept_layers.proofs.OneLayers.{few_at, outline_at, outline_within, prepared_at}
 use Rattle.kept_layers.proofs.SceneLaws.{state_means}
 use Rattle.kept_layers.proofs.StateLaws.{not_shown}
-use Rattle.kept_layers.proofs.TurnLaws.{AreTurned, all_turned, layer_turned, none_turned, passed_by}
+use Rattle.kept_layers.proofs.TurnLaws.{AreTurned, all_turned, layer_turned, none_turned, outline_feature, passed_by}
 use Rattle.kept_layers.specs.declared.kept_layers.KeptLayers.{KeptLayers}
 use Rattle.kept_layers.proofs.kept_layers.KeptLayers.turn_state.Goals as goal
 use Rattle.kept_layers.proofs.kept_layers.KeptLayers.turn_state.Goals.{then-shows, else-shows}
@@ -58,8 +58,7 @@ layer-shown-requires c =
     let more : index < length ps = omega (arith, c.loop-index-test.true, c.len-index-end.ensures) in
     let within : place < length ns = subst (λ p. p < length ns) (sym placed) (below_get (length ns) ps index place more c.requires.numbered.states.within) in
     let same = pairs_lengths (HasLayer pool_slots (tiles_in s) (globals_in s) old) ns (trees_in s) c.requires.holds in
-    let counted = ap length c.requires.prepared.prepared in
-    omega (arith, same, counted, length-map (trees_in s) (prepared_layer (globals_in s)), within)
+    outline_within (globals_in s) (trees_in s) (layers_seen s.style.now) place (omega (arith, same, within)) c.requires.prepared.prepared
 
 pub drop_features-requires-clause-few : goal.drop_features-requires-clause-few
 drop_features-requires-clause-few c =
@@ -73,11 +72,16 @@ drop_features-requires-clause-few c =
     let more : index < length ps = omega (arith, c.loop-index-test.true, c.len-index-end.ensures) in
     let within : place < length ns = subst (λ p. p < length ns) (sym placed) (below_get (length ns) ps index place more c.requires.numbered.states.within) in
     let same = pairs_lengths (HasLayer pool_slots (tiles_in s) (globals_in s) old) ns (trees_in s) c.requires.holds in
-    let found = c.layer-shown.ensures ∙ ap (λ ls. slice_index_or ls place (layer_seen c.layer-shown.result.now)) c.requires.prepared.prepared in
+    let inside : place < length (trees_in s) = omega (arith, same, within) in
+    let known = prepared_layer (globals_in s) (slice_index_or (trees_in s) place null) in
+    let found = c.layer-shown.ensures
+    ∙ outline_at (globals_in s) (trees_in s) (layers_seen s.style.now) place null (layer_seen c.layer-shown.result.now) inside c.requires.prepared.prepared in
     let counted : place < length (prepared_layers (globals_in s) (trees_in s)) =
     omega (arith, same, length-map (trees_in s) (prepared_layer (globals_in s)), within) in
     subst (λ l. length (layer_features (tiles_in s) l) < 4294967295) (sym found)
-    (few_at (tiles_in s) (prepared_layers (globals_in s) (trees_in s)) place 4294967295 (layer_seen c.layer-shown.result.now) counted c.requires.prepared.few)
+    (subst (λ l. length (layer_features (tiles_in s) l) < 4294967295)
+    (prepared_at (globals_in s) (trees_in s) (prepared_layers (globals_in s) (trees_in s)) place null known inside refl)
+    (few_at (tiles_in s) (prepared_layers (globals_in s) (trees_in s)) place 4294967295 known counted c.requires.prepared.few))
 
 pub index-number-requires : goal.index-number-requires
 index-number-requires c =
@@ -108,8 +112,8 @@ loop-index-preserved c =
     let same = pairs_lengths (HasLayer pool_slots (tiles_in s) (globals_in s) old) ns ts c.requires.holds in
     let counted : place < length ts = omega (arith, same, within) in
     let shown = layer_seen c.layer-shown.result.now in
-    let is_shown : shown ≡ prepared_layer (globals_in s) (get_or ts place null) = c.layer-shown.ensures
-    ∙ prepared_at (globals_in s) ts (layers_seen s.style.now) place null shown counted c.requires.prepared.prepared in
+    let is_shown : shown ≡ outline_of (globals_in s) (get_or ts place null) = c.layer-shown.ensures
+    ∙ outline_at (globals_in s) ts (layers_seen s.style.now) place null shown counted c.requires.prepared.prepared in
     let Turned : KeptLayers × FeatureIndexes → Type 0 = λ kx. record {
       numbers : kx.0.numbers ≡ c.args.self.now.numbers;
       reads : kx.0.reads_globals ≡ c.args.self.now.reads_globals;
@@ -141,7 +145,8 @@ loop-index-preserved c =
           })
       | else-shows w ↦
           let none : (o : Option ℕ) → is_feature c.args.source.now c.args.source_layer.now c.args.id (prepared_layer (globals_in s) (get_or ts place null)) o ≡ false =
-          λ o. ap (λ l. is_feature c.args.source.now c.args.source_layer.now c.args.id l o) (sym is_shown)
+          λ o. sym (outline_feature c.args.source.now c.args.source_layer.now c.args.id (prepared_layer (globals_in s) (get_or ts place null)) o)
+          ∙ ap (λ l. is_feature c.args.source.now c.args.source_layer.now c.args.id l o) (sym is_shown)
           ∙ not_shown c.args.source.now c.args.source_layer.now c.args.id shown o (sym w.if-shows.ensures) in
           subst Turned (λ j. (sym w.self-is j, sym w.indexes-is j)) (record {
             numbers = i.numbers;
