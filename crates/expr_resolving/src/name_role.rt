@@ -20,7 +20,7 @@ pub(crate) fn name_role(op: Operator) -> NameRole
 {
     match op {
         Operator::Let(names) => NameRole::Binds(names),
-        Operator::Var(name) => NameRole::Asks(name),
+        Operator::Var(name) => NameRole::Asks(name.into_text()),
         other => NameRole::Neither(other),
     }
 }

@@ -1,4 +1,4 @@
-//! The names that a `let` binds.
+//! The names that a `let` binds, and the name that a `var` asks.
 
 ghost use Rattle.std.specs.Prelude.{◌≡◌, ◌<◌, ◌^◌, IfOk, IfSome, length};
 ghost use Rattle.expr_syntax.specs.NameIndex.{last_place, ArePlacesOf, IsIndexOf};
@@ -35,6 +35,42 @@ impl Model for Names {
     ghost view = { λ a. a.table.value.names.items };
 
     ghost invariant = { λ a. IsIndexOf a.table.value.places a.table.value.names.items };
+}
+
+/// The name that a `var` asks. It is on the heap too.
+#[derive(Drop)]
+pub struct AskedName {
+    name: Box<Text>,
+}
+
+impl Model for AskedName {
+    ghost use Rattle.std.specs.Prelude.{ℕ, List};
+
+    ghost Value = { List ℕ };
+
+    ghost view = { λ a. a.name.value };
+}
+
+impl AskedName {
+    pub(crate) fn of(alloc: Global, name: Text) -> Result<AskedName, AllocError>
+        ensures { IfOk result (λ made. made ≡ name) }
+    {
+        Ok(AskedName {
+            name: Box::new(alloc, name)?,
+        })
+    }
+
+    pub fn as_text(&self) -> &Text
+        ensures { result.now ≡ self.now }
+    {
+        &*self.name
+    }
+
+    pub fn into_text(self) -> Text
+        ensures { result ≡ self }
+    {
+        Box::into_inner(self.name)
+    }
 }
 
 impl Names {

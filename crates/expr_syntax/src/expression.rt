@@ -4,11 +4,10 @@ ghost use Rattle.expr_syntax.specs.Operators.{operator_name, plain_operator, wan
 ghost use Rattle.expr_syntax.specs.ReadView.{row_view};
 ghost use Rattle.expr_syntax.specs.TermView.{term_of, terms_view};
 
-use crate::bound_names::Names;
+use crate::bound_names::{AskedName, Names};
 use crate::names::Name;
 use crate::parts::{Inputs, Labels, Pieces, Ramp};
 use crate::rows::{OperatorRow, Wanted};
-use decimal_json::Text;
 use prop_values::{Item, Value, Want};
 use std::alloc::{AllocError, Global};
 use std::marker::Model;
@@ -54,7 +53,7 @@ pub enum Operator {
     Step(Inputs),
     Interpolate(Ramp),
     Let(Names),
-    Var(Text),
+    Var(AskedName),
     Zoom,
     Concat,
     Rgb,

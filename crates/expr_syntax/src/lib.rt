@@ -46,7 +46,7 @@ mod text_numbers;
 mod values;
 mod world_parts;
 
-pub use bound_names::Names;
+pub use bound_names::{AskedName, Names};
 pub use expression::{Arguments, Expr, Operator};
 pub use fault::{SynCode, SynFault};
 pub use laws::read_terms_are_sound;

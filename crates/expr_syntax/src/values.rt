@@ -14,7 +14,7 @@ ghost use Rattle.expr_syntax.specs.Parts.{whole_units, length_in, length_of, ste
 ghost use Rattle.expr_syntax.specs.Parts.{value_in, steps_up, base_of, curve_of, curve_from, linear, exponential, curve_in};
 ghost use Rattle.expr_syntax.specs.Parts.{is_name_byte, is_binding_name, names_among, let_operator, var_operator};
 
-use crate::bound_names::Names;
+use crate::bound_names::{AskedName, Names};
 use crate::elements::{after_head, second, second_text, text_in};
 use crate::expression::{Operator, plain_operator};
 use crate::fault::SynCode;
@@ -46,7 +46,7 @@ pub(crate) fn read_operator(
         ElementLayout::Stops => read_step(alloc, items),
         ElementLayout::Ramp => read_interpolate(alloc, items),
         ElementLayout::Bindings => read_let(alloc, items),
-        ElementLayout::Variable => read_var(items, scope),
+        ElementLayout::Variable => read_var(alloc, items, scope),
         _ => Ok(plain_operator(name).ok_or(SynCode::UnknownOperator)),
     }
 }
@@ -318,14 +318,18 @@ fn are_name_bytes(name: &[u8]) -> bool
     true
 }
 
-fn read_var(items: &[Json], scope: &Scope<'_>) -> Result<Result<Operator, SynCode>, AllocError>
+fn read_var(
+    alloc: Global,
+    items: &[Json],
+    scope: &Scope<'_>,
+) -> Result<Result<Operator, SynCode>, AllocError>
     ensures { IfOk result (λ read. read ≡ var_operator (scope_of scope.now) (second_text (trees items.now))) }
 {
     let Some(name) = second_text(items) else {
         return Ok(Err(SynCode::Part));
     };
     if knows(scope, name.as_str()) {
-        Ok(Ok(Operator::Var(name.share()?)))
+        Ok(Ok(Operator::Var(AskedName::of(alloc, name.share()?)?)))
     } else {
         Ok(Err(SynCode::UnknownVar))
     }

@@ -129,7 +129,7 @@ impl Checking {
             Operator::Var(name) => fitted(
                 self.alloc,
                 &context.want,
-                own_named(context.scope, name.as_str()),
+                own_named(context.scope, name.as_text().as_str()),
                 FaultSet::empty(),
                 context.here,
             ),

@@ -40,7 +40,7 @@ pub fn rule_of<'a>(op: &'a Operator) -> OperatorRule<'a>
         Operator::Step(inputs) => OperatorRule::Stops(inputs.as_slice()),
         Operator::Interpolate(ramp) => OperatorRule::Ramp(ramp),
         Operator::Let(names) => OperatorRule::Bindings(names),
-        Operator::Var(name) => OperatorRule::Variable(name),
+        Operator::Var(name) => OperatorRule::Variable(name.as_text()),
         _ => match op.row().manner {
             Manner::Deciding => OperatorRule::Deciding,
             _ => OperatorRule::Each,
