@@ -1,8 +1,7 @@
 -- A layer that can be listed without keeping a cell.
 use Rattle.std.proofs.Common.{◌≡◌, ◌∙◌, ℕ, ◌+◌, ◌≤◌, List, [], ◌∷◌, ◌++◌, length, Bool, true, false, Result, Ok, Err, refl, sym, ap, subst, arith, if◌then◌else◌}
-use Rattle.std.specs.Prelude.{IfOk, OnOk}
+use Rattle.std.specs.Prelude.{IfOk}
 use Rattle.std.specs.Result.{IsErr}
-use Rattle.std.proofs.lemmas.List.{append_assoc}
 use Rattle.expr_nodes.specs.Evaluators.{Sized}
 use Rattle.layer_buckets.specs.Seen.{evaluator_of, source_of}
 use Rattle.layer_buckets.specs.declared.buckets.Buckets.{Buckets}
@@ -63,15 +62,11 @@ none_evaluated asked r before failed = record {
 }
 
 -- the lines of a layer in two parts
-pub lines_by : {A B : Type 0} (scene : Scene) (tiles : List SourceTile) (layer : StyleLayer) (r : Result A B) (old mid new : List ℕ)
-    (show : Show) → show ≡ show_of scene.zoom layer → mid ≡ old ++ layer_line layer.id layer.type show
-    → OnOk r (new ≡ mid ++ below_layer show (values_shown scene tiles show layer) (features_shown scene tiles show layer))
-    → OnOk r (new ≡ old ++ layer_lines (layer_out scene tiles layer))
-lines_by scene tiles layer (Ok x) old mid new show is line below =
-    let under = λ (s : Show). below_layer s (values_shown scene tiles s layer) (features_shown scene tiles s layer) in
-    below ∙ (ap (λ m. m ++ under show) line ∙ (append_assoc old (layer_line layer.id layer.type show) (under show)
-    ∙ ap (λ (s : Show). old ++ (layer_line layer.id layer.type s ++ under s)) is))
-lines_by scene tiles layer (Err x) old mid new show is line below = tt
+pub layer_text : (scene : Scene) (tiles : List SourceTile) (layer : StyleLayer) (show : Show) → show ≡ show_of scene.zoom layer
+    → layer_lines (layer_out scene tiles layer) ≡ layer_line layer.id layer.type show
+    ++ below_layer show (values_shown scene tiles show layer) (features_shown scene tiles show layer)
+layer_text scene tiles layer show is = ap (λ (s : Show). layer_line layer.id layer.type s
+    ++ below_layer s (values_shown scene tiles s layer) (features_shown scene tiles s layer)) (sym is)
 
 -- ---- the lines of features as they come
 
@@ -84,15 +79,12 @@ module _ (scene : Scene) (layer : StyleLayer) where
   lines_if true f fs = refl
   lines_if false f fs = refl
 
-  -- a feature more
-  pub lines_more : (nf : ℕ × Feature) (left rest : List (ℕ × Feature)) (f : LayerFeature) (out new whole : List ℕ)
-      → left ≡ nf ∷ rest → f ≡ with_state scene layer nf → new ≡ out ++ piece f
-      → out ++ lines_of scene layer (those_shown scene layer left) ≡ whole
-      → new ++ lines_of scene layer (those_shown scene layer rest) ≡ whole
-  lines_more nf left rest f out new whole is same written lines =
+  -- the lines of the first feature, where it passes, and those of the others
+  pub lines_left : (nf : ℕ × Feature) (left rest : List (ℕ × Feature)) (f : LayerFeature) → left ≡ nf ∷ rest
+      → f ≡ with_state scene layer nf
+      → lines_of scene layer (those_shown scene layer left) ≡ piece f ++ lines_of scene layer (those_shown scene layer rest)
+  lines_left nf left rest f is same =
       let g = with_state scene layer nf in
       let later = those_shown scene layer rest in
-      ap (λ o. o ++ lines_of scene layer later) (written ∙ ap (λ x. out ++ piece x) same)
-      ∙ (append_assoc out (piece g) (lines_of scene layer later)
-      ∙ (ap (λ o. out ++ o) (sym (lines_if (is_shown scene layer g) g later))
-      ∙ (ap (λ nfs. out ++ lines_of scene layer (those_shown scene layer nfs)) (sym is) ∙ lines)))
+      ap (λ nfs. lines_of scene layer (those_shown scene layer nfs)) is
+      ∙ (lines_if (is_shown scene layer g) g later ∙ ap (λ x. piece x ++ lines_of scene layer later) (sym same))

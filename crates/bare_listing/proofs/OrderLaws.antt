@@ -1,6 +1,6 @@
 -- Features in the order of their keys.
-use Rattle.std.proofs.Common.{◌≡◌, ◌∙◌, ℕ, ℤ, ◌+◌, zero, suc, List, [], ◌∷◌, Bool, true, false, ◌&&◌, Option, Some, None, is_some, option_map, Ok, Err, take, drop, get_or, map, refl, sym, ap, subst, arith, inl, inr, if◌then◌else◌}
-use Rattle.std.specs.Prelude.{IfOk, IfSome, OnOk, Result}
+use Rattle.std.proofs.Common.{◌≡◌, ◌∙◌, ℕ, ℤ, zero, suc, List, [], ◌∷◌, Bool, true, false, ◌&&◌, Option, Some, None, is_some, option_map, Ok, Err, take, drop, get_or, map, refl, sym, ap, subst, inl, inr, if◌then◌else◌}
+use Rattle.std.specs.Prelude.{IfSome}
 use Rattle.std.specs.List.{AllByRecursion, slice_get}
 use Rattle.std.proofs.lemmas.Bool.{cases_Bool, true≢false}
 use Rattle.prop_values.specs.Data.{Data}
@@ -21,17 +21,6 @@ use Rattle.style_layout.specs.SortKeys.{key_of}
 use Rattle.bare_listing.specs.Given.{AreGivenBy, GivesValue, IsGiven, ItemSources, KeepsOrder, given_from, outcome_in, source_world}
 use Rattle.bare_listing.specs.SeenLayer.{AreKeyed, feature_of, key_by, keyed_before, keyed_seen, with_given}
 use Rattle.bare_listing.specs.declared.feature_order.PassedFeature.{PassedFeature}
-
--- what holds in any case holds where a sum is there
-pub on_ok : {A B : Type 0} {Q : Type 0} (r : Result A B) → Q → OnOk r Q
-on_ok (Ok x) q = q
-on_ok (Err x) q = tt
-
--- a sum of two numbers
-pub summed : {B : Type 0} (r : Result ℕ B) (first second a b whole : ℕ) → IfOk r (λ n. n ≡ first + second)
-    → first ≡ a → second ≡ b → a + b ≡ whole → IfOk r (λ n. n ≡ whole)
-summed (Ok n) first second a b whole sum x y all = omega (arith, sum, x, y, all)
-summed (Err e) first second a b whole sum x y all = tt
 
 -- what holds of each element holds of the one at a place
 pub each_at : {X : Type 0} (P : X → Type 0) (xs : List X) (i : ℕ) (x : X) → slice_get xs i ≡ Some x → AllByRecursion P xs → P x

@@ -15,18 +15,21 @@ ghost use Rattle.bare_listing.specs.Given.{IsCommonAnswer, KeepsOrder, given_fro
 ghost use Rattle.bare_listing.specs.SeenLayer.{AreKeyed, IsGivenIn, IsKeyed, Sorts, feature_of, key_by, keyed_before, keyed_seen};
 ghost use Rattle.bare_listing.specs.SeenLayer.{layer_in, lines_of, property_in, scene_in, slots_in, sources_in};
 ghost use Rattle.bare_listing.specs.SeenLayer.{tiles_in, with_given};
+ghost use Rattle.text_pieces.specs.Adding.{Adds};
 
 use crate::bare_layer::{BareLayer, write_evaluated};
 use asked_cells::sum_of;
 use cell_listing::number_of;
 use expr_nodes::{CountedEvaluator, Workspace};
+use halts::Halt;
 use layer_buckets::{CellItem, Source};
 use listing_text::write_feature_line;
-use outside_io::Steps;
+use outside_io::{Sink, SinkFailed, Steps};
 use prop_values::{EvalFault, Value};
 use std::alloc::AllocError;
 use std::sync::ledger::Ledger;
 use style_layout::{LayerFeature, LayerFeatures, Property, TextTests};
+use text_pieces::TextPieces;
 
 /// A property whose values order the features of a layer, its place among the properties, and what gives its values.
 #[derive(Clone, Copy)]
@@ -63,16 +66,16 @@ impl<E: CountedEvaluator + Drop, V: TextTests> BareLayer<'_, E, V> {
         })
     }
 
-    /// Appends the lines of the features that pass, in ascending order of a property, and gives how many cells were
+    /// Adds the lines of the features that pass, in ascending order of a property, and gives how many cells were
     /// evaluated. A feature whose key faulted comes first, and equal ones keep the order of the list.
-    pub(crate) fn write_in_order<L: Ledger>(
+    pub(crate) fn write_in_order<L: Ledger, O: Sink>(
         &self,
         workspace: &mut Workspace,
         common: Option<bool>,
         sort: &SortSource<'_>,
         steps: &mut Steps<L>,
-        out: &mut Vec<u8>,
-    ) -> Result<u64, AllocError>
+        pieces: &mut TextPieces<'_, O>,
+    ) -> Result<u64, Halt<SinkFailed>>
         requires few { length (layer_features (tiles_in self.now) (layer_in self.now)) < 2 ^ 32 }
         requires given { IsGivenIn E.slots V.tests self.now }
         requires common { IsCommonAnswer (scene_in V.tests self.now) (sources_in self.now items.Filter)
@@ -83,15 +86,15 @@ impl<E: CountedEvaluator + Drop, V: TextTests> BareLayer<'_, E, V> {
         ensures least { IfOk result (λ n. steps.old + n ≤ steps.new) }
         ensures most { steps.new ≤ steps.old + features_cost (nodes_by (slots_in E.slots self.now)) (sources_in self.now)
             (scene_in V.tests self.now) (layer_in self.now) (tiles_in self.now) }
-        ensures lines { OnOk result (out.new.items ≡ out.old.items ++ lines_of (scene_in V.tests self.now) (layer_in self.now)
+        ensures text { Adds O.held O.faults result pieces.old pieces.new (lines_of (scene_in V.tests self.now) (layer_in self.now)
             (in_order (goes_before (scene_in V.tests self.now) (property_in self.now sort.now.property.now))
             (shown_features (scene_in V.tests self.now) (layer_in self.now) (tiles_in self.now)))) }
     {
         let mut first = 0;
         let mut keyed = self.keyed_features(workspace, common, sort, steps, &mut first)?;
         put_in_order(&mut keyed)?;
-        let others = self.write_keyed(workspace, sort, keyed.as_slice(), steps, out)?;
-        sum_of(first, others)
+        let others = self.write_keyed(workspace, sort, keyed.as_slice(), steps, pieces)?;
+        Ok(sum_of(first, others)?)
     }
 
     // The features that pass, with their keys. The cells that were evaluated are counted.
@@ -165,15 +168,15 @@ impl<E: CountedEvaluator + Drop, V: TextTests> BareLayer<'_, E, V> {
         Ok((Some(value), sum_of(first, 1)?))
     }
 
-    // Appends the lines of features with their keys, and gives how many cells were evaluated.
-    fn write_keyed<L: Ledger>(
+    // Adds the lines of features with their keys, and gives how many cells were evaluated.
+    fn write_keyed<L: Ledger, O: Sink>(
         &self,
         workspace: &mut Workspace,
         sort: &SortSource<'_>,
         keyed: &[PassedFeature<'_>],
         steps: &mut Steps<L>,
-        out: &mut Vec<u8>,
-    ) -> Result<u64, AllocError>
+        pieces: &mut TextPieces<'_, O>,
+    ) -> Result<u64, Halt<SinkFailed>>
         requires given { IsGivenIn E.slots V.tests self.now }
         requires sorts { Sorts self.now sort.now }
         requires keyed { AreKeyed (scene_in V.tests self.now) (slots_in E.slots self.now) sort.now.source keyed.now }
@@ -182,13 +185,14 @@ impl<E: CountedEvaluator + Drop, V: TextTests> BareLayer<'_, E, V> {
         ensures least { IfOk result (λ n. steps.old + n ≤ steps.new) }
         ensures most { steps.new ≤ steps.old + rests_cost (nodes_by (slots_in E.slots self.now)) (sources_in self.now)
             sort.now.place (layer_in self.now).properties (map feature_of keyed.now) }
-        ensures lines { OnOk result (out.new.items ≡ out.old.items
-            ++ lines_of (scene_in V.tests self.now) (layer_in self.now) (map feature_of keyed.now)) }
+        ensures text { Adds O.held O.faults result pieces.old pieces.new
+            (lines_of (scene_in V.tests self.now) (layer_in self.now) (map feature_of keyed.now)) }
     {
         let mut number = 0;
         for one in keyed {
-            let more = self.write_keyed_feature(workspace, sort, one, steps, out)?;
+            let more = self.write_keyed_feature(workspace, sort, one, steps, &mut pieces.text)?;
             number = sum_of(number, more)?;
+            pieces.pour_piece()?;
         }
         Ok(number)
     }

@@ -13,34 +13,37 @@ ghost use Rattle.bare_listing.specs.BareListing.{EvaluatesLayer, IsBareListable}
 ghost use Rattle.bare_listing.specs.Costs.{feature_cost, features_cost, nodes_by, one_of, shown_cost};
 ghost use Rattle.bare_listing.specs.Given.{IsCommonAnswer};
 ghost use Rattle.bare_listing.specs.SeenLayer.{IsGivenIn, layer_in, lines_of, scene_in, slots_in, sources_in, tiles_in};
+ghost use Rattle.text_pieces.specs.Adding.{Adds};
 
 use crate::bare_layer::BareLayer;
 use asked_cells::{LayerAt, ViewCells, sum_of};
 use expr_nodes::{CountedEvaluator, Workspace};
+use halts::Halt;
 use listing_text::{Show, write_layer_line};
-use outside_io::Steps;
+use outside_io::{Sink, SinkFailed, Steps};
 use std::alloc::{AllocError, Global};
 use std::sync::ledger::Ledger;
 use style_layout::{LayerFeature, LayerFeatures, SourceTile, TextTests};
+use text_pieces::TextPieces;
 
-/// Appends the lines of a layer, and gives how many cells were evaluated for it: all that a listing asks of it. None is
-/// kept, and what was kept is not looked at. The layer has fewer than 2^32 features. Where an allocation fails, some
-/// of the lines may be there.
-pub fn write_bare_layer<E: CountedEvaluator + Drop, V: TextTests, L: Ledger>(
+/// Adds the lines of a layer, and gives how many cells were evaluated for it: all that a listing asks of it. None is
+/// kept, and what was kept is not looked at. The layer has fewer than 2^32 features. A piece is written out before
+/// the layer or the feature after which it is full. Where an allocation or a write fails, some of the lines may have been written out.
+pub fn write_bare_layer<E: CountedEvaluator + Drop, V: TextTests, L: Ledger, O: Sink>(
     alloc: Global,
     cells: &mut ViewCells<E>,
     at: &LayerAt<'_, V>,
     tiles: &[SourceTile<'_>],
     steps: &mut Steps<L>,
-    out: &mut Vec<u8>,
-) -> Result<u64, AllocError>
+    pieces: &mut TextPieces<'_, O>,
+) -> Result<u64, Halt<SinkFailed>>
     requires few { length (layer_features (map tile_seen tiles.now) (layer_at at.now)) < 2 ^ 32 }
     requires listable { IsBareListable E.slots at.now.number (scene_at V.tests at.now) (layer_at at.now) cells.old.buckets }
     ensures stays { cells.new.buckets ≡ cells.old.buckets }
     ensures evaluates { EvaluatesLayer E.slots at.now.number (scene_at V.tests at.now) (map tile_seen tiles.now)
         (layer_at at.now) cells.old.buckets result steps.old steps.new }
-    ensures lines { OnOk result (out.new.items ≡ out.old.items
-        ++ layer_lines (layer_out (scene_at V.tests at.now) (map tile_seen tiles.now) (layer_at at.now))) }
+    ensures text { Adds O.held O.faults result pieces.old pieces.new
+        (layer_lines (layer_out (scene_at V.tests at.now) (map tile_seen tiles.now) (layer_at at.now))) }
 {
     let layer = BareLayer {
         alloc,
@@ -48,21 +51,27 @@ pub fn write_bare_layer<E: CountedEvaluator + Drop, V: TextTests, L: Ledger>(
         at,
         tiles,
     };
+    pieces.pour_piece()?;
     let show = at.layer.show(at.scene.zoom.exact());
     let prepared = at.layer.prepared;
-    write_layer_line(prepared.id.as_str(), prepared.layer_type, show, out)?;
-    layer.write_below(&mut cells.workspace, show, steps, out)
+    write_layer_line(
+        prepared.id.as_str(),
+        prepared.layer_type,
+        show,
+        &mut pieces.text,
+    )?;
+    layer.write_below(&mut cells.workspace, show, steps, pieces)
 }
 
 impl<E: CountedEvaluator + Drop, V: TextTests> BareLayer<'_, E, V> {
-    // Appends what is below the line of the layer.
-    fn write_below<L: Ledger>(
+    // Adds what is below the line of the layer.
+    fn write_below<L: Ledger, O: Sink>(
         &self,
         workspace: &mut Workspace,
         show: Show,
         steps: &mut Steps<L>,
-        out: &mut Vec<u8>,
-    ) -> Result<u64, AllocError>
+        pieces: &mut TextPieces<'_, O>,
+    ) -> Result<u64, Halt<SinkFailed>>
         requires few { length (layer_features (tiles_in self.now) (layer_in self.now)) < 2 ^ 32 }
         requires given { IsGivenIn E.slots V.tests self.now }
         ensures number { IfOk result (λ n. n ≡ shown_cost one_of (sources_in self.now) (scene_in V.tests self.now)
@@ -70,7 +79,7 @@ impl<E: CountedEvaluator + Drop, V: TextTests> BareLayer<'_, E, V> {
         ensures least { IfOk result (λ n. steps.old + n ≤ steps.new) }
         ensures most { steps.new ≤ steps.old + shown_cost (nodes_by (slots_in E.slots self.now)) (sources_in self.now)
             (scene_in V.tests self.now) (layer_in self.now) show (tiles_in self.now) }
-        ensures lines { OnOk result (out.new.items ≡ out.old.items ++ below_layer show
+        ensures text { Adds O.held O.faults result pieces.old pieces.new (below_layer show
             (values_shown (scene_in V.tests self.now) (tiles_in self.now) show (layer_in self.now))
             (features_shown (scene_in V.tests self.now) (tiles_in self.now) show (layer_in self.now))) }
     {
@@ -80,19 +89,19 @@ impl<E: CountedEvaluator + Drop, V: TextTests> BareLayer<'_, E, V> {
             Show::OutsideFilter => {
                 let layer = self.at.layer;
                 let properties = layer.prepared.properties.as_slice();
-                self.write_values(workspace, properties, None, steps, out)
+                Ok(self.write_values(workspace, properties, None, steps, &mut pieces.text)?)
             }
-            Show::Plain => self.write_plain(workspace, steps, out),
+            Show::Plain => self.write_plain(workspace, steps, pieces),
         }
     }
 
-    // Appends the values that are listed with the layer, and the features that pass.
-    fn write_plain<L: Ledger>(
+    // Adds the values that are listed with the layer, and the features that pass.
+    fn write_plain<L: Ledger, O: Sink>(
         &self,
         workspace: &mut Workspace,
         steps: &mut Steps<L>,
-        out: &mut Vec<u8>,
-    ) -> Result<u64, AllocError>
+        pieces: &mut TextPieces<'_, O>,
+    ) -> Result<u64, Halt<SinkFailed>>
         requires few { length (layer_features (tiles_in self.now) (layer_in self.now)) < 2 ^ 32 }
         requires given { IsGivenIn E.slots V.tests self.now }
         ensures number { IfOk result (λ n. n ≡ shown_cost one_of (sources_in self.now) (scene_in V.tests self.now)
@@ -100,25 +109,25 @@ impl<E: CountedEvaluator + Drop, V: TextTests> BareLayer<'_, E, V> {
         ensures least { IfOk result (λ n. steps.old + n ≤ steps.new) }
         ensures most { steps.new ≤ steps.old + shown_cost (nodes_by (slots_in E.slots self.now)) (sources_in self.now)
             (scene_in V.tests self.now) (layer_in self.now) Plain (tiles_in self.now) }
-        ensures lines { OnOk result (out.new.items ≡ out.old.items ++ below_layer Plain
+        ensures text { Adds O.held O.faults result pieces.old pieces.new (below_layer Plain
             (values_shown (scene_in V.tests self.now) (tiles_in self.now) Plain (layer_in self.now))
             (features_shown (scene_in V.tests self.now) (tiles_in self.now) Plain (layer_in self.now))) }
     {
         let layer = self.at.layer;
         let properties = layer.prepared.properties.as_slice();
-        let own = self.write_values(workspace, properties, None, steps, out)?;
+        let own = self.write_values(workspace, properties, None, steps, &mut pieces.text)?;
         let (common, first) = self.common_answer(workspace, steps)?;
-        let others = self.write_features(workspace, common, steps, out)?;
-        sum_of(own, sum_of(first, others)?)
+        let others = self.write_features(workspace, common, steps, pieces)?;
+        Ok(sum_of(own, sum_of(first, others)?)?)
     }
 
-    fn write_features<L: Ledger>(
+    fn write_features<L: Ledger, O: Sink>(
         &self,
         workspace: &mut Workspace,
         common: Option<bool>,
         steps: &mut Steps<L>,
-        out: &mut Vec<u8>,
-    ) -> Result<u64, AllocError>
+        pieces: &mut TextPieces<'_, O>,
+    ) -> Result<u64, Halt<SinkFailed>>
         requires few { length (layer_features (tiles_in self.now) (layer_in self.now)) < 2 ^ 32 }
         requires given { IsGivenIn E.slots V.tests self.now }
         requires common { IsCommonAnswer (scene_in V.tests self.now) (sources_in self.now items.Filter)
@@ -128,23 +137,23 @@ impl<E: CountedEvaluator + Drop, V: TextTests> BareLayer<'_, E, V> {
         ensures least { IfOk result (λ n. steps.old + n ≤ steps.new) }
         ensures most { steps.new ≤ steps.old + features_cost (nodes_by (slots_in E.slots self.now)) (sources_in self.now)
             (scene_in V.tests self.now) (layer_in self.now) (tiles_in self.now) }
-        ensures lines { OnOk result (out.new.items ≡ out.old.items
-            ++ flat_map feature_lines (feature_outs (scene_in V.tests self.now) (layer_in self.now) (tiles_in self.now))) }
+        ensures text { Adds O.held O.faults result pieces.old pieces.new
+            (flat_map feature_lines (feature_outs (scene_in V.tests self.now) (layer_in self.now) (tiles_in self.now))) }
     {
         match self.sort_source() {
-            Some(sort) => self.write_in_order(workspace, common, &sort, steps, out),
-            None => self.write_as_listed(workspace, common, steps, out),
+            Some(sort) => self.write_in_order(workspace, common, &sort, steps, pieces),
+            None => self.write_as_listed(workspace, common, steps, pieces),
         }
     }
 
-    // Each feature is written as it comes.
-    fn write_as_listed<L: Ledger>(
+    // Each feature is written as it comes, and a piece once it is full.
+    fn write_as_listed<L: Ledger, O: Sink>(
         &self,
         workspace: &mut Workspace,
         common: Option<bool>,
         steps: &mut Steps<L>,
-        out: &mut Vec<u8>,
-    ) -> Result<u64, AllocError>
+        pieces: &mut TextPieces<'_, O>,
+    ) -> Result<u64, Halt<SinkFailed>>
         requires few { length (layer_features (tiles_in self.now) (layer_in self.now)) < 2 ^ 32 }
         requires given { IsGivenIn E.slots V.tests self.now }
         requires common { IsCommonAnswer (scene_in V.tests self.now) (sources_in self.now items.Filter)
@@ -154,7 +163,7 @@ impl<E: CountedEvaluator + Drop, V: TextTests> BareLayer<'_, E, V> {
         ensures least { IfOk result (λ n. steps.old + n ≤ steps.new) }
         ensures most { steps.new ≤ steps.old + features_cost (nodes_by (slots_in E.slots self.now)) (sources_in self.now)
             (scene_in V.tests self.now) (layer_in self.now) (tiles_in self.now) }
-        ensures lines { OnOk result (out.new.items ≡ out.old.items ++ lines_of (scene_in V.tests self.now)
+        ensures text { Adds O.held O.faults result pieces.old pieces.new (lines_of (scene_in V.tests self.now)
             (layer_in self.now) (shown_features (scene_in V.tests self.now) (layer_in self.now) (tiles_in self.now))) }
     {
         let mut number = 0;
@@ -162,8 +171,9 @@ impl<E: CountedEvaluator + Drop, V: TextTests> BareLayer<'_, E, V> {
         let mut features = LayerFeatures::new(layer.prepared, self.tiles);
         while let Some(found) = features.next() {
             let feature = self.with_state(found.0, found.1);
-            let more = self.write_if_passed(workspace, common, &feature, steps, out)?;
+            let more = self.write_if_passed(workspace, common, &feature, steps, &mut pieces.text)?;
             number = sum_of(number, more)?;
+            pieces.pour_piece()?;
         }
         Ok(number)
     }

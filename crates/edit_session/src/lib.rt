@@ -19,7 +19,7 @@
 //! - A listing evaluates the cells that it asks and that are not kept, counts them, and keeps them (`listed_after`). It takes
 //!   at least as many steps, and at most as many as their expressions have nodes, also where an allocation fails
 //!   (`least_steps`, `most_steps`). No other command counts a step. What an edit drops is one function of it (`kept_left`).
-//! - `into_listing` gives the listing of a session that ends with it, with the same bounds of steps.
+//! - `write_listing` writes the listing of a session that ends with it piece by piece, with the same bounds of steps.
 //! - Several views show one style (`OpenViews`). `open_view` opens one. `apply_in` does a command of a view in it, as if the
 //!   session had its zoom, its states, its kept cells and the number of its last listing, and leaves the session's own.
 //!   `apply_to_all` does a command of the style, which is one in every view (`in_each`).

@@ -16,6 +16,7 @@ ghost use Rattle.style_edits.specs.Layers.{layer_list};
 ghost use Rattle.style_edits.specs.Taking.{HasLayers};
 ghost use Rattle.style_layout.specs.CodeView.{tile_seen};
 ghost use Rattle.style_layout.specs.Globals.{globals_of};
+ghost use Rattle.text_pieces.specs.Pieces.{WritesText};
 
 use crate::answer::Answer;
 use crate::commands::is_done;
@@ -30,15 +31,17 @@ use edit_script::Command;
 use feature_index::FeatureIndexes;
 use feature_states::States;
 use fixed_num::Fixed;
+use halts::Halt;
 use host_ops::HostOp;
 use kept_layers::KeptLayers;
-use outside_io::Steps;
+use outside_io::{Sink, SinkFailed, Steps};
 use pending_ranges::PendingRanges;
 use std::alloc::{AllocError, Global};
 use std::mem;
 use std::sync::ledger::Ledger;
 use style_layout::{HostTests, Scene, SourceTile, Zoom};
 use style_parts::layers_of;
+use text_pieces::TextPieces;
 
 impl<'a> Session<'a> {
     /// A session over a style whose layers are prepared by the values that the global state has at first.
@@ -121,15 +124,16 @@ impl<'a> Session<'a> {
         answer
     }
 
-    /// `into_listing` of a session in whose document no range is still to be set.
-    pub(crate) fn into_listing_plain<L: Ledger>(
+    /// `write_listing` of a session in whose document no range is still to be set.
+    pub(crate) fn write_listing_plain<O: Sink, L: Ledger>(
         self,
         images: &dyn HostOp,
         scripts: &dyn HostOp,
+        out: &mut O,
         steps: &mut Steps<L>,
-    ) -> Result<Vec<u8>, AllocError>
+    ) -> Result<(), Halt<SinkFailed>>
         requires { IsPlainSound self (test images.now) (test scripts.now) }
-        ensures listing { IfOk result (λ out. out.items ≡ listing_of (tiles_of self.entry) (test scripts.now)
+        ensures text { WritesText O.held O.faults result out.old out.new (listing_of (tiles_of self.entry) (test scripts.now)
             (plain_state self.entry (test images.now))) }
         ensures memory { lacks_memory self.entry ≡ true → IsErr result }
         ensures least { OnOk result (steps.old + least_steps (tiles_of self.entry) (test scripts.now)
@@ -138,7 +142,7 @@ impl<'a> Session<'a> {
             (plain_state self.entry (test images.now)) edits.list }
     {
         if self.lacks_memory {
-            return Err(AllocError);
+            return Err(Halt::NoMemory);
         }
         let Session {
             alloc,
@@ -152,15 +156,23 @@ impl<'a> Session<'a> {
             ..
         } = self;
         let mut kept = kept;
-        let mut out = Vec::new(alloc);
         let style = shown_style(&document, &layers, &globals, tiles.as_slice());
         let scene = Scene {
             zoom,
             states: &states,
             tests: HostTests { images, scripts },
         };
-        kept.list_last(alloc, &style, &scene, steps, &mut out)?;
-        Ok(out)
+        let mut pieces = TextPieces {
+            text: Vec::new(alloc),
+            out,
+        };
+        let listed = kept.list_last(alloc, &style, &scene, steps, &mut pieces);
+        let TextPieces {
+            text: _text,
+            out: _out,
+        } = pieces;
+        listed?;
+        Ok(())
     }
 
     /// `open_view`, by the document as it is.

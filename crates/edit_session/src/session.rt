@@ -14,6 +14,7 @@ ghost use Rattle.host_ops.specs.Change.{IsSameTest};
 ghost use Rattle.style_layout.specs.CodeView.{tile_seen};
 ghost use Rattle.style_layout.specs.Globals.{globals_of};
 ghost use Rattle.style_rules.specs.Findings.{findings};
+ghost use Rattle.text_pieces.specs.Pieces.{WritesText};
 
 use crate::answer::Answer;
 use crate::layer_marks::LayerMarks;
@@ -27,9 +28,10 @@ use edit_script::Command;
 use feature_index::FeatureIndexes;
 use feature_states::States;
 use fixed_num::Fixed;
+use halts::Halt;
 use host_ops::HostOp;
 use kept_layers::KeptLayers;
-use outside_io::Steps;
+use outside_io::{Sink, SinkFailed, Steps};
 use pending_ranges::PendingRanges;
 use prop_values::Entries;
 use std::alloc::{AllocError, Global};
@@ -160,16 +162,18 @@ impl<'a> Session<'a> {
         Ok(answer)
     }
 
-    /// The listing of a session that ends with it: what `apply` answers to `list`. A session that kept no cell keeps
-    /// none for it. Fails where an allocation does, or did in an earlier call.
-    pub fn into_listing<L: Ledger>(
+    /// Writes the listing of a session that ends with it, piece by piece: what `apply` answers to `list`. A session that
+    /// kept no cell keeps none for it. It breaks off where an allocation fails, or did in an earlier call, or where a write
+    /// fails; a prefix of the listing may have been written then.
+    pub fn write_listing<O: Sink, L: Ledger>(
         self,
         images: &dyn HostOp,
         scripts: &dyn HostOp,
+        out: &mut O,
         steps: &mut Steps<L>,
-    ) -> Result<Vec<u8>, AllocError>
+    ) -> Result<(), Halt<SinkFailed>>
         requires { IsSoundSession self (test images.now) (test scripts.now) }
-        ensures listing { IfOk result (λ out. out.items ≡ listing_of (tiles_of self.entry) (test scripts.now)
+        ensures text { WritesText O.held O.faults result out.old out.new (listing_of (tiles_of self.entry) (test scripts.now)
             (session_state self.entry (test images.now))) }
         ensures memory { lacks_memory self.entry ≡ true → IsErr result }
         ensures least { OnOk result (steps.old + least_steps (tiles_of self.entry) (test scripts.now)
@@ -178,11 +182,11 @@ impl<'a> Session<'a> {
             (session_state self.entry (test images.now)) edits.list }
     {
         if self.lacks_memory {
-            return Err(AllocError);
+            return Err(Halt::NoMemory);
         }
         let mut session = self;
         session.settle()?;
-        session.into_listing_plain(images, scripts, steps)
+        session.write_listing_plain(images, scripts, out, steps)
     }
 
     // ---- several views

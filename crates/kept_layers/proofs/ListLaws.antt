@@ -513,6 +513,16 @@ module _ (scene : Scene) (tiles : List SourceTile) where
       ∙ (append_assoc out (layer_lines (layer_out scene tiles layer)) (lines_of (drop (k + 1) layers))
       ∙ (sym (ap (λ ls. out ++ lines_of ls) split) ∙ lines))
 
+  -- the lines of the layer at a place, and those of the layers after it
+  pub lines_split : (layers : List StyleLayer) (k : ℕ) (layer : StyleLayer) → k < length layers → layer ≡ get_or layers k layer
+      → lines_of (drop k layers) ≡ layer_lines (layer_out scene tiles layer) ++ lines_of (drop (k + 1) layers)
+  lines_split layers k layer within is =
+      ap lines_of (drop_more layers k layer within ∙ ap (λ l. l ∷ drop (k + 1) layers) (sym is))
+
+  -- past the last layer
+  pub no_lines : (layers : List StyleLayer) (k : ℕ) → length layers ≤ k → lines_of (drop k layers) ≡ []
+  no_lines layers k past = ap lines_of (drop_all k layers past)
+
   pub lines_end : (was out : List ℕ) (layers : List StyleLayer) (k : ℕ) → length layers ≤ k
       → out ++ lines_of (drop k layers) ≡ was ++ lines_of layers → out ≡ was ++ lines_of layers
   lines_end was out layers k past lines =

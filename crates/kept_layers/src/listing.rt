@@ -1,6 +1,6 @@
 //! The listing of a style: by what is kept of its cells, and without keeping any.
 
-ghost use Rattle.std.specs.Prelude.{◌≡◌, ◌++◌, None, flat_map, map, OnOk};
+ghost use Rattle.std.specs.Prelude.{◌≡◌, ◌++◌, [], None, flat_map, map, OnOk};
 ghost use Rattle.layer_buckets.specs.Seen.{IsSound, kept_at};
 ghost use Rattle.layer_buckets.specs.declared.cell.Cell.{Cell};
 ghost use Rattle.listing_text.specs.Listing.{layer_lines, listing};
@@ -12,6 +12,7 @@ ghost use Rattle.kept_layers.specs.Changes.{Counts, HaveListed};
 ghost use Rattle.kept_layers.specs.KeptLayers.{prepared_layers};
 ghost use Rattle.kept_layers.specs.LayerListing.{IsKeptLayer};
 ghost use Rattle.kept_layers.specs.View.{AreNumbered, HoldsLayers, IsPrepared, IsRightIn, globals_in, kept_seen, tiles_in, trees_in};
+ghost use Rattle.text_pieces.specs.Adding.{Adds};
 
 use crate::kept_layers::KeptLayers;
 use crate::style_layers::StyleLayers;
@@ -21,11 +22,13 @@ use cell_listing::write_layer;
 use cell_sources::{filters_are_decided, properties_are_given, properties_are_read_by_expressions};
 use expr_nodes::CountedEvaluator;
 use form_pool::FormPool;
+use halts::Halt;
 use listing_text::{write_end, write_zoom};
-use outside_io::Steps;
+use outside_io::{Sink, SinkFailed, Steps};
 use std::alloc::{AllocError, Global};
 use std::sync::ledger::Ledger;
 use style_layout::{Scene, SourceTile, TextTests};
+use text_pieces::TextPieces;
 
 impl KeptLayers {
     /// Appends the listing of a style, and gives how many cells were evaluated for it: those that it asks and that
@@ -61,16 +64,16 @@ impl KeptLayers {
     }
 
     /// As `list`, where nothing is listed afterwards: where nothing is kept, each cell is evaluated where it is listed, and
-    /// none is kept.
+    /// none is kept. The listing is added to a text that is written out piece by piece, and at the end all that waits is.
     #[tactic(auto, unfolding(listing_text::specs::Listing::listing, style_layout::specs::CodeView::scene_seen))]
-    pub fn list_last<'a, V: TextTests, L: Ledger>(
+    pub fn list_last<'a, V: TextTests, L: Ledger, O: Sink>(
         &mut self,
         alloc: Global,
         style: &'a StyleLayers<'a>,
         scene: &'a Scene<'a, V>,
         steps: &mut Steps<L>,
-        out: &mut Vec<u8>,
-    ) -> Result<u64, AllocError>
+        pieces: &mut TextPieces<'_, O>,
+    ) -> Result<u64, Halt<SinkFailed>>
         requires numbered { AreNumbered self.old }
         requires prepared { IsPrepared style.now }
         requires holds { HoldsLayers ⟦<FormPool as CountedEvaluator>⟧.slots (tiles_in style.now)
@@ -80,13 +83,15 @@ impl KeptLayers {
         ensures numbered { AreNumbered self.new }
         ensures counts { Counts (scene_seen V.tests scene.now) (tiles_in style.now) (globals_in style.now)
             (trees_in style.now) (kept_seen self.old) result steps.old steps.new }
-        ensures text { OnOk result (out.new.items ≡ out.old.items
-            ++ listing (layers_layout (scene_seen V.tests scene.now) (tiles_in style.now)
+        ensures text { Adds O.held O.faults result pieces.old pieces.new
+            (listing (layers_layout (scene_seen V.tests scene.now) (tiles_in style.now)
             (prepared_layers (globals_in style.now) (trees_in style.now)))) }
+        ensures all { OnOk result (pieces.new.text.items ≡ []) }
     {
-        write_zoom(scene.zoom.exact(), out)?;
-        let number = self.list_layers_last(alloc, style, scene, steps, out)?;
-        write_end(out)?;
+        write_zoom(scene.zoom.exact(), &mut pieces.text)?;
+        let number = self.list_layers_last(alloc, style, scene, steps, pieces)?;
+        write_end(&mut pieces.text)?;
+        pieces.pour()?;
         Ok(number)
     }
 
@@ -128,14 +133,14 @@ impl KeptLayers {
     }
 
     // Keeps nothing where nothing is kept.
-    fn list_layers_last<'a, V: TextTests, L: Ledger>(
+    fn list_layers_last<'a, V: TextTests, L: Ledger, O: Sink>(
         &mut self,
         alloc: Global,
         style: &'a StyleLayers<'a>,
         scene: &'a Scene<'a, V>,
         steps: &mut Steps<L>,
-        out: &mut Vec<u8>,
-    ) -> Result<u64, AllocError>
+        pieces: &mut TextPieces<'_, O>,
+    ) -> Result<u64, Halt<SinkFailed>>
         requires numbered { AreNumbered self.old }
         requires prepared { IsPrepared style.now }
         requires holds { HoldsLayers ⟦<FormPool as CountedEvaluator>⟧.slots (tiles_in style.now)
@@ -145,25 +150,25 @@ impl KeptLayers {
         ensures numbered { AreNumbered self.new }
         ensures counts { Counts (scene_seen V.tests scene.now) (tiles_in style.now) (globals_in style.now)
             (trees_in style.now) (kept_seen self.old) result steps.old steps.new }
-        ensures text { OnOk result (out.new.items ≡ out.old.items ++ flat_map layer_lines
+        ensures text { Adds O.held O.faults result pieces.old pieces.new (flat_map layer_lines
             (map (layer_out (scene_seen V.tests scene.now) (tiles_in style.now))
             (prepared_layers (globals_in style.now) (trees_in style.now)))) }
     {
         if self.cells.buckets.is_bare() {
-            return self.list_bare(alloc, style, scene, steps, out);
+            return self.list_bare(alloc, style, scene, steps, pieces);
         }
-        self.list_layers(alloc, style, scene, steps, out)
+        Ok(self.list_layers(alloc, style, scene, steps, &mut pieces.text)?)
     }
 
     // Evaluates each cell where it is listed, and keeps none.
-    fn list_bare<'a, V: TextTests, L: Ledger>(
+    fn list_bare<'a, V: TextTests, L: Ledger, O: Sink>(
         &mut self,
         alloc: Global,
         style: &'a StyleLayers<'a>,
         scene: &'a Scene<'a, V>,
         steps: &mut Steps<L>,
-        out: &mut Vec<u8>,
-    ) -> Result<u64, AllocError>
+        pieces: &mut TextPieces<'_, O>,
+    ) -> Result<u64, Halt<SinkFailed>>
         requires numbered { AreNumbered self.old }
         requires prepared { IsPrepared style.now }
         requires holds { HoldsLayers ⟦<FormPool as CountedEvaluator>⟧.slots (tiles_in style.now)
@@ -174,7 +179,7 @@ impl KeptLayers {
         ensures numbered { AreNumbered self.new }
         ensures counts { Counts (scene_seen V.tests scene.now) (tiles_in style.now) (globals_in style.now)
             (trees_in style.now) (kept_seen self.old) result steps.old steps.new }
-        ensures text { OnOk result (out.new.items ≡ out.old.items ++ flat_map layer_lines
+        ensures text { Adds O.held O.faults result pieces.old pieces.new (flat_map layer_lines
             (map (layer_out (scene_seen V.tests scene.now) (tiles_in style.now))
             (prepared_layers (globals_in style.now) (trees_in style.now)))) }
     {
@@ -188,7 +193,7 @@ impl KeptLayers {
                 layer: style.listed_layer(place),
                 scene,
             };
-            let more = write_bare_layer(alloc, &mut self.cells, &at, style.tiles, steps, out)?;
+            let more = write_bare_layer(alloc, &mut self.cells, &at, style.tiles, steps, pieces)?;
             evaluated = sum_of(evaluated, more)?;
         }
         Ok(evaluated)

@@ -6,6 +6,7 @@ pub mod AnsweredSteps
 pub mod AtFirst
 pub mod Kept
 pub mod ListedFaults
+pub mod ListingRuns
 pub mod Moved
 pub mod OneOutcome
 pub mod ScriptRuns

@@ -1,4 +1,4 @@
--- The runs of scripts: how they come to a script, and how the answers to that keep what is promised.
+-- The runs of scripts: how they come to a script. And how a run that was opened keeps what is promised.
 use Rattle.std.proofs.Common.{◌≡◌, ◌∙◌, ℕ, List, [], length, refl, sym, subst, inl, inr}
 use Rattle.std.proofs.Math.Seq.{take-length}
 use Rattle.std.specs.Prelude.{Option, None, Bool, ◌⊎◌}
@@ -67,7 +67,7 @@ module _ (files : List ℕ → Option (List ℕ)) (limit : ℕ) (w : ScriptWords
         halts_on files (scripted_run limit w images answered) (edited_run limit w images answered shown script) old new new failed_old failed_new failed_new asked_old asked_new asked_new h
         (script_read asked_new script read) (after.0 ∙ before.0, after.1 ∙ before.1) halts
 
--- A run that comes to a script, of whose answers some were written.
+-- A run that comes to the rest of it, of which some was written.
 module _ (files : List ℕ → Option (List ℕ)) (run rest : Run) (asked_old asked_new : List (List ℕ)) (comes : ComesTo files run rest asked_old asked_new) where
   said_too : (text : List ℕ) → (text ≡ []) ⊎ HasSaid files rest asked_new asked_new text → (text ≡ []) ⊎ HasSaid files run asked_old asked_new text
   said_too text (inl none) = inl none
@@ -83,7 +83,7 @@ module _ (files : List ℕ → Option (List ℕ)) (run rest : Run) (asked_old as
   steps_are_due : (old new : ℕ) → StepsAreDue files rest asked_new asked_new old new → StepsAreDue files run asked_old asked_new old new
   steps_are_due old new (most, counted, few) = (most, comes.counts asked_new most counted, few)
 
-  -- What is promised, by how the answers ended. No step was counted before them.
+  -- What is promised, by how the rest ended. No step was counted before it.
   module _ (FilesStay : Type 0) (fileless : IsFileless run → FilesStay) (reads₀ reads₁ : ℕ) (unread₀ unread₁ out₀ out₁ err : Option (List ℕ)) (outs₀ outs₁ errs : ℕ)
       (steps₀ mid steps₁ : ℕ) (still : mid ≡ steps₀) (none : NoneFailed reads₀ reads₁ unread₀ unread₁) where
     abbrev Keeps : Status → Type 0

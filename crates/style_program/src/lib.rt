@@ -22,6 +22,7 @@ mod generate_command;
 mod laws;
 mod loading;
 mod migrate_command;
+mod opened_run;
 mod refusals;
 mod replay_command;
 mod reply;

@@ -1,23 +1,30 @@
-//! A style and tiles of its sources, as `eval` and `replay` read them.
+//! A style and tiles of its sources, as `eval` and `replay` read and open them.
 
-ghost use Rattle.std.specs.Prelude.{◌≡◌, ◌+◌, ◌<◌, ℕ, List, [], Option, length, map, OnOk, IfOk, IfErr};
+ghost use Rattle.std.specs.Prelude.{◌≡◌, ◌+◌, ◌<◌, ◌≤◌, ℕ, List, [], length, map};
+ghost use Rattle.std.specs.Prelude.{Bool, None, Option, OnOk, IfOk, IfErr};
 ghost use Rattle.decimal_json.specs.View.{tree_of};
+ghost use Rattle.edit_session.specs.Opening.{cell_limit, tiles_fault};
+ghost use Rattle.edit_session.specs.SessionState.{opened};
+ghost use Rattle.edit_session.specs.View.{session_state, tiles_of, IsSoundSession};
 ghost use Rattle.program_runs.specs.FailedReads.{NoneFailed};
 ghost use Rattle.program_runs.specs.Progress.{GoesOn, Halts, HaltsAt, ComesTo};
 ghost use Rattle.program_runs.specs.Runs.{Run};
 ghost use Rattle.style_layout.specs.CodeView.{tile_seen};
 ghost use Rattle.style_layout.specs.Shown as shown;
+ghost use Rattle.style_program.specs.EvalRun.{opened_or_refused};
 ghost use Rattle.style_program.specs.ShownRun.{load_part, sound_or_broken, tile_from, tile_part, tiles_part};
 ghost use Rattle.style_program.specs.TileRunView.{tiles_from, shown_seen};
 ghost use Rattle.style_program.specs.WordsView.{eval_words, tile_word};
 ghost use Rattle.style_rules.specs.CodeView.{finding_seen};
 ghost use Rattle.style_rules.specs.Findings.{findings};
 
-use crate::refusals::no_tile;
+use crate::refusals::{no_tile, not_opened};
 use crate::style_file::STYLE_LIMIT;
 use crate::validate_command::answer_broken;
 use crate::words::{EvalRequest, TileWord, count_of};
 use decimal_json::Json;
+use edit_session::Session;
+use fixed_num::Fixed;
 use outside_io::Files;
 use program_runs::{RunHalt, RunStop, Subject, read_file, read_json};
 use std::alloc::Global;
@@ -56,6 +63,31 @@ pub fn read_shown<'a, F: Files>(
     refuse_broken(alloc, &style)?;
     let tiles = read_tiles(alloc, request.tiles.as_slice(), files)?;
     Ok(LoadedStyle { style, tiles })
+}
+
+/// A style without findings, opened over its tiles at a zoom, or why it is refused. It has at most `limit` cells.
+pub(crate) fn open_shown<'a>(
+    alloc: Global,
+    loaded: LoadedStyle<'a>,
+    zoom: Fixed,
+    limit: u64,
+) -> Result<Session<'a>, RunHalt<'a>>
+    requires sound { findings (tree_of loaded.style) ≡ [] }
+    requires few { limit ≤ cell_limit }
+    ensures sound { (images scripts : List ℕ → Bool) → IfOk result (λ session. IsSoundSession session images scripts) }
+    ensures tiles { IfOk result (λ session. tiles_of session ≡ (shown_seen loaded.entry).1) }
+    ensures opened { IfOk result (λ session. (has_image : List ℕ → Bool)
+        → session_state session has_image ≡ opened limit (shown_seen loaded.entry).0 zoom has_image) }
+    ensures none { OnOk result (None ≡ tiles_fault limit (shown_seen loaded.entry).0 (shown_seen loaded.entry).1 zoom) }
+    ensures halt { (files : List ℕ → Option (List ℕ)) (count : ℕ) (failed : Option (List ℕ)) (asked : List (List ℕ))
+        (next : Run) → IfErr result (λ halt. HaltsAt files
+        (opened_or_refused (tiles_fault limit (shown_seen loaded.entry).0 (shown_seen loaded.entry).1 zoom) next)
+        count count failed failed asked asked halt) }
+{
+    match Session::open_sound(alloc, loaded.style, loaded.tiles, zoom, limit)? {
+        Ok(session) => Ok(session),
+        Err(fault) => Err(RunHalt::Refused(not_opened(alloc, &fault)?)),
+    }
 }
 
 /// Halts the run where the style has findings.

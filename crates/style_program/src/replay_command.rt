@@ -1,25 +1,17 @@
 //! `replay` and `desk`: what a style shows over tiles while a script edits it.
 
-ghost use Rattle.std.specs.Prelude.{◌≡◌, ◌≤◌, ℕ, List, [], Bool, None, Option, OnOk, IfOk, IfErr};
-ghost use Rattle.decimal_json.specs.View.{tree_of};
-ghost use Rattle.edit_session.specs.Opening.{cell_limit, tiles_fault};
-ghost use Rattle.edit_session.specs.SessionState.{opened};
-ghost use Rattle.edit_session.specs.View.{session_state, tiles_of, IsSoundSession};
+ghost use Rattle.std.specs.Prelude.{◌≡◌, ◌≤◌, ℕ, List, Bool, Option, OnOk, IfOk, IfErr};
+ghost use Rattle.edit_session.specs.Opening.{cell_limit};
+ghost use Rattle.edit_session.specs.View.{IsSoundSession};
 ghost use Rattle.program_runs.specs.FailedReads.{NoneFailed};
 ghost use Rattle.program_runs.specs.Progress.{ComesTo, HaltsAt, IsCut, IsWritten};
-ghost use Rattle.program_runs.specs.Runs.{Run};
-ghost use Rattle.style_program.specs.EvalRun.{opened_or_refused};
 ghost use Rattle.style_program.specs.PreparedRun.{opened_script_run};
 ghost use Rattle.style_program.specs.ReplayRun.{limit_of, script_kind_run};
-ghost use Rattle.style_program.specs.TileRunView.{shown_seen};
 ghost use Rattle.style_program.specs.WordsView.{script_words};
-ghost use Rattle.style_rules.specs.Findings.{findings};
 
-use crate::loading::{LoadedStyle, read_shown};
-use crate::refusals::not_opened;
+use crate::loading::{open_shown, read_shown};
 use crate::words::{ScriptKind, ScriptRequest};
 use edit_session::{CELL_LIMIT, Session};
-use fixed_num::Fixed;
 use host_ops::HostOp;
 use outside_io::{Files, Sink, Steps};
 use program_runs::{Ending, RunHalt, Subject, WriteStop, read_file};
@@ -108,30 +100,5 @@ pub fn answer_lines<O: Sink, L: Ledger>(
             let desk = Desk::new(session);
             answer_desk(desk, script.as_slice(), images, scripts, out, steps)
         }
-    }
-}
-
-// A style without findings, opened over its tiles.
-fn open_shown<'a>(
-    alloc: Global,
-    shown: LoadedStyle<'a>,
-    zoom: Fixed,
-    limit: u64,
-) -> Result<Session<'a>, RunHalt<'a>>
-    requires sound { findings (tree_of shown.style) ≡ [] }
-    requires few { limit ≤ cell_limit }
-    ensures sound { (images scripts : List ℕ → Bool) → IfOk result (λ session. IsSoundSession session images scripts) }
-    ensures tiles { IfOk result (λ session. tiles_of session ≡ (shown_seen shown.entry).1) }
-    ensures opened { IfOk result (λ session. (has_image : List ℕ → Bool)
-        → session_state session has_image ≡ opened limit (shown_seen shown.entry).0 zoom has_image) }
-    ensures none { OnOk result (None ≡ tiles_fault limit (shown_seen shown.entry).0 (shown_seen shown.entry).1 zoom) }
-    ensures halt { (files : List ℕ → Option (List ℕ)) (count : ℕ) (failed : Option (List ℕ)) (asked : List (List ℕ))
-        (next : Run) → IfErr result (λ halt. HaltsAt files
-        (opened_or_refused (tiles_fault limit (shown_seen shown.entry).0 (shown_seen shown.entry).1 zoom) next)
-        count count failed failed asked asked halt) }
-{
-    match Session::open_sound(alloc, shown.style, shown.tiles, zoom, limit)? {
-        Ok(session) => Ok(session),
-        Err(fault) => Err(RunHalt::Refused(not_opened(alloc, &fault)?)),
     }
 }

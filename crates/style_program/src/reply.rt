@@ -1,25 +1,28 @@
-//! The run that is asked for, up to the texts that are to be written or the script that is to be answered.
+//! The run that is asked for, up to the texts that are to be written or the style that was opened.
 
-ghost use Rattle.std.specs.Prelude.{◌≡◌, ℕ, List, Bool, false, OnErr, OnOk, IfOk, IfErr};
+ghost use Rattle.std.specs.Prelude.{◌≡◌, ℕ, List, Bool, false, Option, OnErr, OnOk, IfOk, IfErr};
 ghost use Rattle.program_runs.specs.FailedReads.{NoneFailed};
-ghost use Rattle.program_runs.specs.Progress.{outcome_of, HaltSteps, HaltsAt, IsAnswered, IsStop};
+ghost use Rattle.program_runs.specs.Progress.{outcome_of, HaltsAt, IsStop};
 ghost use Rattle.program_runs.specs.Runs.{HasOutcome, IsFileless};
 ghost use Rattle.program_runs.specs.Written.{StepsAreDue};
 ghost use Rattle.style_program.specs.Commands.{asked_run, lists_cells};
+ghost use Rattle.style_program.specs.EvalRun.{eval_run};
+ghost use Rattle.style_program.specs.GenerateRun.{generate_run};
 ghost use Rattle.style_program.specs.PreparedRun.{IsPrepared, MayList};
 ghost use Rattle.style_program.specs.ReplayRun.{script_kind_run};
-ghost use Rattle.style_program.specs.Words.{Script};
-ghost use Rattle.style_program.specs.WordsView.{answer_asked, asked_by, listing_asked, script_words};
+ghost use Rattle.style_program.specs.Words.{Eval, Generate, Script};
+ghost use Rattle.style_program.specs.WordsView.{answer_asked, asked_by, eval_words, listing_asked, script_words};
 
-use crate::eval_command::answer_eval;
+use crate::eval_command::open_eval;
 use crate::generate_command::answer_generate;
 use crate::migrate_command::answer_migrate;
-use crate::replay_command::{OpenedScript, open_script};
+use crate::opened_run::OpenedRun;
+use crate::replay_command::open_script;
 use crate::simplify_command::answer_simplify;
 use crate::tile_command::answer_tile;
 use crate::validate_command::answer_validate;
 use crate::value_command::answer_value;
-use crate::words::{AnswerRequest, ListingRequest, Request, ScriptRequest};
+use crate::words::{AnswerRequest, EvalRequest, ListingRequest, Request, ScriptRequest};
 use host_ops::HostOp;
 use lint_runs::answer_lint;
 use outside_io::{Files, Steps};
@@ -83,12 +86,12 @@ const VERSION: &[u8] = b"pirgesh 0.1.0\n";
 pub enum PreparedRun<'a> {
     /// It has come to its end, and this is to be written.
     Ended(RunOutput),
-    /// It has come to a script, whose lines are to be answered.
-    Script(OpenedScript<'a>),
+    /// It has opened a style, whose listing or whose answers to a script are to be written.
+    Opened(OpenedRun<'a>),
 }
 
-/// The run that is asked for, be it refused, once all its reading is done. Only a listing counts steps here; a script counts
-/// them when its lines are answered.
+/// The run that is asked for, be it refused, once all its reading is done. Only `generate` counts steps here; of a
+/// style that was opened they are counted when its answers are written.
 pub fn prepare_run<'a, F: Files, L: Ledger>(
     alloc: Global,
     request: &Request<'a>,
@@ -197,8 +200,8 @@ fn prepare_listing<'a, F: Files, L: Ledger>(
     ensures fileless { IsFileless
         (asked_run (test images.old) (test scripts.now) (changes images.old) (listing_asked request.now))
         → files.new ≡ files.old }
-    ensures run { (then_images : List ℕ → Bool) (then_changes : Bool) → IfOk result (IsPrepared then_images (test scripts.now) then_changes
-        (F.told files.old) (asked_run (test images.old) (test scripts.now) (changes images.old) (listing_asked request.now))
+    ensures run { IfOk result (IsPrepared (test images.new) (test scripts.now) (changes images.new) (F.told files.old)
+        (asked_run (test images.old) (test scripts.now) (changes images.old) (listing_asked request.now))
         (F.asked files.old) (F.asked files.new) steps.old steps.new) }
     ensures script { IfOk result (MayList (listing_asked request.now)) }
     ensures stop { IfErr result (λ stop. IsStop (F.told files.old)
@@ -208,41 +211,64 @@ fn prepare_listing<'a, F: Files, L: Ledger>(
         (asked_run (test images.old) (test scripts.now) (changes images.old) (listing_asked request.now))
         (F.asked files.old) (F.asked files.new) steps.old steps.new) }
 {
-    match answer_listing(alloc, request, files, images, scripts, steps) {
-        Ok(answer) => Ok(PreparedRun::Ended(answer)),
+    match request {
+        ListingRequest::Eval(request) => prepare_eval(alloc, request, files),
+        ListingRequest::Generate(features) => {
+            prepare_generate(alloc, *features, images, scripts, steps)
+        }
+    }
+}
+
+fn prepare_eval<'a, F: Files>(
+    alloc: Global,
+    request: &EvalRequest<'a>,
+    files: &mut F,
+) -> Result<PreparedRun<'a>, RunStop<'a>>
+    ensures told { F.told files.new ≡ F.told files.old }
+    ensures failed { OnOk result
+        (NoneFailed (F.faults files.old) (F.faults files.new) (F.failed files.old) (F.failed files.new)) }
+    ensures run { (images scripts : List ℕ → Bool) (can_change : Bool) (steps : ℕ)
+        → IfOk result (IsPrepared images scripts can_change (F.told files.old)
+        (eval_run (eval_words request.now) images scripts)
+        (F.asked files.old) (F.asked files.new) steps steps) }
+    ensures script { IfOk result (MayList (Eval (eval_words request.now))) }
+    ensures stop { (images scripts : List ℕ → Bool) → IfErr result (λ stop. IsStop (F.told files.old)
+        (eval_run (eval_words request.now) images scripts)
+        (F.faults files.old) (F.faults files.new) (F.failed files.old) (F.failed files.new)
+        (F.asked files.old) (F.asked files.new) stop) }
+{
+    match open_eval(alloc, request, files) {
+        Ok(session) => Ok(PreparedRun::Opened(OpenedRun::Listing(session))),
         Err(RunHalt::Refused(answer)) => Ok(PreparedRun::Ended(answer)),
         Err(RunHalt::Stopped(stop)) => Err(stop),
     }
 }
 
-fn answer_listing<'a, F: Files, L: Ledger>(
+fn prepare_generate<'a, L: Ledger>(
     alloc: Global,
-    request: &ListingRequest<'a>,
-    files: &mut F,
+    features: u32,
     images: &mut dyn HostOp,
     scripts: &dyn HostOp,
     steps: &mut Steps<L>,
-) -> Result<RunOutput, RunHalt<'a>>
-    ensures told { F.told files.new ≡ F.told files.old }
-    ensures failed { OnOk result (NoneFailed (F.faults files.old) (F.faults files.new) (F.failed files.old) (F.failed files.new)) }
-    ensures fileless { IsFileless
-        (asked_run (test images.old) (test scripts.now) (changes images.old) (listing_asked request.now))
-        → files.new ≡ files.old }
-    ensures answer { IfOk result (IsAnswered (F.told files.old)
-        (asked_run (test images.old) (test scripts.now) (changes images.old) (listing_asked request.now))
-        (F.asked files.old) (F.asked files.new) steps.old steps.new) }
-    ensures halt { IfErr result (λ halt. HaltsAt (F.told files.old)
-        (asked_run (test images.old) (test scripts.now) (changes images.old) (listing_asked request.now))
-        (F.faults files.old) (F.faults files.new) (F.failed files.old) (F.failed files.new) (F.asked files.old) (F.asked files.new) halt) }
-    ensures steps { IfErr result (HaltSteps (F.told files.old)
-        (asked_run (test images.old) (test scripts.now) (changes images.old) (listing_asked request.now))
-        (F.asked files.old) (F.asked files.new) steps.old steps.new) }
+) -> Result<PreparedRun<'a>, RunStop<'a>>
+    ensures run { (files : List ℕ → Option (List ℕ)) (asked : List (List ℕ))
+        (then_images : List ℕ → Bool) (then_changes : Bool)
+        → IfOk result (IsPrepared then_images (test scripts.now) then_changes files
+        (generate_run features (test images.old) (test scripts.now) (changes images.old))
+        asked asked steps.old steps.new) }
+    ensures script { IfOk result (MayList (Generate features)) }
+    ensures stop { (files : List ℕ → Option (List ℕ)) (count : ℕ) (failed : Option (List ℕ)) (asked : List (List ℕ))
+        → IfErr result (λ stop. IsStop files
+        (generate_run features (test images.old) (test scripts.now) (changes images.old))
+        count count failed failed asked asked stop) }
+    ensures due { (files : List ℕ → Option (List ℕ)) (asked : List (List ℕ)) → OnErr result (StepsAreDue files
+        (generate_run features (test images.old) (test scripts.now) (changes images.old))
+        asked asked steps.old steps.new) }
 {
-    match request {
-        ListingRequest::Eval(request) => answer_eval(alloc, request, files, images, scripts, steps),
-        ListingRequest::Generate(features) => {
-            answer_generate(alloc, *features, images, scripts, steps)
-        }
+    match answer_generate(alloc, features, images, scripts, steps) {
+        Ok(answer) => Ok(PreparedRun::Ended(answer)),
+        Err(RunHalt::Refused(answer)) => Ok(PreparedRun::Ended(answer)),
+        Err(RunHalt::Stopped(stop)) => Err(stop),
     }
 }
 
@@ -263,7 +289,7 @@ fn prepare_script<'a, F: Files>(
         (F.faults files.old) (F.faults files.new) (F.failed files.old) (F.failed files.new) (F.asked files.old) (F.asked files.new) stop) }
 {
     match open_script(alloc, request, files) {
-        Ok(opened) => Ok(PreparedRun::Script(opened)),
+        Ok(script) => Ok(PreparedRun::Opened(OpenedRun::Script(script))),
         Err(RunHalt::Refused(answer)) => Ok(PreparedRun::Ended(answer)),
         Err(RunHalt::Stopped(stop)) => Err(stop),
     }

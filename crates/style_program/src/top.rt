@@ -11,7 +11,7 @@ ghost use Rattle.style_program.specs.PreparedRun.{IsPrepared, MayList};
 ghost use Rattle.style_program.specs.Promises.{KeepsPromises, outside};
 ghost use Rattle.style_program.specs.Words.{asked};
 
-use crate::replay_command::answer_lines;
+use crate::opened_run::write_answers;
 use crate::reply::{PreparedRun, prepare_run};
 use crate::words::request_of;
 use host_ops::HostOp;
@@ -24,9 +24,9 @@ use typing_laws::faults_are_listed;
 /// Does what the words after the program's name ask for: reads from `files`, writes to `out` and `err`, counts the steps
 /// of evaluations in `steps`, and answers how the run ended.
 ///
-/// `images` and `scripts` are the tests that expressions ask. Nothing is written before all reading is done, and the
-/// answer to each line of a script is written before the next line is looked at. A failed allocation is the only free
-/// answer.
+/// `images` and `scripts` are the tests that expressions ask. Nothing is written before all reading is done. The
+/// listing of `eval` is written piece by piece while it is made, and the answer to each line of a script before the
+/// next line is looked at. A failed allocation is the only free answer.
 pub fn run_style<F: Files, O: Sink, E: Sink, L: Ledger>(
     alloc: Global,
     words: &[String],
@@ -101,8 +101,8 @@ fn run_words<F: Files, O: Sink, E: Sink, L: Ledger>(
             Ok(()) => answer.ending.status(),
             Err(_) => Status::WriteFault,
         },
-        Ok(PreparedRun::Script(opened)) => {
-            match answer_lines(opened, images, scripts, out, steps) {
+        Ok(PreparedRun::Opened(opened)) => {
+            match write_answers(opened, images, scripts, out, steps) {
                 Ok(ending) => ending.status(),
                 Err(WriteStop::NoMemory) => Status::NoMemory,
                 Err(WriteStop::Unwritten) => Status::WriteFault,

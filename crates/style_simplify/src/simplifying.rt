@@ -120,7 +120,13 @@ fn choices_inside<'x>(
     match context.op {
         Operator::Let(names) => let_simple(&*context, names, arguments, items),
         Operator::Var(name) => {
-            let element = var_element(context.alloc, name.as_text(), &context.want, context.scope, items)?;
+            let element = var_element(
+                context.alloc,
+                name.as_text(),
+                &context.want,
+                context.scope,
+                items,
+            )?;
             as_it_is(context.alloc, &context.want, element)
         }
         Operator::Format(pieces) => format_choices(&*context, pieces, arguments, items),

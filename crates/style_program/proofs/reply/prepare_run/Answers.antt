@@ -61,7 +61,7 @@ returns-in-Listing-clause-run g c =
     let then_changes = (goal.HostOp-dyn g c.args.images.now).changes c.prepare_listing.new.images in
     subst (λ r. IfOk c.prepare_listing.result (IsPrepared then_images scripts then_changes files (asked_run images scripts can_change (asked_by r))
     (g.F.Files.asked c.args.files.now) (g.F.Files.asked c.prepare_listing.new.files) c.args.steps.now c.prepare_listing.new.steps))
-    (sym c.in-Listing.is) (c.prepare_listing.ensures.run then_images then_changes)
+    (sym c.in-Listing.is) c.prepare_listing.ensures.run
 
 pub returns-in-Listing-clause-stop : goal.returns-in-Listing-clause-stop
 returns-in-Listing-clause-stop g c =

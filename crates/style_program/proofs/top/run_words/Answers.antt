@@ -48,10 +48,10 @@ returns-in-Ok-clause-listed g c = λ is.
     found_is_listed c.faults_are_listed.ensures (g.F.Files.told c.args.files.now) _ _ _ (map string_bytes c.args.call.words.now)
     (asked (map string_bytes c.args.call.words.now)) _ _ (after_counts made.0 made.1 (outcome_of c.in-Ok-Ended.answer)) _ refl made.2 (rw c.in-Ok-Ended.field-0-is at c.status.ensures) is
 
--- ---- it came to a script, whose lines are answered
+-- ---- it opened a style, and its answers are written
 
-pub answer_lines-requires : goal.answer_lines-requires
-answer_lines-requires g c =
+pub write_answers-requires : goal.write_answers-requires
+write_answers-requires g c =
     let images = (goal.HostOp-dyn g c.args.images.now).test c.args.images.now.1 in
     let scripts = (goal.HostOp-dyn g c.args.call.scripts.now).test c.args.call.scripts.now.1 in
     let can_change = (goal.HostOp-dyn g c.args.images.now).changes c.args.images.now.1 in
@@ -59,12 +59,12 @@ answer_lines-requires g c =
     let then_changes = (goal.HostOp-dyn g c.args.images.now).changes c.prepared.new.images in
     let run = run_of images scripts can_change (map string_bytes c.args.call.words.now) in
     let ready : IsPrepared then_images scripts then_changes (g.F.Files.told c.args.files.now) run (g.F.Files.asked c.args.files.now)
-    (g.F.Files.asked c.prepared.new.files) c.args.steps.now c.prepared.new.steps (runs.Script c.in-Ok-Script.opened) =
-    rw c.in-Ok-Script.field-0-is at c.in-Ok-Script.ensures.run in
-    rw c.in-Ok-Script.field-0-is ready.0
+    (g.F.Files.asked c.prepared.new.files) c.args.steps.now c.prepared.new.steps (runs.Opened c.in-Ok-Opened.opened) =
+    rw c.in-Ok-Opened.field-0-is at c.in-Ok-Opened.ensures.run in
+    rw c.in-Ok-Opened.field-0-is ready.0
 
-pub returns-in-Ok-answer_lines-clause-promises : goal.returns-in-Ok-answer_lines-clause-promises
-returns-in-Ok-answer_lines-clause-promises g c =
+pub returns-in-Ok-write_answers-clause-promises : goal.returns-in-Ok-write_answers-clause-promises
+returns-in-Ok-write_answers-clause-promises g c =
     let files = g.F.Files.told c.args.files.now in
     let asked_new = g.F.Files.asked c.prepared.new.files in
     let images = (goal.HostOp-dyn g c.args.images.now).test c.args.images.now.1 in
@@ -74,13 +74,13 @@ returns-in-Ok-answer_lines-clause-promises g c =
     let then_changes = (goal.HostOp-dyn g c.args.images.now).changes c.prepared.new.images in
     let run = run_of images scripts can_change (map string_bytes c.args.call.words.now) in
     let ready : IsPrepared then_images scripts then_changes (g.F.Files.told c.args.files.now) run (g.F.Files.asked c.args.files.now)
-    (g.F.Files.asked c.prepared.new.files) c.args.steps.now c.prepared.new.steps (runs.Script c.in-Ok-Script.opened) =
-    rw c.in-Ok-Script.field-0-is at c.in-Ok-Script.ensures.run in
-    all_answered files _ _ (g.F.Files.asked c.args.files.now) asked_new ready.1 _ c.prepared.ensures.fileless _ _ _ _ _ _ _ _ _ _ _ _ _ ready.2 c.in-Ok-Script.ensures.failed
-    c.in-Ok-answer_lines.ending c.status-in-Ok-answer_lines.result (rw c.in-Ok-Script.field-0-is at c.in-Ok-answer_lines.ensures.written files asked_new) c.in-Ok-answer_lines.ensures.none_failed c.status-in-Ok-answer_lines.ensures
+    (g.F.Files.asked c.prepared.new.files) c.args.steps.now c.prepared.new.steps (runs.Opened c.in-Ok-Opened.opened) =
+    rw c.in-Ok-Opened.field-0-is at c.in-Ok-Opened.ensures.run in
+    all_answered files _ _ (g.F.Files.asked c.args.files.now) asked_new ready.1 _ c.prepared.ensures.fileless _ _ _ _ _ _ _ _ _ _ _ _ _ ready.2 c.in-Ok-Opened.ensures.failed
+    c.in-Ok-write_answers.ending c.status-in-Ok-write_answers.result (rw c.in-Ok-Opened.field-0-is at c.in-Ok-write_answers.ensures.written files asked_new) c.in-Ok-write_answers.ensures.none_failed c.status-in-Ok-write_answers.ensures
 
-pub returns-in-Ok-answer_lines-clause-listed : goal.returns-in-Ok-answer_lines-clause-listed
-returns-in-Ok-answer_lines-clause-listed g c = λ is.
+pub returns-in-Ok-write_answers-clause-listed : goal.returns-in-Ok-write_answers-clause-listed
+returns-in-Ok-write_answers-clause-listed g c = λ is.
     let files = g.F.Files.told c.args.files.now in
     let asked_new = g.F.Files.asked c.prepared.new.files in
     let images = (goal.HostOp-dyn g c.args.images.now).test c.args.images.now.1 in
@@ -90,15 +90,15 @@ returns-in-Ok-answer_lines-clause-listed g c = λ is.
     let then_changes = (goal.HostOp-dyn g c.args.images.now).changes c.prepared.new.images in
     let run = run_of images scripts can_change (map string_bytes c.args.call.words.now) in
     let ready : IsPrepared then_images scripts then_changes (g.F.Files.told c.args.files.now) run (g.F.Files.asked c.args.files.now)
-    (g.F.Files.asked c.prepared.new.files) c.args.steps.now c.prepared.new.steps (runs.Script c.in-Ok-Script.opened) =
-    rw c.in-Ok-Script.field-0-is at c.in-Ok-Script.ensures.run in
-    let ended = rw c.in-Ok-Script.field-0-is at c.in-Ok-answer_lines.ensures.written files asked_new in
-    let made = stretch_outcome ended.0 c.in-Ok-answer_lines.ending in
+    (g.F.Files.asked c.prepared.new.files) c.args.steps.now c.prepared.new.steps (runs.Opened c.in-Ok-Opened.opened) =
+    rw c.in-Ok-Opened.field-0-is at c.in-Ok-Opened.ensures.run in
+    let ended = rw c.in-Ok-Opened.field-0-is at c.in-Ok-write_answers.ensures.written files asked_new in
+    let made = stretch_outcome ended.0 c.in-Ok-write_answers.ending in
     found_is_listed c.faults_are_listed.ensures files _ _ _ (map string_bytes c.args.call.words.now)
-    (asked (map string_bytes c.args.call.words.now)) _ _ made _ refl (ready.1.outcomes asked_new made ended.1) c.status-in-Ok-answer_lines.ensures is
+    (asked (map string_bytes c.args.call.words.now)) _ _ made _ refl (ready.1.outcomes asked_new made ended.1) c.status-in-Ok-write_answers.ensures is
 
-pub returns-in-Err-NoMemory-answer_lines-clause-promises : goal.returns-in-Err-NoMemory-answer_lines-clause-promises
-returns-in-Err-NoMemory-answer_lines-clause-promises g c =
+pub returns-in-Err-NoMemory-write_answers-clause-promises : goal.returns-in-Err-NoMemory-write_answers-clause-promises
+returns-in-Err-NoMemory-write_answers-clause-promises g c =
     let files = g.F.Files.told c.args.files.now in
     let asked_new = g.F.Files.asked c.prepared.new.files in
     let images = (goal.HostOp-dyn g c.args.images.now).test c.args.images.now.1 in
@@ -108,13 +108,13 @@ returns-in-Err-NoMemory-answer_lines-clause-promises g c =
     let then_changes = (goal.HostOp-dyn g c.args.images.now).changes c.prepared.new.images in
     let run = run_of images scripts can_change (map string_bytes c.args.call.words.now) in
     let ready : IsPrepared then_images scripts then_changes (g.F.Files.told c.args.files.now) run (g.F.Files.asked c.args.files.now)
-    (g.F.Files.asked c.prepared.new.files) c.args.steps.now c.prepared.new.steps (runs.Script c.in-Ok-Script.opened) =
-    rw c.in-Ok-Script.field-0-is at c.in-Ok-Script.ensures.run in
-    memory_lacked files _ _ (g.F.Files.asked c.args.files.now) asked_new ready.1 _ c.prepared.ensures.fileless _ _ _ _ _ _ _ _ _ _ _ _ _ ready.2 c.in-Ok-Script.ensures.failed
-    (rw (c.in-Err-NoMemory-answer_lines.field-0-is, c.in-Ok-Script.field-0-is) at c.in-Err-NoMemory-answer_lines.ensures.stop files asked_new)
+    (g.F.Files.asked c.prepared.new.files) c.args.steps.now c.prepared.new.steps (runs.Opened c.in-Ok-Opened.opened) =
+    rw c.in-Ok-Opened.field-0-is at c.in-Ok-Opened.ensures.run in
+    memory_lacked files _ _ (g.F.Files.asked c.args.files.now) asked_new ready.1 _ c.prepared.ensures.fileless _ _ _ _ _ _ _ _ _ _ _ _ _ ready.2 c.in-Ok-Opened.ensures.failed
+    (rw (c.in-Err-NoMemory-write_answers.field-0-is, c.in-Ok-Opened.field-0-is) at c.in-Err-NoMemory-write_answers.ensures.stop files asked_new)
 
-pub returns-in-Ok-Script-clause-promises : goal.returns-in-Ok-Script-clause-promises
-returns-in-Ok-Script-clause-promises g c =
+pub returns-in-Ok-Opened-clause-promises : goal.returns-in-Ok-Opened-clause-promises
+returns-in-Ok-Opened-clause-promises g c =
     let files = g.F.Files.told c.args.files.now in
     let asked_new = g.F.Files.asked c.prepared.new.files in
     let images = (goal.HostOp-dyn g c.args.images.now).test c.args.images.now.1 in
@@ -124,22 +124,22 @@ returns-in-Ok-Script-clause-promises g c =
     let then_changes = (goal.HostOp-dyn g c.args.images.now).changes c.prepared.new.images in
     let run = run_of images scripts can_change (map string_bytes c.args.call.words.now) in
     let ready : IsPrepared then_images scripts then_changes (g.F.Files.told c.args.files.now) run (g.F.Files.asked c.args.files.now)
-    (g.F.Files.asked c.prepared.new.files) c.args.steps.now c.prepared.new.steps (runs.Script c.in-Ok-Script.opened) =
-    rw c.in-Ok-Script.field-0-is at c.in-Ok-Script.ensures.run in
-    write_failed files _ _ (g.F.Files.asked c.args.files.now) asked_new ready.1 _ c.prepared.ensures.fileless _ _ _ _ _ _ _ _ _ _ _ _ _ ready.2 c.in-Ok-Script.ensures.failed
-    (rw (c.in-Err-Unwritten.field-0-is, c.in-Ok-Script.field-0-is) at c.in-Err-Unwritten.ensures.stop files asked_new)
+    (g.F.Files.asked c.prepared.new.files) c.args.steps.now c.prepared.new.steps (runs.Opened c.in-Ok-Opened.opened) =
+    rw c.in-Ok-Opened.field-0-is at c.in-Ok-Opened.ensures.run in
+    write_failed files _ _ (g.F.Files.asked c.args.files.now) asked_new ready.1 _ c.prepared.ensures.fileless _ _ _ _ _ _ _ _ _ _ _ _ _ ready.2 c.in-Ok-Opened.ensures.failed
+    (rw (c.in-Err-Unwritten.field-0-is, c.in-Ok-Opened.field-0-is) at c.in-Err-Unwritten.ensures.stop files asked_new)
 
-pub returns-in-Ok-answer_lines-clause-steps : goal.returns-in-Ok-answer_lines-clause-steps
-returns-in-Ok-answer_lines-clause-steps g c = λ none.
-    absurd (never_both _ (rw c.in-Ok-Script.field-0-is at c.in-Ok-Script.ensures.script) none)
+pub returns-in-Ok-write_answers-clause-steps : goal.returns-in-Ok-write_answers-clause-steps
+returns-in-Ok-write_answers-clause-steps g c = λ none.
+    absurd (never_both _ (rw c.in-Ok-Opened.field-0-is at c.in-Ok-Opened.ensures.script) none)
 
-pub returns-in-Err-NoMemory-answer_lines-clause-steps : goal.returns-in-Err-NoMemory-answer_lines-clause-steps
-returns-in-Err-NoMemory-answer_lines-clause-steps g c = λ none.
-    absurd (never_both _ (rw c.in-Ok-Script.field-0-is at c.in-Ok-Script.ensures.script) none)
+pub returns-in-Err-NoMemory-write_answers-clause-steps : goal.returns-in-Err-NoMemory-write_answers-clause-steps
+returns-in-Err-NoMemory-write_answers-clause-steps g c = λ none.
+    absurd (never_both _ (rw c.in-Ok-Opened.field-0-is at c.in-Ok-Opened.ensures.script) none)
 
-pub returns-in-Ok-Script-clause-steps : goal.returns-in-Ok-Script-clause-steps
-returns-in-Ok-Script-clause-steps g c = λ none.
-    absurd (never_both _ (rw c.in-Ok-Script.field-0-is at c.in-Ok-Script.ensures.script) none)
+pub returns-in-Ok-Opened-clause-steps : goal.returns-in-Ok-Opened-clause-steps
+returns-in-Ok-Opened-clause-steps g c = λ none.
+    absurd (never_both _ (rw c.in-Ok-Opened.field-0-is at c.in-Ok-Opened.ensures.script) none)
 
 -- ---- the run has no answer
 

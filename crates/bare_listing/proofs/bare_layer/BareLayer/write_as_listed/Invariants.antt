@@ -1,9 +1,10 @@
-use Rattle.std.proofs.Common.{◌≡◌, ◌++◌, ◌+◌, ◌≤◌, [], false, length}
+use Rattle.std.proofs.Common.{◌≡◌, ◌+◌, ◌≤◌, [], false, length}
 use Rattle.style_layout.specs.Layers.{has_features}
 use Rattle.style_layout.specs.Shown.{layer_features, numbered, shown_features, those_shown}
 use Rattle.style_layout.specs.Walk.{HasFewLeft, features_left}
 use Rattle.bare_listing.specs.Costs.{each_cost, nodes_by, one_of}
 use Rattle.bare_listing.specs.SeenLayer.{layer_in, lines_of, scene_in, slots_in, sources_in, tiles_in}
+use Rattle.text_pieces.proofs.PieceLaws.{IsAdding}
 use Rattle.bare_listing.proofs.bare_layer.BareLayer.write_as_listed.Given as goal
 
 abbrev pub invariant-loop-found : goal.invariant-loop-found
@@ -15,8 +16,8 @@ invariant-loop-found g l =
     let all = numbered 0 (layer_features (tiles_in l.self) layer) in
     let left = features_left l.features in
     record {
-      lines : l.out.items ++ lines_of scene layer (those_shown scene layer left)
-          ≡ l.fn.out.items ++ lines_of scene layer (shown_features scene layer (tiles_in l.self));
+      text : IsAdding g.O.Sink.held g.O.Sink.faults l.fn.pieces l.pieces (lines_of scene layer (those_shown scene layer left))
+          (lines_of scene layer (shown_features scene layer (tiles_in l.self)));
       few : HasFewLeft l.features;
       typed : has_features layer.type ≡ false → left ≡ [];
       number : l.number + number left ≡ number all;

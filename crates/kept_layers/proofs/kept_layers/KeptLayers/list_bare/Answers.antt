@@ -3,10 +3,11 @@ use Rattle.std.proofs.lemmas.List.{length-map}
 use Rattle.form_pool.specs.PoolSlots.{pool_slots}
 use Rattle.layer_buckets.specs.Seen.{IsSound, kept_at}
 use Rattle.style_layout.specs.CodeView.{document_layer, scene_seen}
-use Rattle.kept_layers.proofs.ListLaws.{CountsFirst, all_counts, bare_counts, bare_stops, failed_counts, layers_length, leaves_same, lines_end, lines_first, lines_next, none_counted, this_few, this_layer, this_listable, this_there, this_within}
+use Rattle.kept_layers.proofs.ListLaws.{CountsFirst, all_counts, bare_counts, bare_stops, failed_counts, layers_length, leaves_same, lines_split, no_lines, none_counted, this_few, this_layer, this_listable, this_there, this_within}
 use Rattle.kept_layers.proofs.NumberedLaws.{asked_numbered}
 use Rattle.kept_layers.specs.KeptLayers.{prepared_layer, prepared_layers}
 use Rattle.kept_layers.specs.View.{globals_in, kept_seen, tiles_in, trees_in}
+use Rattle.text_pieces.proofs.PieceLaws.{begins, breaks_off, ends, goes_on, lacks, left_is}
 use Rattle.kept_layers.proofs.kept_layers.KeptLayers.list_bare.Goals as goal
 
 pub loop-place-init : goal.loop-place-init
@@ -19,7 +20,7 @@ loop-place-init g c =
       buckets = refl;
       counts = none_counted pool_slots scene (tiles_in style) (globals_in style) c.args.self.now.numbers.items (trees_in style)
           c.args.self.now.cells.buckets c.args.steps.now c.requires.holds c.requires.right;
-      text = lines_first scene (tiles_in style) c.args.out.now.items (prepared_layers (globals_in style) (trees_in style));
+      text = begins g.O.Sink.held g.O.Sink.faults c.args.pieces.now _;
     }
 
 pub index-requires : goal.index-requires
@@ -143,9 +144,11 @@ loop-place-preserved g c =
           (kept_seen c.args.self.now) (k + 1) b c.in_ok-evaluated.evaluated c.args.steps.now c.write_bare_layer.new.steps) (sym same)
           (bare_counts i.counts x within is layer found (λ cell. ap (λ b. kept_at b cell) i.buckets ∙ c.requires.bare cell)
           c.write_bare_layer.new.steps c.in_ok-more.more c.in_ok-more.ensures.evaluates c.in_ok-evaluated.evaluated c.in_ok-evaluated.ensures);
-      text = lines_next scene (tiles_in c.args.style.now) c.args.out.now.items c.loop-place.out.items c.write_bare_layer.new.out.items
-          (prepared_layers (globals_in c.args.style.now) (trees_in c.args.style.now)) k layer (this_within i.counts x within is (prepared_layers (globals_in c.args.style.now) (trees_in c.args.style.now)) refl)
-          c.listed_layer.ensures i.text c.in_ok-more.ensures.lines;
+      text = goes_on g.O.Sink.held g.O.Sink.faults c.args.pieces.now c.loop-place.pieces _ _ _ _ c.in_ok-more.ensures.text
+          (left_is g.O.Sink.held g.O.Sink.faults c.args.pieces.now c.loop-place.pieces _ _ _
+          (lines_split scene (tiles_in c.args.style.now) (prepared_layers (globals_in c.args.style.now) (trees_in c.args.style.now)) k layer
+          (this_within i.counts x within is (prepared_layers (globals_in c.args.style.now) (trees_in c.args.style.now)) refl)
+          c.listed_layer.ensures) i.text);
     }
 
 pub returns-clause-numbered : goal.returns-clause-numbered
@@ -165,4 +168,39 @@ returns-clause-text g c =
     let past : length c.args.self.now.numbers.items ≤ c.loop-place.place =
     omega (arith, c.loop-place-test.false, c.len-place-end.ensures, c.args.self.now.numbers.ok.0) in
     let all : length layers ≤ c.loop-place.place = omega (arith, past, layers_length i.counts layers refl) in
-    lines_end scene (tiles_in c.args.style.now) c.args.out.now.items c.loop-place.out.items layers c.loop-place.place all i.text
+    ends g.O.Sink.held g.O.Sink.faults c.args.pieces.now c.loop-place.pieces _
+    (left_is g.O.Sink.held g.O.Sink.faults c.args.pieces.now c.loop-place.pieces _ _ _
+    (no_lines scene (tiles_in c.args.style.now) layers c.loop-place.place all) i.text)
+
+pub returns-in_err-more-clause-text : goal.returns-in_err-more-clause-text
+returns-in_err-more-clause-text g c =
+    let scene = scene_seen g.V.TextTests.tests c.args.scene.now in
+    let ns = c.args.self.now.numbers.items in
+    let i = c.loop-place.invariant in
+    let k = c.loop-place.place in
+    let x = c.index.result.now in
+    let within : k < length ns = omega (arith, c.loop-place-test.true, c.len-place-end.ensures, c.args.self.now.numbers.ok.0) in
+    let is : x ≡ get_or ns k x = c.index.ensures ∙ ap (λ v. get_or v.items k x) i.numbers in
+    let layers = prepared_layers (globals_in c.args.style.now) (trees_in c.args.style.now) in
+    let layer = document_layer c.listed_layer.result in
+    breaks_off g.O.Sink.held g.O.Sink.faults c.from_residual.result c.args.pieces.now c.loop-place.pieces _ _ _ _
+    c.from_residual.ensures.1 c.in_err-more.ensures.text
+    (left_is g.O.Sink.held g.O.Sink.faults c.args.pieces.now c.loop-place.pieces _ _ _
+    (lines_split scene (tiles_in c.args.style.now) layers k layer (this_within i.counts x within is layers refl) c.listed_layer.ensures) i.text)
+
+pub returns-in_err-evaluated-clause-text : goal.returns-in_err-evaluated-clause-text
+returns-in_err-evaluated-clause-text g c =
+    let scene = scene_seen g.V.TextTests.tests c.args.scene.now in
+    let ns = c.args.self.now.numbers.items in
+    let i = c.loop-place.invariant in
+    let k = c.loop-place.place in
+    let x = c.index.result.now in
+    let within : k < length ns = omega (arith, c.loop-place-test.true, c.len-place-end.ensures, c.args.self.now.numbers.ok.0) in
+    let is : x ≡ get_or ns k x = c.index.ensures ∙ ap (λ v. get_or v.items k x) i.numbers in
+    let layers = prepared_layers (globals_in c.args.style.now) (trees_in c.args.style.now) in
+    let layer = document_layer c.listed_layer.result in
+    lacks g.O.Sink.held g.O.Sink.faults c.from_residual-in_err-evaluated.result c.args.pieces.now c.write_bare_layer.new.pieces _ _ _
+    c.from_residual-in_err-evaluated.ensures.1 refl
+    (goes_on g.O.Sink.held g.O.Sink.faults c.args.pieces.now c.loop-place.pieces _ _ _ _ c.in_ok-more.ensures.text
+    (left_is g.O.Sink.held g.O.Sink.faults c.args.pieces.now c.loop-place.pieces _ _ _
+    (lines_split scene (tiles_in c.args.style.now) layers k layer (this_within i.counts x within is layers refl) c.listed_layer.ensures) i.text))

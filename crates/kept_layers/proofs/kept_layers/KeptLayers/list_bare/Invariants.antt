@@ -1,9 +1,10 @@
-use Rattle.std.proofs.Common.{◌≡◌, ◌++◌, drop}
+use Rattle.std.proofs.Common.{◌≡◌, drop}
 use Rattle.form_pool.specs.PoolSlots.{pool_slots}
 use Rattle.style_layout.specs.CodeView.{scene_seen}
 use Rattle.kept_layers.proofs.ListLaws.{CountsFirst, lines_of}
 use Rattle.kept_layers.specs.KeptLayers.{prepared_layers}
 use Rattle.kept_layers.specs.View.{AreNumbered, globals_in, kept_seen, tiles_in, trees_in}
+use Rattle.text_pieces.proofs.PieceLaws.{IsAdding}
 use Rattle.kept_layers.proofs.kept_layers.KeptLayers.list_bare.Given as goal
 
 abbrev pub invariant-loop-place : goal.invariant-loop-place
@@ -17,5 +18,5 @@ invariant-loop-place g l =
       buckets : l.self.cells.buckets ≡ l.fn.self.cells.buckets;
       counts : CountsFirst pool_slots scene (tiles_in l.style) (globals_in l.style) l.fn.self.numbers.items (trees_in l.style)
           (kept_seen l.fn.self) l.place l.self.cells.buckets l.evaluated l.fn.steps l.steps;
-      text : l.out.items ++ lines (drop l.place layers) ≡ l.fn.out.items ++ lines layers;
+      text : IsAdding g.O.Sink.held g.O.Sink.faults l.fn.pieces l.pieces (lines (drop l.place layers)) (lines layers);
     }

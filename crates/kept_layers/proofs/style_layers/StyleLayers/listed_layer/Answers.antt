@@ -3,7 +3,7 @@ use Rattle.std.proofs.lemmas.List.{get_or-map}
 use Rattle.decimal_json.specs.Tree.{null}
 use Rattle.decimal_json.specs.View.{tree_of}
 use Rattle.style_layout.proofs.FilledLayers.{layer_filled}
-use Rattle.style_layout.specs.CodeView.{document_layer, layer_seen, layers_seen}
+use Rattle.style_layout.specs.CodeView.{layer_seen, layers_seen}
 use Rattle.kept_layers.specs.KeptLayers.{outline_of, prepared_layer, type_of}
 use Rattle.kept_layers.specs.View.{globals_in, trees_in}
 use Rattle.kept_layers.proofs.OneLayers.{outline_at, outline_within, tree_at, within_layers}

@@ -1,0 +1,2 @@
+-- For the crates above.
+pub mod PieceLaws
