@@ -160,7 +160,7 @@ impl<E: CountedEvaluator + Drop> ViewCells<E> {
             let feature = LayerFeature {
                 number: found.0,
                 feature: found.1,
-                state: state_of(at.layer.prepared, at.scene, found.1.id),
+                state: state_of(at.layer.prepared, at.scene, found.1.id.get()),
             };
             let more = self.ask_feature(at, &feature, answer, steps)?;
             number = sum_of(number, more)?;

@@ -41,7 +41,7 @@ impl<V: TextTests> WorldView for CellWorld<'_, V> {
 
     fn id(&self) -> Option<u64> {
         match self.feature {
-            Some(feature) => feature.feature.id,
+            Some(feature) => feature.feature.id.get(),
             None => None,
         }
     }

@@ -91,7 +91,7 @@ impl<E: CountedEvaluator + Drop, V: TextTests> BareLayer<'_, E, V> {
         write_feature_line(
             feature.number,
             feature.feature.shape,
-            feature.feature.id,
+            feature.feature.id.get(),
             out,
         )?;
         let layer = self.at.layer;
@@ -203,7 +203,7 @@ impl<E: CountedEvaluator + Drop, V: TextTests> BareLayer<'_, E, V> {
         LayerFeature {
             number,
             feature,
-            state: self.state(feature.id),
+            state: self.state(feature.id.get()),
         }
     }
 

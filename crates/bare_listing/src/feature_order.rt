@@ -223,7 +223,7 @@ impl<E: CountedEvaluator + Drop, V: TextTests> BareLayer<'_, E, V> {
         write_feature_line(
             feature.number,
             feature.feature.shape,
-            feature.feature.id,
+            feature.feature.id.get(),
             out,
         )?;
         let front = before(properties, sort.place);

@@ -27,8 +27,9 @@ use style_layout::{LayerFeature, LayerFeatures, SourceTile, TextTests};
 use text_pieces::TextPieces;
 
 /// Adds the lines of a layer, and gives how many cells were evaluated for it: all that a listing asks of it. None is
-/// kept, and what was kept is not looked at. The layer has fewer than 2^32 features. A piece is written out before
-/// the layer or the feature after which it is full. Where an allocation or a write fails, some of the lines may have been written out.
+/// kept, and what was kept is not looked at. The layer has fewer than 2^32 features. What waits is written out once it
+/// fills a piece, before the line of the layer and after each feature. Where an allocation or a write fails, some of
+/// the lines may have been written out.
 pub fn write_bare_layer<E: CountedEvaluator + Drop, V: TextTests, L: Ledger, O: Sink>(
     alloc: Global,
     cells: &mut ViewCells<E>,

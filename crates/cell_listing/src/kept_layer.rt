@@ -41,7 +41,7 @@ impl<E: CountedEvaluator + Drop> KeptLayer<'_, E> {
         ensures { OnOk result (out.new.items ≡ out.old.items
             ++ feature_lines (feature_in self.now (number, feature.now))) }
     {
-        write_feature_line(number, feature.shape, feature.id, out)?;
+        write_feature_line(number, feature.shape, feature.id.get(), out)?;
         self.write_values(Some(number), b"    ", out)
     }
 

@@ -153,7 +153,7 @@ fn index_of(
     let mut index = IdIndex::new(alloc);
     let mut features = LayerFeatures::new(layer, tiles);
     while let Some(next) = features.next() {
-        index.push(next.1.id)?;
+        index.push(next.1.id.get())?;
     }
     Ok(index)
 }

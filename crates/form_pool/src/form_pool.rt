@@ -20,7 +20,7 @@ use outside_io::Steps;
 use prop_values::Value;
 use std::alloc::{AllocError, Global};
 use std::sync::ledger::Ledger;
-use tile_reader::{Feature, FeatureProperties, Shape};
+use tile_reader::{Feature, FeatureId, FeatureProperties, Shape};
 
 /// Expressions and legacy forms by their numbers.
 #[derive(Drop)]
@@ -53,7 +53,7 @@ impl FormPool {
             nodes: Pool::new(alloc),
             slots: Vec::new(alloc),
             bare: Feature {
-                id: None,
+                id: FeatureId::of(None),
                 shape: Shape::Unknown,
                 properties: FeatureProperties::none(),
             },

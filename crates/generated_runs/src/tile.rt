@@ -8,7 +8,7 @@ use decimal_json::Text;
 use fixed_num::Fixed;
 use prop_values::Value;
 use std::alloc::{AllocError, Global};
-use tile_reader::{Feature, FeatureProperties, Features, Shape, Tile, TileLayer};
+use tile_reader::{Feature, FeatureId, FeatureProperties, Features, Shape, Tile, TileLayer};
 
 /// The tile of so many features.
 pub fn generated_tile(alloc: Global, count: u32) -> Result<Tile, AllocError>
@@ -45,7 +45,7 @@ fn ranked_point(alloc: Global, key: &Text, id: u64, rank: u64) -> Result<Feature
 {
     let number = Fixed::from_millionths(rank as i128 * 1_000_000).unwrap();
     Ok(Feature {
-        id: Some(id),
+        id: FeatureId::of(Some(id)),
         shape: Shape::Point,
         properties: FeatureProperties::one(alloc, key.share()?, Value::Num(number))?,
     })

@@ -196,7 +196,7 @@ impl KeptLayers {
     {
         let mut features = LayerFeatures::new(shown, tiles);
         while let Some((feature, found)) = features.next() {
-            if found.id == Some(id) {
+            if found.id.get() == Some(id) {
                 self.cells
                     .buckets
                     .drop_cells(&Stale::State(number, feature));

@@ -23,7 +23,7 @@ pub(crate) fn found_at<'a>(key: &Key, feature: &'a Feature) -> Option<TestedValu
 {
     match key {
         Key::Shape => Some(TestedValue::Shape(feature.shape.name())),
-        Key::Id => match feature.id {
+        Key::Id => match feature.id.get() {
             Some(id) => Some(TestedValue::Id(id_number(id))),
             None => None,
         },

@@ -75,7 +75,7 @@ impl<I: TextTest, S: TextTest> WorldView for TestedContext<'_, '_, I, S> {
 
     fn id(&self) -> Option<u64> {
         match self.context.feature {
-            Some(feature) => feature.id,
+            Some(feature) => feature.id.get(),
             None => None,
         }
     }

@@ -14,7 +14,7 @@
 //!
 //! So a text of any length takes the memory of a piece and of what is added at once.
 //!
-//! The text to believe is in `specs/`: `Pieces`.
+//! The text to believe is in `specs/`: `Pieces`, `Adding`.
 #![tactic(auto)]
 
 mod pieces;

@@ -85,7 +85,7 @@ fn narrow(place: usize) -> Result<u32, AllocError>
 fn write_feature(number: u32, feature: &Feature, out: &mut Vec<u8>) -> Result<(), AllocError>
     ensures { OnOk result (out.new.items ≡ out.old.items ++ feature_lines number feature.now) }
 {
-    write_feature_line(number, feature.shape, feature.id, out)?;
+    write_feature_line(number, feature.shape, feature.id.get(), out)?;
     write_properties(&feature.properties, out)
 }
 

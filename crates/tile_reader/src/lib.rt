@@ -4,7 +4,7 @@
 //! ```text
 //! match read_tile(alloc, bytes)? {
 //!     Ok(tile) => ..,      // tile.as_slice()[0].name, .features ..; tile.named("roads")
-//!                          // feature.id, feature.shape, feature.properties.get("class")
+//!                          // feature.id.get(), feature.shape, feature.properties.get("class")
 //!     Err(fault) => ..,    // fault.kind, fault.at
 //! }
 //! ```
@@ -28,6 +28,7 @@
 
 mod fault;
 mod feature;
+mod feature_id;
 mod feature_properties;
 mod laws;
 mod layer;
@@ -38,6 +39,7 @@ mod value;
 mod wire_parts;
 
 pub use fault::{TileFault, TileKind};
+pub use feature_id::FeatureId;
 pub use feature_properties::FeatureProperties;
 pub use laws::{bytes_are_one_tile, keys_differ, messages_are_cut};
 pub use reading::read_tile;

@@ -8,6 +8,7 @@ ghost use Rattle.tile_reader.specs.Ranges.{IsRange, AreRanges, feature_in, featu
 
 use crate::fault::{TileFault, TileKind};
 use crate::feature::TaggedFeature;
+use crate::feature_id::FeatureId;
 use crate::feature_properties::{FeatureProperties, LayerTable};
 use crate::tile::{Feature, Features, Shape};
 use crate::value::Held;
@@ -380,7 +381,7 @@ fn shared_features(
         let (id, others) = front_id(feature.has_id, rest);
         rest = others;
         features.push(Feature {
-            id,
+            id: FeatureId::of(id),
             shape: feature.shape,
             properties,
         })?;

@@ -2,6 +2,7 @@ ghost use Rattle.std.specs.Prelude.{◌≡◌, [], ◌∷◌, ◌++◌, IfOk, On
 ghost use Rattle.key_index.specs.Keys.{LacksKey};
 ghost use Rattle.tile_reader.specs.ShapeName.{shape_name};
 
+use crate::feature_id::FeatureId;
 use crate::feature_properties::FeatureProperties;
 use decimal_json::Text;
 use key_index::{KeyIndex, Keyed};
@@ -31,10 +32,10 @@ impl Shape {
     }
 }
 
-/// A feature of a layer. Its geometry is not read.
+/// A feature of a layer, of 40 bytes. Its geometry is not read.
 #[derive(Drop)]
 pub struct Feature {
-    pub id: Option<u64>,
+    pub id: FeatureId,
     pub shape: Shape,
     /// Whole numbers, texts and booleans, each under its key.
     pub properties: FeatureProperties,
