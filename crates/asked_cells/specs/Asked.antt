@@ -1,5 +1,6 @@
 -- The cells of a layer, what they mean, and which of them a listing asks, in their order. Source: own.
-use Rattle.std.specs.Prelude.{◌≡◌, ℕ, ℤ, List, [], ◌∷◌, ◌++◌, flat_map, Bool, true, false, not, ◌&&◌, Option, Some, None, option_map, Ok, if◌then◌else◌}
+use Rattle.std.specs.Prelude.{◌≡◌, ℕ, ℤ, List, [], ◌∷◌, ◌++◌, flat_map, Bool, true, false, not, ◌&&◌, Option, Some}
+use Rattle.std.specs.Prelude.{None, option_map, Ok, if◌then◌else◌}
 use Rattle.std.specs.List.{slice_get}
 use Rattle.fixed_num.specs.Number.{floor_of}
 use Rattle.prop_values.specs.Data.{boolean, null}

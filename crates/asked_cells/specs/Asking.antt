@@ -1,5 +1,6 @@
 -- What calls that ask cells ask and promise of what is kept.
-use Rattle.std.specs.Prelude.{◌≡◌, ◌≢◌, ℕ, ◌<◌, List, length, Bool, true, false, Option, Some, None, is_some, Result, if◌then◌else◌}
+use Rattle.std.specs.Prelude.{◌≡◌, ◌≢◌, ℕ, ◌<◌, List, length, Bool, true, false, Option, Some, None, is_some, Result}
+use Rattle.std.specs.Prelude.{if◌then◌else◌}
 use Rattle.operator_values.specs.Evaluated.{Evaluated}
 use Rattle.expr_nodes.specs.Evaluators.{Sized}
 use Rattle.eval_face.specs.Resolved.{passes}
@@ -13,7 +14,8 @@ use Rattle.style_layout.specs.Forms as forms
 use Rattle.style_layout.specs.Forms.{Scene, reads_feature}
 use Rattle.style_layout.specs.Layers.{StyleLayer, has_features}
 use Rattle.style_layout.specs.Shown.{LayerFeature, SourceTile, is_shown}
-use Rattle.asked_cells.specs.Asked.{AskedCell, IsDecided, LayerCell, answer_by, constant_answer, has_own_cells, layer_asked, meaning}
+use Rattle.asked_cells.specs.Asked.{AskedCell, IsDecided, LayerCell, answer_by, constant_answer, has_own_cells}
+use Rattle.asked_cells.specs.Asked.{layer_asked, meaning}
 use Rattle.asked_cells.specs.Counted.{AreMeant, AreRight, Asks, kept_in}
 use Rattle.asked_cells.specs.Expressions.{HasExpressions, LayerExpressions}
 

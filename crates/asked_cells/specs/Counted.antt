@@ -1,5 +1,6 @@
 -- Which of the asked cells of a layer are evaluated, and what is kept afterwards. Source: own.
-use Rattle.std.specs.Prelude.{◌≡◌, ℕ, ◌+◌, ◌≤◌, List, [], ◌∷◌, Bool, false, ◌||◌, Option, Some, is_some, Result, IfOk, if◌then◌else◌}
+use Rattle.std.specs.Prelude.{◌≡◌, ℕ, ◌+◌, ◌≤◌, List, [], ◌∷◌, Bool, false, ◌||◌, Option, Some, is_some, Result, IfOk}
+use Rattle.std.specs.Prelude.{if◌then◌else◌}
 use Rattle.operator_values.specs.Evaluated.{Evaluated}
 use Rattle.layer_buckets.specs.Seen.{kept_at}
 use Rattle.layer_buckets.specs.declared.buckets.Buckets.{Buckets}

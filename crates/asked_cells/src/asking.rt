@@ -8,8 +8,11 @@ ghost use Rattle.listing_text.specs.declared.show.Show.TheVariants.{Plain};
 ghost use Rattle.style_layout.specs.CodeView.{document_property, feature_seen, tile_seen};
 ghost use Rattle.style_layout.specs.Shown.{layer_features, numbered};
 ghost use Rattle.style_layout.specs.declared.document_layer.DocumentLayer.{DocumentLayer};
-ghost use Rattle.asked_cells.specs.Asked.{IsDecided, common_asked, common_cell, each_asked, feature_asked, feature_number, features_asked, filter_asked, is_listed, item_asked, passed_asked, shown_asked, value_asked, values_asked};
-ghost use Rattle.asked_cells.specs.Asking.{AsksAll, AsksIf, HasSlots, IsAnswer, IsCommonAnswer, LeavesSources, common_answer};
+ghost use Rattle.asked_cells.specs.Asked.{IsDecided, common_asked, common_cell, each_asked, feature_asked};
+ghost use Rattle.asked_cells.specs.Asked.{feature_number, features_asked, filter_asked, is_listed, item_asked};
+ghost use Rattle.asked_cells.specs.Asked.{passed_asked, shown_asked, value_asked, values_asked};
+ghost use Rattle.asked_cells.specs.Asking.{AsksAll, AsksIf, HasSlots, IsAnswer, IsCommonAnswer, LeavesSources};
+ghost use Rattle.asked_cells.specs.Asking.{common_answer};
 ghost use Rattle.asked_cells.specs.Counted.{kept_in};
 ghost use Rattle.asked_cells.specs.SeenCells.{HasCellFeature, cell_feature, layer_at, property_at, scene_at};
 

@@ -1,4 +1,5 @@
--- A listing asks no cell twice. So the cells that it asks and that are not kept are what it evaluates, each of them once. Source: own.
+-- A listing asks no cell twice. So the cells that it asks and that are not kept are what it evaluates, each of them
+-- once. Source: own.
 use Rattle.std.specs.Prelude.{◌≡◌, ◌≢◌, ℕ, ◌+◌, List, [], ◌∷◌, ◌++◌, AllPairs, count_by, length, map, not}
 use Rattle.decimal_json.specs.Tree.{Tree}
 use Rattle.prop_values.specs.Data.{Data}
@@ -10,8 +11,8 @@ use Rattle.asked_cells.specs.Asked.{AskedCell, cell_in}
 use Rattle.kept_layers.specs.Changes.{nothing_kept}
 use Rattle.kept_layers.specs.KeptLayers.{LayerKept, asked_of, evaluations_in, evaluations_of}
 
--- In each scene, over all tiles and by all values of the global state, no two of the cells that a listing asks of a layer
--- are the same, whatever tree the layer is.
+-- In each scene, over all tiles and by all values of the global state, no two of the cells that a listing asks of a
+-- layer are the same, whatever tree the layer is.
 abbrev pub LayersAskNoCellTwice : Type 0
 LayersAskNoCellTwice =
     (scene : Scene) (tiles : List SourceTile) (globals : List (List ℕ × Data)) (layer : Tree) →

@@ -10,8 +10,8 @@ use Rattle.asked_cells.specs.Asked.{AskedCell, IsDecided, layer_asked}
 use Rattle.asked_cells.specs.Expressions.{AreGiven, HasExpressions, LayerExpressions}
 use Rattle.cell_listing.specs.Listable.{AllReadAsListed}
 
--- The items of the layer that has this number in the buckets have sources by expressions that give what is listed for its properties,
--- and that say which features pass.
+-- The items of the layer that has this number in the buckets have sources by expressions that give what is listed for
+-- its properties, and that say which features pass.
 pub record IsBareListable {E : Type 0} (slots : E → List Sized) (number : ℕ) (scene : Scene) (layer : StyleLayer)
     (b : Buckets E) : Type 0 where
   pub expressions : LayerExpressions

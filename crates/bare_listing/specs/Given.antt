@@ -1,5 +1,6 @@
 -- What the sources of a layer's items give: the words of the private contracts. Source: own.
-use Rattle.std.specs.Prelude.{◌≡◌, ℕ, ◌<◌, List, length, map, filter, Bool, true, false, ◌&&◌, Option, Some, None, is_some, if◌then◌else◌}
+use Rattle.std.specs.Prelude.{◌≡◌, ℕ, ◌<◌, List, length, map, filter, Bool, true, false, ◌&&◌, Option, Some, None}
+use Rattle.std.specs.Prelude.{is_some, if◌then◌else◌}
 use Rattle.std.specs.List.{AllByRecursion}
 use Rattle.fixed_num.specs.Number.{floor_of}
 use Rattle.operator_values.specs.Evaluated.{Evaluated}

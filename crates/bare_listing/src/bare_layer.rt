@@ -57,7 +57,8 @@ impl<E: CountedEvaluator + Drop, V: TextTests> BareLayer<'_, E, V> {
         steps: &mut Steps<L>,
     ) -> Result<Result<Value, EvalFault>, AllocError>
         requires { source.now.slot < length (slots_in E.slots self.now) }
-        ensures given { IfOk result (λ value. given_from (scene_in V.tests self.now) (slots_in E.slots self.now) source.now
+        ensures given { IfOk result
+            (λ value. given_from (scene_in V.tests self.now) (slots_in E.slots self.now) source.now
             (cell_feature feature.entry) ≡ Some (outcome_owned value)) }
         ensures least { steps.old < steps.new }
         ensures most { steps.new ≤ steps.old + nodes_at (slots_in E.slots self.now) source.now.slot }
@@ -80,7 +81,8 @@ impl<E: CountedEvaluator + Drop, V: TextTests> BareLayer<'_, E, V> {
     ) -> Result<u64, AllocError>
         requires given { AreGivenBy (scene_in V.tests self.now) (slots_in E.slots self.now) (sources_in self.now)
             (layer_in self.now).properties }
-        ensures number { IfOk result (λ n. n ≡ values_cost one_of (sources_in self.now) (Some (feature_seen feature.now))
+        ensures number { IfOk result
+            (λ n. n ≡ values_cost one_of (sources_in self.now) (Some (feature_seen feature.now))
             (layer_in self.now).properties) }
         ensures least { IfOk result (λ n. steps.old + n ≤ steps.new) }
         ensures most { steps.new ≤ steps.old + values_cost (nodes_by (slots_in E.slots self.now)) (sources_in self.now)
@@ -121,7 +123,8 @@ impl<E: CountedEvaluator + Drop, V: TextTests> BareLayer<'_, E, V> {
         ensures least { IfOk result (λ n. steps.old + n ≤ steps.new) }
         ensures most { steps.new ≤ steps.old + values_cost (nodes_by (slots_in E.slots self.now)) (sources_in self.now)
             (cell_feature feature.entry) (map (property_in self.now) properties.now) }
-        ensures lines { OnOk result (out.new.items ≡ out.old.items ++ value_lines (margin_of (cell_feature feature.entry))
+        ensures lines { OnOk result
+            (out.new.items ≡ out.old.items ++ value_lines (margin_of (cell_feature feature.entry))
             (shown_values (scene_in V.tests self.now) (cell_feature feature.entry)
             (map (property_in self.now) properties.now))) }
     {
@@ -198,7 +201,8 @@ impl<E: CountedEvaluator + Drop, V: TextTests> BareLayer<'_, E, V> {
 
     /// A feature with its state.
     pub(crate) fn with_state<'b>(&'b self, number: u32, feature: &'b Feature) -> LayerFeature<'b>
-        ensures { feature_seen result ≡ with_state (scene_in V.tests self.now) (layer_in self.now) (number, feature.now) }
+        ensures { feature_seen result
+            ≡ with_state (scene_in V.tests self.now) (layer_in self.now) (number, feature.now) }
     {
         LayerFeature {
             number,

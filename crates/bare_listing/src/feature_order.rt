@@ -8,11 +8,13 @@ ghost use Rattle.listing_text.specs.Listing.{feature_lines};
 ghost use Rattle.stable_order.specs.InOrder.{in_order};
 ghost use Rattle.style_layout.specs.CodeView.{document_property, feature_seen};
 ghost use Rattle.style_layout.specs.Layers.{has_features};
-ghost use Rattle.style_layout.specs.Shown.{feature_out, goes_before, is_shown, layer_features, numbered, shown_features};
+ghost use Rattle.style_layout.specs.Shown.{feature_out, goes_before, is_shown, layer_features, numbered};
+ghost use Rattle.style_layout.specs.Shown.{shown_features};
 ghost use Rattle.style_layout.specs.declared.document_layer.DocumentLayer.{DocumentLayer};
 ghost use Rattle.bare_listing.specs.Costs.{features_cost, key_cost, keys_cost, nodes_by, one_of, rest_cost, rests_cost};
 ghost use Rattle.bare_listing.specs.Given.{IsCommonAnswer, KeepsOrder, given_from};
-ghost use Rattle.bare_listing.specs.SeenLayer.{AreKeyed, IsGivenIn, IsKeyed, Sorts, feature_of, key_by, keyed_before, keyed_seen};
+ghost use Rattle.bare_listing.specs.SeenLayer.{AreKeyed, IsGivenIn, IsKeyed, Sorts, feature_of, key_by, keyed_before};
+ghost use Rattle.bare_listing.specs.SeenLayer.{keyed_seen};
 ghost use Rattle.bare_listing.specs.SeenLayer.{layer_in, lines_of, property_in, scene_in, slots_in, sources_in};
 ghost use Rattle.bare_listing.specs.SeenLayer.{tiles_in, with_given};
 ghost use Rattle.text_pieces.specs.Adding.{Adds};
@@ -84,9 +86,11 @@ impl<E: CountedEvaluator + Drop, V: TextTests> BareLayer<'_, E, V> {
         ensures number { IfOk result (λ n. n ≡ features_cost one_of (sources_in self.now) (scene_in V.tests self.now)
             (layer_in self.now) (tiles_in self.now)) }
         ensures least { IfOk result (λ n. steps.old + n ≤ steps.new) }
-        ensures most { steps.new ≤ steps.old + features_cost (nodes_by (slots_in E.slots self.now)) (sources_in self.now)
+        ensures most { steps.new ≤ steps.old
+            + features_cost (nodes_by (slots_in E.slots self.now)) (sources_in self.now)
             (scene_in V.tests self.now) (layer_in self.now) (tiles_in self.now) }
-        ensures text { Adds O.held O.faults result pieces.old pieces.new (lines_of (scene_in V.tests self.now) (layer_in self.now)
+        ensures text { Adds O.held O.faults result pieces.old pieces.new
+            (lines_of (scene_in V.tests self.now) (layer_in self.now)
             (in_order (goes_before (scene_in V.tests self.now) (property_in self.now sort.now.property.now))
             (shown_features (scene_in V.tests self.now) (layer_in self.now) (tiles_in self.now)))) }
     {
@@ -111,7 +115,8 @@ impl<E: CountedEvaluator + Drop, V: TextTests> BareLayer<'_, E, V> {
         requires common { IsCommonAnswer (scene_in V.tests self.now) (sources_in self.now items.Filter)
             (layer_in self.now) common }
         requires slot { sort.now.source.slot < length (slots_in E.slots self.now) }
-        ensures number { OnOk result (number.new ≡ number.old + keys_cost one_of (sources_in self.now) (scene_in V.tests self.now)
+        ensures number { OnOk result
+            (number.new ≡ number.old + keys_cost one_of (sources_in self.now) (scene_in V.tests self.now)
             (layer_in self.now) sort.now.source (numbered 0 (layer_features (tiles_in self.now) (layer_in self.now)))) }
         ensures least { OnOk result (steps.old + number.new ≤ steps.new + number.old) }
         ensures most { steps.new ≤ steps.old + keys_cost (nodes_by (slots_in E.slots self.now)) (sources_in self.now)

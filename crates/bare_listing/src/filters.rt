@@ -35,7 +35,8 @@ impl<E: CountedEvaluator + Drop, V: TextTests> BareLayer<'_, E, V> {
             (sources_in self.now items.Filter) (layer_in self.now) found.0) }
         ensures number { IfOk result (λ found. found.1 ≡ common_cost one_of (sources_in self.now)) }
         ensures least { IfOk result (λ found. steps.old + found.1 ≤ steps.new) }
-        ensures most { steps.new ≤ steps.old + common_cost (nodes_by (slots_in E.slots self.now)) (sources_in self.now) }
+        ensures most { steps.new ≤ steps.old
+            + common_cost (nodes_by (slots_in E.slots self.now)) (sources_in self.now) }
     {
         let source = self.source(CellItem::Filter);
         if has_feature_cells(source) {

@@ -1,6 +1,7 @@
 //! The lines of a layer.
 
-ghost use Rattle.std.specs.Prelude.{◌≡◌, ◌++◌, ◌+◌, ◌<◌, ◌≤◌, ◌^◌, [], None, true, length, flat_map, map, IfOk, OnOk, if◌then◌else◌};
+ghost use Rattle.std.specs.Prelude.{◌≡◌, ◌++◌, ◌+◌, ◌<◌, ◌≤◌, ◌^◌, [], None, true, length, flat_map, map, IfOk, OnOk};
+ghost use Rattle.std.specs.Prelude.{if◌then◌else◌};
 ghost use Rattle.layer_buckets.specs.declared.cell.CellItem.TheVariants as items;
 ghost use Rattle.listing_text.specs.Listing.{below_layer, feature_lines, layer_lines};
 ghost use Rattle.listing_text.specs.declared.show.Show.TheVariants.{Plain};
@@ -39,7 +40,8 @@ pub fn write_bare_layer<E: CountedEvaluator + Drop, V: TextTests, L: Ledger, O: 
     pieces: &mut TextPieces<'_, O>,
 ) -> Result<u64, Halt<SinkFailed>>
     requires few { length (layer_features (map tile_seen tiles.now) (layer_at at.now)) < 2 ^ 32 }
-    requires listable { IsBareListable E.slots at.now.number (scene_at V.tests at.now) (layer_at at.now) cells.old.buckets }
+    requires listable { IsBareListable E.slots at.now.number (scene_at V.tests at.now) (layer_at at.now)
+        cells.old.buckets }
     ensures stays { cells.new.buckets ≡ cells.old.buckets }
     ensures evaluates { EvaluatesLayer E.slots at.now.number (scene_at V.tests at.now) (map tile_seen tiles.now)
         (layer_at at.now) cells.old.buckets result steps.old steps.new }
@@ -136,10 +138,12 @@ impl<E: CountedEvaluator + Drop, V: TextTests> BareLayer<'_, E, V> {
         ensures number { IfOk result (λ n. n ≡ features_cost one_of (sources_in self.now) (scene_in V.tests self.now)
             (layer_in self.now) (tiles_in self.now)) }
         ensures least { IfOk result (λ n. steps.old + n ≤ steps.new) }
-        ensures most { steps.new ≤ steps.old + features_cost (nodes_by (slots_in E.slots self.now)) (sources_in self.now)
+        ensures most { steps.new ≤ steps.old
+            + features_cost (nodes_by (slots_in E.slots self.now)) (sources_in self.now)
             (scene_in V.tests self.now) (layer_in self.now) (tiles_in self.now) }
         ensures text { Adds O.held O.faults result pieces.old pieces.new
-            (flat_map feature_lines (feature_outs (scene_in V.tests self.now) (layer_in self.now) (tiles_in self.now))) }
+            (flat_map feature_lines
+            (feature_outs (scene_in V.tests self.now) (layer_in self.now) (tiles_in self.now))) }
     {
         match self.sort_source() {
             Some(sort) => self.write_in_order(workspace, common, &sort, steps, pieces),
@@ -162,7 +166,8 @@ impl<E: CountedEvaluator + Drop, V: TextTests> BareLayer<'_, E, V> {
         ensures number { IfOk result (λ n. n ≡ features_cost one_of (sources_in self.now) (scene_in V.tests self.now)
             (layer_in self.now) (tiles_in self.now)) }
         ensures least { IfOk result (λ n. steps.old + n ≤ steps.new) }
-        ensures most { steps.new ≤ steps.old + features_cost (nodes_by (slots_in E.slots self.now)) (sources_in self.now)
+        ensures most { steps.new ≤ steps.old
+            + features_cost (nodes_by (slots_in E.slots self.now)) (sources_in self.now)
             (scene_in V.tests self.now) (layer_in self.now) (tiles_in self.now) }
         ensures text { Adds O.held O.faults result pieces.old pieces.new (lines_of (scene_in V.tests self.now)
             (layer_in self.now) (shown_features (scene_in V.tests self.now) (layer_in self.now) (tiles_in self.now))) }

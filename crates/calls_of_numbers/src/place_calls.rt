@@ -8,7 +8,8 @@ use text_places::text_places;
 const TEXT: &'static str =
     "{\n  \"version\": 8,\r\n\t\"lay\\u0065rs\" : [\n    {\"id\":\"\\\"]\u{e9}\",\"n\":[ 1.50 ,true,null]},{}\n ,false ]\n,\"\u{e9}\":{ \"\u{1f600}\" :[[],[ ]]}}\n";
 
-// A path, and the line and column of its place. The last five lead to nothing: the place is that of the last part that is there.
+// A path, and the line and column of its place. The last five lead to nothing: the place is that of the last part that
+// is there.
 const PLACES: [(&'static str, usize, usize); 20] = [
     ("", 1, 1),
     ("/version", 2, 3),

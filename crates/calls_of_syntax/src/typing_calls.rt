@@ -41,7 +41,8 @@ const ROOTS: [(&'static str, Want, bool); 5] = [
     (r#"["case",true,["get","a"],1]"#, Want::Number, true),
 ];
 
-// The want of the root of an expression under a want, and whether it always fits, or none where the expression is refused.
+// The want of the root of an expression under a want, and whether it always fits, or none where the expression is
+// refused.
 #[tactic(auto, using(crate::proofs::Roots::has_root))]
 fn root_under(alloc: Global, text: &str, want: Want) -> Result<Option<(Want, bool)>, AllocError> {
     let Ok(json) = parse(alloc, text.as_bytes())? else {

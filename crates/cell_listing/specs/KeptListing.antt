@@ -1,5 +1,6 @@
 -- What kept values give of the listing of a layer: the words of the private contracts. Source: own.
-use Rattle.std.specs.Prelude.{◌≡◌, ℕ, ℤ, List, map, flat_map, filter, Bool, true, not, ◌||◌, Option, Some, None, is_some, if◌then◌else◌}
+use Rattle.std.specs.Prelude.{◌≡◌, ℕ, ℤ, List, map, flat_map, filter, Bool, true, not, ◌||◌, Option, Some, None}
+use Rattle.std.specs.Prelude.{is_some, if◌then◌else◌}
 use Rattle.std.specs.List.{AllByRecursion}
 use Rattle.prop_values.specs.Data.{Data}
 use Rattle.prop_values.specs.View.{value_of}

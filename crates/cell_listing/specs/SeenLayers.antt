@@ -13,7 +13,8 @@ use Rattle.style_layout.specs.Shown.{SourceTile, layer_features, numbered}
 use Rattle.asked_cells.specs.Asked.{common_cell}
 use Rattle.asked_cells.specs.Asking.{common_answer}
 use Rattle.asked_cells.specs.Counted.{KeptValues, kept_in}
-use Rattle.cell_listing.specs.KeptListing.{AreAllKnown, AreKnown, kept_feature, kept_key, kept_lines, kept_values, key_ordered, passed}
+use Rattle.cell_listing.specs.KeptListing.{AreAllKnown, AreKnown, kept_feature, kept_key, kept_lines, kept_values}
+use Rattle.cell_listing.specs.KeptListing.{key_ordered, passed}
 use Rattle.cell_listing.specs.declared.kept_layer.KeptLayer.{KeptLayer}
 use Rattle.cell_listing.specs.declared.feature_order.KeyedFeature.{KeyedFeature}
 

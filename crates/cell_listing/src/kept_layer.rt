@@ -8,7 +8,8 @@ ghost use Rattle.listing_text.specs.Listing.{feature_lines, value_line, value_li
 ghost use Rattle.style_layout.specs.CodeView.{document_property, property_seen};
 ghost use Rattle.style_layout.specs.declared.document_layer.DocumentLayer.{DocumentLayer};
 ghost use Rattle.style_layout.specs.Walk.{HasFewLeft, features_left};
-ghost use Rattle.cell_listing.specs.KeptListing.{is_known, is_listed, kept_for, kept_outcome, outcome_by, passed, passes_at};
+ghost use Rattle.cell_listing.specs.KeptListing.{is_known, is_listed, kept_for, kept_outcome, outcome_by, passed};
+ghost use Rattle.cell_listing.specs.KeptListing.{passes_at};
 ghost use Rattle.cell_listing.specs.SeenLayers.{KnowsValues, answer_in, feature_in, listed_in, property_in, values_in};
 
 use asked_cells::{constant_answer, has_feature_cells, is_passed};

@@ -9,7 +9,8 @@ ghost use Rattle.style_layout.specs.StyleLayout.{layer_out};
 ghost use Rattle.asked_cells.specs.SeenCells.{layer_at, scene_at};
 ghost use Rattle.cell_listing.specs.KeptListing.{IsWritable};
 ghost use Rattle.cell_listing.specs.Listable.{IsListable};
-ghost use Rattle.cell_listing.specs.SeenLayers.{KnowsFeatures, feature_in, layer_in, lines_in, listed_in, ordered_in, passed_in, values_in};
+ghost use Rattle.cell_listing.specs.SeenLayers.{KnowsFeatures, feature_in, layer_in, lines_in, listed_in, ordered_in};
+ghost use Rattle.cell_listing.specs.SeenLayers.{passed_in, values_in};
 
 use crate::kept_layer::KeptLayer;
 use asked_cells::LayerAt;

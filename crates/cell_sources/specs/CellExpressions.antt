@@ -1,5 +1,6 @@
 -- The expression that gives the value of an item of a layer, whatever form the value has. Source: own.
-use Rattle.std.specs.Prelude.{ℕ, ◌<◌, List, length, codes, Bool, true, false, Option, Some, None, Ok, Err, option_map, if◌then◌else◌}
+use Rattle.std.specs.Prelude.{ℕ, ◌<◌, List, length, codes, Bool, true, false, Option, Some, None, Ok, Err, option_map}
+use Rattle.std.specs.Prelude.{if◌then◌else◌}
 use Rattle.std.specs.List.{slice_get}
 use Rattle.std.specs.Option.{option_and_then}
 use Rattle.decimal_json.specs.Tree.{Tree, text}
@@ -114,7 +115,8 @@ module _ (globals : List (List ℕ × Data)) (type : LayerType) (layer : Tree) w
   -- `visibility` says whether the layer is shown, and has no value of its own.
   abbrev pub row_expression : RowData → Option CellExpression
   row_expression row =
-      if is_visibility row then None else option_and_then (value_expression row globals) (set_value layer row.place row.name)
+      if is_visibility row then None else
+      option_and_then (value_expression row globals) (set_value layer row.place row.name)
 
   -- What gives the value of an item of a layer. A property that is not set and a literal need nothing, and neither does
   -- the filter of a type that shows no features.

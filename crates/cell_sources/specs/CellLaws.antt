@@ -14,7 +14,8 @@ use Rattle.eval_face.specs.Resolved.{passes}
 use Rattle.legacy_laws.specs.LegacyFunctionLaw.{IsTableRow}
 use Rattle.layer_buckets.specs.declared.cell.CellItem.{CellItem}
 use Rattle.layer_buckets.specs.declared.cell.CellItem.TheVariants as items
-use Rattle.style_layout.specs.Forms.{LayerFilter, Property, Scene, layer_filter, lets_pass, property_of, property_value, value_mentions}
+use Rattle.style_layout.specs.Forms.{LayerFilter, Property, Scene, layer_filter, lets_pass, property_of, property_value}
+use Rattle.style_layout.specs.Forms.{value_mentions}
 use Rattle.style_layout.specs.Layers.{properties_of, typed_layer}
 use Rattle.style_layout.specs.Shown.{LayerFeature}
 use Rattle.asked_cells.specs.Asked.{IsDecided, constant_answer, given_by, has_own_cells, item_zoom}

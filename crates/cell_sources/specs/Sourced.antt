@@ -25,7 +25,8 @@ pub record LeavesOthers {E : Type 0} (slots : E → List Sized) (layer : ℕ) (o
 
 -- An item of a layer has the source of its expression, which comes after those that the evaluator had, and the other
 -- items have theirs.
-pub record SetsItem {E : Type 0} (slots : E → List Sized) (layer : ℕ) (item : CellItem) (expression : Option CellExpression) (old new : Buckets E) : Type 0 where
+pub record SetsItem {E : Type 0} (slots : E → List Sized) (layer : ℕ) (item : CellItem)
+    (expression : Option CellExpression) (old new : Buckets E) : Type 0 where
   pub own : IsSourced (slots (evaluator_of new)) item expression (source_of new layer item)
   pub others : (other : CellItem) → item ≢ other → source_of new layer other ≡ source_of old layer other
 
@@ -65,7 +66,8 @@ pub record KeepsNumbers {E : Type 0} (slots : E → List Sized) (layer : ℕ) (o
 
 -- An item that had the source of its expression has it with the number that the expression has in the evaluator, and
 -- the other items have theirs.
-pub record RenewsItem {E : Type 0} (slots : E → List Sized) (layer : ℕ) (item : CellItem) (expression : Option CellExpression) (old new : Buckets E) : Type 0 where
+pub record RenewsItem {E : Type 0} (slots : E → List Sized) (layer : ℕ) (item : CellItem)
+    (expression : Option CellExpression) (old new : Buckets E) : Type 0 where
   pub own : IsSourceOf item expression (source_of old layer item)
       → IsSourced (slots (evaluator_of new)) item expression (source_of new layer item)
   pub others : (other : CellItem) → item ≢ other → source_of new layer other ≡ source_of old layer other
@@ -73,12 +75,16 @@ pub record RenewsItem {E : Type 0} (slots : E → List Sized) (layer : ℕ) (ite
 -- ---- what only proofs use
 
 -- The properties of the first rows have their sources, and no other item has one yet.
-pub record HasFirst {E : Type 0} (slots : E → List Sized) (layer count : ℕ) (expressions : LayerExpressions) (b : Buckets E) : Type 0 where
-  pub first : (n : ℕ) → n < count → IsSourced (slots (evaluator_of b)) (items.Property n) (expressions (items.Property n)) (source_of b layer (items.Property n))
+pub record HasFirst {E : Type 0} (slots : E → List Sized) (layer count : ℕ) (expressions : LayerExpressions)
+    (b : Buckets E) : Type 0 where
+  pub first : (n : ℕ) → n < count →
+      IsSourced (slots (evaluator_of b)) (items.Property n) (expressions (items.Property n))
+      (source_of b layer (items.Property n))
   pub later : (n : ℕ) → count ≤ n → source_of b layer (items.Property n) ≡ None
   pub filter : source_of b layer items.Filter ≡ None
 
 -- The properties of the first rows have their sources, where they had those of their expressions.
 abbrev pub FirstAreRenewed : {E : Type 0} → (E → List Sized) → ℕ → ℕ → LayerExpressions → Buckets E → Buckets E → Type 0
 FirstAreRenewed slots layer count expressions old new = HasSources layer expressions old → (n : ℕ) → n < count
-    → IsSourced (slots (evaluator_of new)) (items.Property n) (expressions (items.Property n)) (source_of new layer (items.Property n))
+    → IsSourced (slots (evaluator_of new)) (items.Property n) (expressions (items.Property n))
+    (source_of new layer (items.Property n))

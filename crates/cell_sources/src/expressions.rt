@@ -16,7 +16,9 @@ ghost use Rattle.legacy_filters.specs.Form.{reading};
 ghost use Rattle.legacy_filters.specs.ToExpression.{expression};
 ghost use Rattle.legacy_filters.specs.View.{filter_of};
 ghost use Rattle.asked_cells.specs.Expressions.{is_paint};
-ghost use Rattle.cell_sources.specs.CellExpressions.{filter_expression, filter_read, read_as_filter, read_as_value, value_expression, value_read, function_tree, tokens_tree, legacy_tree};
+ghost use Rattle.cell_sources.specs.CellExpressions.{filter_expression, filter_read, read_as_filter, read_as_value};
+ghost use Rattle.cell_sources.specs.CellExpressions.{value_expression, value_read, function_tree, tokens_tree};
+ghost use Rattle.cell_sources.specs.CellExpressions.{legacy_tree};
 ghost use Rattle.cell_sources.specs.Views.{IsFormAs, IsFormed, expression_seen, legacy_term};
 
 use decimal_json::{Json, Text};
@@ -65,7 +67,8 @@ pub(crate) fn value_expression(
     json: &Json,
 ) -> Result<Option<ItemExpression>, AllocError>
     requires { IsTableRow (row_seen row.now) }
-    ensures seen { IfOk result (λ made. option_map expression_seen made ≡ value_expression (row_seen row.now) globals.now (tree_of json.now)) }
+    ensures seen { IfOk result
+        (λ made. option_map expression_seen made ≡ value_expression (row_seen row.now) globals.now (tree_of json.now)) }
     ensures formed { IfOk result (λ made. IfSome made IsFormed) }
 {
     match form_of(row, json) {
@@ -82,7 +85,8 @@ fn value_read(
     globals: &Entries,
     json: &Json,
 ) -> Result<Option<ItemExpression>, AllocError>
-    ensures seen { IfOk result (λ made. option_map expression_seen made ≡ value_read (row_seen row.now) globals.now (tree_of json.now)) }
+    ensures seen { IfOk result
+        (λ made. option_map expression_seen made ≡ value_read (row_seen row.now) globals.now (tree_of json.now)) }
     ensures formed { IfOk result (λ made. IfSome made IsFormed) }
 {
     match read_with(alloc, json, globals)? {
@@ -114,7 +118,8 @@ fn function_read(
 ) -> Result<Option<ItemExpression>, AllocError>
     requires { IsTableRow (row_seen row.now) }
     ensures seen { IfOk result (λ made. (globals : List (List ℕ × Data)) → option_map expression_seen made
-        ≡ read_as_value (row_seen row.now) globals (function_tree (row_seen row.now) (form (row_seen row.now) (tree_of json.now)))) }
+        ≡ read_as_value (row_seen row.now) globals
+        (function_tree (row_seen row.now) (form (row_seen row.now) (tree_of json.now)))) }
     ensures formed { IfOk result (λ made. IfSome made IsFormed) }
 {
     match legacy_functions::read(alloc, json, row)? {
@@ -190,7 +195,8 @@ pub(crate) fn filter_expression(
     globals: &Entries,
     json: &Json,
 ) -> Result<Option<ItemExpression>, AllocError>
-    ensures seen { IfOk result (λ made. option_map expression_seen made ≡ filter_expression globals.now (tree_of json.now)) }
+    ensures seen { IfOk result
+        (λ made. option_map expression_seen made ≡ filter_expression globals.now (tree_of json.now)) }
     ensures formed { IfOk result (λ made. IfSome made IsFormed) }
 {
     if let Json::Bool(_) = json {
@@ -216,7 +222,8 @@ fn legacy_read(alloc: Global, json: &Json) -> Result<Option<ItemExpression>, All
 
 fn migrated_filter(filter: LegacyFilter) -> ItemExpression
     requires { IsReadForm (forms.Filter filter) }
-    ensures seen { (globals : List (List ℕ × Data)) → Some (expression_seen result) ≡ filter_read globals (expression (filter_of filter)) }
+    ensures seen { (globals : List (List ℕ × Data))
+        → Some (expression_seen result) ≡ filter_read globals (expression (filter_of filter)) }
     ensures formed { IsFormed result }
 {
     expressions_mean_their_filters();
@@ -250,7 +257,8 @@ fn filter_read(
 fn by_form(form: LegacyForm, mentioned: Mentions, want: Want, paint: bool) -> ItemExpression
     requires mentioned { mentioned ≡ mentions (legacy_term form) }
     requires form { IsFormAs form (legacy_term form) want }
-    ensures seen { expression_seen result ≡ record { term = legacy_term form; want = want; paint = paint; globals = false } }
+    ensures seen { expression_seen result
+        ≡ record { term = legacy_term form; want = want; paint = paint; globals = false } }
     ensures formed { IsFormed result }
 {
     ItemExpression {

@@ -1,5 +1,7 @@
 //! What the definitions mean, each law on a function that does nothing.
-ghost use Rattle.cell_sources.specs.CellLaws.{CellsMeanTheSame, ExpressionsDecideFilters, ExpressionsGiveValues, FiltersAreDecided, GlobalsChangeNoOther, PropertiesAreGiven, PropertiesAreReadByExpressions};
+ghost use Rattle.cell_sources.specs.CellLaws.{CellsMeanTheSame, ExpressionsDecideFilters, ExpressionsGiveValues};
+ghost use Rattle.cell_sources.specs.CellLaws.{FiltersAreDecided, GlobalsChangeNoOther, PropertiesAreGiven};
+ghost use Rattle.cell_sources.specs.CellLaws.{PropertiesAreReadByExpressions};
 
 use eval_face::agreeing_worlds_give_one_meaning;
 use global_laws::global_values_change_no_form;

@@ -16,8 +16,8 @@
 //!   its sources, and all other layers are as they were.
 //! - `set_item` drops the values of one item, whatever source it had, and gives it the source of its expression, or
 //!   none. All other items and layers stay. Where an allocation fails, the item has no source and no kept value.
-//! - `clear_expressions` empties the evaluator, and leaves each source as it is. `renew_sources` puts the expressions of
-//!   a layer into it anew, so that those of items that were edited do not stay in it: each source stays but for its
+//! - `clear_expressions` empties the evaluator, and leaves each source as it is. `renew_sources` puts the expressions
+//!   of a layer into it anew, so that those of items that were edited do not stay in it: each source stays but for its
 //!   number, an item that had none gets none, and the sources of other layers stay with their numbers. So a layer that
 //!   had the sources of its expressions has them. Neither call keeps or drops a value, also where an allocation fails.
 //! - An item's expression gives what the layout lists for it, a value or its fault (`expressions_give_values`,

@@ -47,9 +47,11 @@ pub fn renew_sources(
     ensures sources { KeepsSources buckets.old buckets.new }
     ensures others { KeepsNumbers ⟦<FormPool as CountedEvaluator>⟧.slots number buckets.old buckets.new }
     ensures renewed { OnOk result (HasSources number
-        (item_expression layer.now.globals.now layer.now.layer_type (object (fields_of layer.now.members.now))) buckets.old
+        (item_expression layer.now.globals.now layer.now.layer_type (object (fields_of layer.now.members.now)))
+        buckets.old
         → HasExpressions ⟦<FormPool as CountedEvaluator>⟧.slots number
-        (item_expression layer.now.globals.now layer.now.layer_type (object (fields_of layer.now.members.now))) buckets.new) }
+        (item_expression layer.now.globals.now layer.now.layer_type (object (fields_of layer.now.members.now)))
+        buckets.new) }
 {
     for row in 0..row_count(layer.layer_type) {
         renew_property(alloc, number, layer, row, buckets)?;
@@ -71,7 +73,8 @@ fn renew_property(
     ensures sources { KeepsSources buckets.old buckets.new }
     ensures others { KeepsNumbers ⟦<FormPool as CountedEvaluator>⟧.slots number buckets.old buckets.new }
     ensures renewed { OnOk result (RenewsItem ⟦<FormPool as CountedEvaluator>⟧.slots number (items.Property row)
-        (item_expression layer.now.globals.now layer.now.layer_type (object (fields_of layer.now.members.now)) (items.Property row))
+        (item_expression layer.now.globals.now layer.now.layer_type (object (fields_of layer.now.members.now))
+        (items.Property row))
         buckets.old buckets.new) }
 {
     let expression = property_expression(alloc, layer, row)?;

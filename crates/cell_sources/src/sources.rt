@@ -1,6 +1,7 @@
 //! The sources of a layer's items.
 
-ghost use Rattle.std.specs.Prelude.{◌≡◌, ◌<◌, ℕ, List, ◌++◌, ◌∷◌, [], None, Some, false, true, is_some, length, option_map, slice_get, if◌then◌else◌, IfOk, IfSome, OnOk, OnErr};
+ghost use Rattle.std.specs.Prelude.{◌≡◌, ◌<◌, ℕ, List, ◌++◌, ◌∷◌, [], None, Some, false, true, is_some, length};
+ghost use Rattle.std.specs.Prelude.{option_map, slice_get, if◌then◌else◌, IfOk, IfSome, OnOk, OnErr};
 ghost use Rattle.decimal_json.specs.Tree.{object, fields_of};
 ghost use Rattle.prop_values.specs.Data.{Data};
 ghost use Rattle.property_tables.specs.Rows.{rows_of};
@@ -53,7 +54,8 @@ pub fn add_sources(
     ensures sound { IsSound buckets.new }
     ensures others { LeavesOthers ⟦<FormPool as CountedEvaluator>⟧.slots number buckets.old buckets.new }
     ensures sources { OnOk result (HasExpressions ⟦<FormPool as CountedEvaluator>⟧.slots number
-        (item_expression layer.now.globals.now layer.now.layer_type (object (fields_of layer.now.members.now))) buckets.new) }
+        (item_expression layer.now.globals.now layer.now.layer_type (object (fields_of layer.now.members.now)))
+        buckets.new) }
     ensures kept { KeepsNoMore buckets.old buckets.new }
 {
     let placed = PlacedLayer::of(layer.members);
@@ -126,7 +128,8 @@ fn add_property(
     ensures sound { IsSound buckets.new }
     ensures others { LeavesOthers ⟦<FormPool as CountedEvaluator>⟧.slots number buckets.old buckets.new }
     ensures source { OnOk result (SetsItem ⟦<FormPool as CountedEvaluator>⟧.slots number (items.Property row)
-        (item_expression layer.now.globals.now layer.now.layer_type (object (fields_of layer.now.members.now)) (items.Property row))
+        (item_expression layer.now.globals.now layer.now.layer_type (object (fields_of layer.now.members.now))
+        (items.Property row))
         buckets.old buckets.new) }
     ensures kept { KeepsNoMore buckets.old buckets.new }
 {
@@ -151,7 +154,8 @@ fn is_set(layer_type: LayerType, layer: &PlacedLayer<'_>, row: u16) -> bool
 }
 
 fn sets_row(layer: &PlacedLayer<'_>, row: &Row) -> bool
-    ensures { result ≡ is_some (set_value (object (fields_of layer.now)) (row_seen row.now).place (row_seen row.now).name) }
+    ensures { result ≡ is_some
+        (set_value (object (fields_of layer.now)) (row_seen row.now).place (row_seen row.now).name) }
 {
     layer.get(row.place, row.name).is_some()
 }
@@ -165,7 +169,8 @@ pub(crate) fn property_expression(
 ) -> Result<Option<ItemExpression>, AllocError>
     requires { row < length (rows_of layer.now.layer_type) }
     ensures seen { IfOk result (λ made. option_map expression_seen made
-        ≡ item_expression layer.now.globals.now layer.now.layer_type (object (fields_of layer.now.members.now)) (items.Property row)) }
+        ≡ item_expression layer.now.globals.now layer.now.layer_type (object (fields_of layer.now.members.now))
+        (items.Property row)) }
     ensures formed { IfOk result (λ made. IfSome made IsFormed) }
 {
     tables_keep_their_rules();
@@ -189,7 +194,8 @@ fn row_expression(
 ) -> Result<Option<ItemExpression>, AllocError>
     requires { IsTableRow (row_seen row.now) }
     ensures seen { IfOk result (λ made. option_map expression_seen made
-        ≡ row_expression layer.now.globals.now layer.now.layer_type (object (fields_of layer.now.members.now)) (row_seen row.now)) }
+        ≡ row_expression layer.now.globals.now layer.now.layer_type (object (fields_of layer.now.members.now))
+        (row_seen row.now)) }
     ensures formed { IfOk result (λ made. IfSome made IsFormed) }
 {
     if row.name == VISIBILITY {
@@ -206,7 +212,8 @@ pub(crate) fn layer_filter(
     layer: &LayerValues<'_>,
 ) -> Result<Option<ItemExpression>, AllocError>
     ensures seen { IfOk result (λ made. option_map expression_seen made
-        ≡ item_expression layer.now.globals.now layer.now.layer_type (object (fields_of layer.now.members.now)) items.Filter) }
+        ≡ item_expression layer.now.globals.now layer.now.layer_type (object (fields_of layer.now.members.now))
+        items.Filter) }
     ensures formed { IfOk result (λ made. IfSome made IsFormed) }
 {
     if !has_features(layer.layer_type) {
@@ -268,7 +275,9 @@ fn add_source(
     requires formed { IsFormed expression }
     ensures sound { IsSound buckets.new }
     ensures others { LeavesOthers ⟦<FormPool as CountedEvaluator>⟧.slots number buckets.old buckets.new }
-    ensures source { OnOk result (SetsItem ⟦<FormPool as CountedEvaluator>⟧.slots number item (Some (expression_seen expression)) buckets.old buckets.new) }
+    ensures source { OnOk result
+        (SetsItem ⟦<FormPool as CountedEvaluator>⟧.slots number item (Some (expression_seen expression)) buckets.old
+        buckets.new) }
     ensures err { OnErr result ((l : ℕ) (i : CellItem) → source_of buckets.new l i ≡ source_of buckets.old l i) }
     ensures kept { KeepsOthers number item buckets.old buckets.new }
 {
@@ -297,7 +306,8 @@ pub(crate) fn put_item(
     ensures features { (l : ℕ) → features_of buckets.new l ≡ features_of buckets.old l }
     ensures source { (l : ℕ) (item : CellItem) → source_of buckets.new l item ≡ source_of buckets.old l item }
     ensures kept { (cell : Cell) → kept_at buckets.new cell ≡ kept_at buckets.old cell }
-    ensures slot { IfOk result (λ slot. slot ≡ length (⟦<FormPool as CountedEvaluator>⟧.slots (evaluator_of buckets.old))) }
+    ensures slot { IfOk result
+        (λ slot. slot ≡ length (⟦<FormPool as CountedEvaluator>⟧.slots (evaluator_of buckets.old))) }
     ensures ok { OnOk result (⟦<FormPool as CountedEvaluator>⟧.slots (evaluator_of buckets.new)
         ≡ ⟦<FormPool as CountedEvaluator>⟧.slots (evaluator_of buckets.old) ++ sized_term (form_term form) want ∷ []) }
     ensures err { OnErr result (⟦<FormPool as CountedEvaluator>⟧.slots (evaluator_of buckets.new)
@@ -320,7 +330,8 @@ fn put_form(form: LegacyForm, buckets: &mut Buckets<FormPool>) -> Result<u32, Al
     ensures features { (l : ℕ) → features_of buckets.new l ≡ features_of buckets.old l }
     ensures source { (l : ℕ) (item : CellItem) → source_of buckets.new l item ≡ source_of buckets.old l item }
     ensures kept { (cell : Cell) → kept_at buckets.new cell ≡ kept_at buckets.old cell }
-    ensures slot { IfOk result (λ slot. slot ≡ length (⟦<FormPool as CountedEvaluator>⟧.slots (evaluator_of buckets.old))) }
+    ensures slot { IfOk result
+        (λ slot. slot ≡ length (⟦<FormPool as CountedEvaluator>⟧.slots (evaluator_of buckets.old))) }
     ensures ok { OnOk result (⟦<FormPool as CountedEvaluator>⟧.slots (evaluator_of buckets.new)
         ≡ ⟦<FormPool as CountedEvaluator>⟧.slots (evaluator_of buckets.old) ++ sized_form form ∷ []) }
     ensures err { OnErr result (⟦<FormPool as CountedEvaluator>⟧.slots (evaluator_of buckets.new)
@@ -339,7 +350,8 @@ fn put_expression(
     ensures features { (l : ℕ) → features_of buckets.new l ≡ features_of buckets.old l }
     ensures source { (l : ℕ) (item : CellItem) → source_of buckets.new l item ≡ source_of buckets.old l item }
     ensures kept { (cell : Cell) → kept_at buckets.new cell ≡ kept_at buckets.old cell }
-    ensures slot { IfOk result (λ slot. slot ≡ length (⟦<FormPool as CountedEvaluator>⟧.slots (evaluator_of buckets.old))) }
+    ensures slot { IfOk result
+        (λ slot. slot ≡ length (⟦<FormPool as CountedEvaluator>⟧.slots (evaluator_of buckets.old))) }
     ensures ok { OnOk result (⟦<FormPool as CountedEvaluator>⟧.slots (evaluator_of buckets.new)
         ≡ ⟦<FormPool as CountedEvaluator>⟧.slots (evaluator_of buckets.old) ++ sized_node expression ∷ []) }
     ensures err { OnErr result (⟦<FormPool as CountedEvaluator>⟧.slots (evaluator_of buckets.new)

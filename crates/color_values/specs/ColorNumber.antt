@@ -1,5 +1,6 @@
 -- The numbers of a color text. Source: own, after CSS Color Module Level 4 without exponents.
-use Rattle.std.specs.Prelude.{ℕ, ◌-◌, ◌*◌, ◌^◌, min, List, [], ◌++◌, length, take, drop, slice_index, Bool, true, false, ◌&&◌, nat_eq, nat_le, if◌then◌else◌, Option, Some, None, option_map}
+use Rattle.std.specs.Prelude.{ℕ, ◌-◌, ◌*◌, ◌^◌, min, List, [], ◌++◌, length, take, drop, slice_index, Bool, true, false}
+use Rattle.std.specs.Prelude.{◌&&◌, nat_eq, nat_le, if◌then◌else◌, Option, Some, None, option_map}
 use Rattle.fixed_num.specs.Decimal.{number_of, leading_digits, after_digits, is_digits}
 use Rattle.fixed_num.specs.Rounding.{nearest}
 

@@ -1,6 +1,7 @@
 -- Which texts are colors, and which color each is. Source: the color strings of the MapLibre style
 -- specification, version 8, by the grammar of these files.
-use Rattle.std.specs.Prelude.{ℕ, ◌+◌, ◌-◌, ◌/◌, ◌%◌, List, length, take, drop, slice_index, not, nat_eq, ◌||◌, codes, if◌then◌else◌, Option, Some, None, option_map}
+use Rattle.std.specs.Prelude.{ℕ, ◌+◌, ◌-◌, ◌/◌, ◌%◌, List, length, take, drop, slice_index, not, nat_eq, ◌||◌, codes}
+use Rattle.std.specs.Prelude.{if◌then◌else◌, Option, Some, None, option_map}
 use Rattle.std.specs.List.{prefix_len}
 use Rattle.std.specs.Str.{str_eq_ignore_ascii_case}
 use Rattle.fixed_num.specs.declared.color.Color.{Color}
@@ -23,8 +24,10 @@ named_color bs =
 -- a color by the name of its function, letters without case
 abbrev pub color_by : List ℕ → ColorArguments → Option Color
 color_by name parts =
-    if str_eq_ignore_ascii_case name (codes "rgb") || str_eq_ignore_ascii_case name (codes "rgba") then rgb_color parts else
-    (if str_eq_ignore_ascii_case name (codes "hsl") || str_eq_ignore_ascii_case name (codes "hsla") then hsl_color parts else
+    if str_eq_ignore_ascii_case name (codes "rgb") || str_eq_ignore_ascii_case name (codes "rgba")
+    then rgb_color parts else
+    (if str_eq_ignore_ascii_case name (codes "hsl") || str_eq_ignore_ascii_case name (codes "hsla")
+    then hsl_color parts else
     None)
 
 abbrev pub color_by_parts : List ℕ → Option ColorArguments → Option Color

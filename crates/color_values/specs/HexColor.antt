@@ -1,5 +1,6 @@
 -- Colors in hexadecimal. Source: CSS Color Module Level 4 §5.2, "The RGB Hexadecimal Notations".
-use Rattle.std.specs.Prelude.{ℕ, ◌+◌, ◌-◌, ◌*◌, List, length, slice_index, nat_eq, nat_lt, pos, if◌then◌else◌, Option, Some, None}
+use Rattle.std.specs.Prelude.{ℕ, ◌+◌, ◌-◌, ◌*◌, List, length, slice_index, nat_eq, nat_lt, pos, if◌then◌else◌, Option}
+use Rattle.std.specs.Prelude.{Some, None}
 use Rattle.std.specs.Char.{is_ascii_hexdigit, to_ascii_lowercase}
 use Rattle.std.specs.List.{list_all}
 use Rattle.fixed_num.specs.Rounding.{nearest}
@@ -28,7 +29,8 @@ color_of_digits bs =
     if nat_eq (length bs) 3 then Some (color_of_bytes (doubled bs 0) (doubled bs 1) (doubled bs 2) 255) else
     (if nat_eq (length bs) 4 then Some (color_of_bytes (doubled bs 0) (doubled bs 1) (doubled bs 2) (doubled bs 3)) else
     (if nat_eq (length bs) 6 then Some (color_of_bytes (two_digits bs 0) (two_digits bs 2) (two_digits bs 4) 255) else
-    (if nat_eq (length bs) 8 then Some (color_of_bytes (two_digits bs 0) (two_digits bs 2) (two_digits bs 4) (two_digits bs 6)) else
+    (if nat_eq (length bs) 8 then Some
+    (color_of_bytes (two_digits bs 0) (two_digits bs 2) (two_digits bs 4) (two_digits bs 6)) else
     None)))
 
 -- what follows the '#'

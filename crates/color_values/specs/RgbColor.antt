@@ -8,7 +8,8 @@ use Rattle.color_values.specs.Parts.{ColorArguments}
 -- blue, and an opacity in millionths.
 abbrev pub rgb_color_of : ℕ → ℕ → Option Number → Option Number → Option Number → Option ℕ → Option Color
 rgb_color_of most unit (Some x) (Some y) (Some z) (Some a) =
-    Some (record { r = pos (amount most unit x); g = pos (amount most unit y); b = pos (amount most unit z); a = pos a })
+    Some
+    (record { r = pos (amount most unit x); g = pos (amount most unit y); b = pos (amount most unit z); a = pos a })
 rgb_color_of most unit _ _ _ _ = None
 
 -- All are numbers, clamped to 0 to 255, or all percentages, clamped to 0 to 100 and multiplied by 2.55.

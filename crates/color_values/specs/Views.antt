@@ -1,5 +1,6 @@
 -- What contracts of private functions see of numbers, parts and names in a text.
-use Rattle.std.specs.Prelude.{ℕ, List, [], ◌∷◌, Bool, true, ◌&&◌, ◌-◌, ◌*◌, ◌^◌, ◌≤◌, IsTrue, ◌++◌, length, take, drop, map, not, nat_eq, if◌then◌else◌, Option, Some, None, option_map}
+use Rattle.std.specs.Prelude.{ℕ, List, [], ◌∷◌, Bool, true, ◌&&◌, ◌-◌, ◌*◌, ◌^◌, ◌≤◌, IsTrue, ◌++◌, length, take, drop}
+use Rattle.std.specs.Prelude.{map, not, nat_eq, if◌then◌else◌, Option, Some, None, option_map}
 use Rattle.std.specs.Option.{is_some}
 use Rattle.std.specs.Char.{is_ascii_digit}
 use Rattle.std.specs.List.{list_all, prefix_len}
@@ -16,7 +17,8 @@ use Rattle.color_values.specs.declared.number.Number.{Number as NumberText}
 
 -- the number that a text has
 abbrev pub number_view : NumberText → Number
-number_view n = record { negative = n.negative; digits = number_of (n.whole.now ++ n.fraction.now); places = length n.fraction.now }
+number_view n =
+    record { negative = n.negative; digits = number_of (n.whole.now ++ n.fraction.now); places = length n.fraction.now }
 
 -- a number is within the bound
 abbrev pub IsWithin : Number → Type 0
@@ -63,7 +65,8 @@ before_comma bs = prefix_len (λ c. not (nat_eq c 44)) bs
 
 unfoldable pub first_piece : List ℕ → Option (List ℕ × List ℕ)
 first_piece bs =
-    if nat_eq (before_comma bs) (length bs) then None else Some (take (before_comma bs) bs, drop 1 (drop (before_comma bs) bs))
+    if nat_eq (before_comma bs) (length bs) then None else
+    Some (take (before_comma bs) bs, drop 1 (drop (before_comma bs) bs))
 
 -- the arguments whose last is an opacity, which contains no comma
 unfoldable pub parts_with_last : List ℕ → List ℕ → List ℕ → List ℕ → Option ColorArguments

@@ -13,7 +13,8 @@ pub(crate) fn times(number: &Number, most: u128, factor: u128) -> u128
     requires most_is_small { most ≤ past }
     requires factor_is_small { factor < 10 ^ 36 }
     requires fits { factor * most < 10 ^ 38 }
-    ensures value { let n = number_view number.now in result ≡ factor * min n.digits (most * 10 ^ n.places) / 10 ^ n.places }
+    ensures value { let n = number_view number.now in
+        result ≡ factor * min n.digits (most * 10 ^ n.places) / 10 ^ n.places }
     ensures within { result ≤ factor * most }
 {
     let whole = saturated_number(number.whole).min(most);

@@ -2,7 +2,8 @@ ghost use Rattle.std.specs.Prelude.{◌≡◌, ◌<◌, ◌*◌, ◌^◌, ◌++�
 ghost use Rattle.std.specs.Char.{is_ascii_digit};
 ghost use Rattle.std.specs.List.{list_all};
 ghost use Rattle.fixed_num.specs.Decimal.{number_of};
-ghost use Rattle.color_values.specs.ColorNumber.{most_units, number_with, unsigned_at, number_at, percent_at, is_percent};
+ghost use Rattle.color_values.specs.ColorNumber.{most_units, number_with, unsigned_at, number_at, percent_at};
+ghost use Rattle.color_values.specs.ColorNumber.{is_percent};
 ghost use Rattle.color_values.specs.Views.{number_view, HasDigits, IsWithin};
 
 use fixed_num::{are_digits, begins_with, saturated_number, split_digits};

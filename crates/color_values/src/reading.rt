@@ -1,5 +1,6 @@
 ghost use Rattle.std.specs.Prelude.{◌≡◌, ◌<◌, ◌≤◌, ◌+◌, ◌-◌, IsTrue, IfSome, length, take, drop, slice_index, nat_eq};
-ghost use Rattle.color_values.specs.ColorOf.{opaque_color, named_color, color_by, before_bracket, function_color, color_of_trimmed, color_of};
+ghost use Rattle.color_values.specs.ColorOf.{opaque_color, named_color, color_by, before_bracket, function_color};
+ghost use Rattle.color_values.specs.ColorOf.{color_of_trimmed, color_of};
 ghost use Rattle.color_values.specs.Views.{parts_view};
 ghost use Rattle.fixed_num.specs.ColorRange.{IsInRange};
 

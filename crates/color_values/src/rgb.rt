@@ -25,7 +25,8 @@ pub(crate) fn rgb_color(parts: &ColorArguments) -> Option<Color>
 
 fn color_of_numbers(parts: &ColorArguments) -> Option<Color>
     ensures value { let p = parts_view parts.now in
-        result ≡ rgb_color_of 255 1000000 (number_at p.first) (number_at p.second) (number_at p.third) (opacity_of p.opacity) }
+        result ≡ rgb_color_of 255 1000000 (number_at p.first) (number_at p.second) (number_at p.third)
+        (opacity_of p.opacity) }
     ensures range { IfSome result (λ c. IsInRange c) }
 {
     let red = number_at(parts.first)?;
@@ -42,7 +43,8 @@ fn color_of_numbers(parts: &ColorArguments) -> Option<Color>
 
 fn color_of_percentages(parts: &ColorArguments) -> Option<Color>
     ensures value { let p = parts_view parts.now in
-        result ≡ rgb_color_of 100 2550000 (percent_at p.first) (percent_at p.second) (percent_at p.third) (opacity_of p.opacity) }
+        result ≡ rgb_color_of 100 2550000 (percent_at p.first) (percent_at p.second) (percent_at p.third)
+        (opacity_of p.opacity) }
     ensures range { IfSome result (λ c. IsInRange c) }
 {
     let red = percent_at(parts.first)?;

@@ -1,6 +1,7 @@
 -- How many nodes a tree has.
 use Rattle.std.specs.Prelude.{ℕ, ◌+◌}
-use Rattle.decimal_json.specs.Tree.{Fields, Tree, Trees, boolean, field, list, no_fields, no_trees, null, number, object, text, tree}
+use Rattle.decimal_json.specs.Tree.{Fields, Tree, Trees, boolean, field, list, no_fields, no_trees, null, number}
+use Rattle.decimal_json.specs.Tree.{object, text, tree}
 
 -- The number of nodes, an array or an object counted as one more than its parts.
 abbrev mutual

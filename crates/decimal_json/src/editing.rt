@@ -1,4 +1,5 @@
-ghost use Rattle.std.specs.Prelude.{◌≡◌, ◌<◌, ◌≤◌, length, insert, remove, slice_set, slice_index_or, OnOk, OnErr, option_map};
+ghost use Rattle.std.specs.Prelude.{◌≡◌, ◌<◌, ◌≤◌, length, insert, remove, slice_set, slice_index_or, OnOk, OnErr};
+ghost use Rattle.std.specs.Prelude.{option_map};
 ghost use Rattle.decimal_json.specs.Editing.{members_with, replaced_members, members_without};
 ghost use Rattle.decimal_json.specs.View.{moved_items, tree_of};
 ghost use Rattle.decimal_json.specs.Tree.{field_at, fields_of};
@@ -124,7 +125,8 @@ impl Members {
 fn put_value(members: &mut Vec<Member>, place: usize, value: Json) -> Json
     requires { place < length members.old.items }
     ensures old { (m : Member) → result ≡ (slice_index_or members.old.items place m).value }
-    ensures put { (m : Member) → members.new.items ≡ slice_set members.old.items place (record (slice_index_or members.old.items place m) { value = value }) }
+    ensures put { (m : Member) → members.new.items
+        ≡ slice_set members.old.items place (record (slice_index_or members.old.items place m) { value = value }) }
 {
     mem::replace(&mut members[place].value, value)
 }

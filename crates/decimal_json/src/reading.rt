@@ -4,7 +4,8 @@ ghost use Rattle.json_tokens.specs.RunLengths.{first_of};
 ghost use Rattle.json_tokens.specs.SequenceReaders.{BehindByte};
 ghost use Rattle.decimal_json.specs.Grammar.{IsNew, SpellsKey, SpellsValue, SpellsItems, SpellsMembers};
 ghost use Rattle.decimal_json.specs.Parsed.{Parses};
-ghost use Rattle.decimal_json.specs.Reading.{AreUtf8, GivesTurn, SpellsMembersOn, SpellsNamed, SpellsPair, SpellsSome, GivesWhole, keys_of, pair_of};
+ghost use Rattle.decimal_json.specs.Reading.{AreUtf8, GivesTurn, SpellsMembersOn, SpellsNamed, SpellsPair, SpellsSome};
+ghost use Rattle.decimal_json.specs.Reading.{GivesWhole, keys_of, pair_of};
 ghost use Rattle.decimal_json.specs.Tree.{trees_of, fields_of};
 ghost use Rattle.decimal_json.specs.View.{tree_of};
 

@@ -1,5 +1,6 @@
 -- What is found after an edit of a document without findings, by the part that the edit changes.
-use Rattle.std.specs.Prelude.{ℕ, ◌+◌, List, [], ◌∷◌, ◌++◌, codes, drop, length, nat_le, not, slice_index_or, unwrap_or, Bool, true, Option, Some, None, if◌then◌else◌}
+use Rattle.std.specs.Prelude.{ℕ, ◌+◌, List, [], ◌∷◌, ◌++◌, codes, drop, length, nat_le, not, slice_index_or, unwrap_or}
+use Rattle.std.specs.Prelude.{Bool, true, Option, Some, None, if◌then◌else◌}
 use Rattle.decimal_json.specs.Accessors.{text_at}
 use Rattle.decimal_json.specs.Tree.{Tree, null, trees_of}
 use Rattle.decimal_json.specs.declared.paths.PathPart.{PathPart}
@@ -89,7 +90,8 @@ own_found document i layer =
     findings_in (layer_reports (sources_of document) (used_in (trees_of (layer_list document)) i) (layer_path i) layer)
 
 abbrev pub layer_found : Tree → ℕ → Tree → Found
-layer_found document i layer = own_found document i layer ++ later_found (id_of layer) (i + 1) (drop i (layer_list document))
+layer_found document i layer =
+    own_found document i layer ++ later_found (id_of layer) (i + 1) (drop i (layer_list document))
 
 abbrev pub added_found : Tree → Option ℕ → Tree → Found
 added_found document before layer =
@@ -99,8 +101,10 @@ added_found document before layer =
 -- ---- an edit, by the places of the layers that it names
 
 abbrev pub found_by_edit : Tree → EditPlaces → Edit → Found
-found_by_edit document places (set_paint id name value) = property_found (layer_list document) Paint places.layer name value
-found_by_edit document places (set_layout id name value) = property_found (layer_list document) Layout places.layer name value
+found_by_edit document places (set_paint id name value) =
+    property_found (layer_list document) Paint places.layer name value
+found_by_edit document places (set_layout id name value) =
+    property_found (layer_list document) Layout places.layer name value
 found_by_edit document places (set_filter id filter) = filter_found places.layer filter
 found_by_edit document places (add_layer layer before) = added_found document places.before layer
 found_by_edit document places _ = []

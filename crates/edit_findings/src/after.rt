@@ -22,8 +22,8 @@ use std::alloc::{AllocError, Global};
 use style_edits::{EditPlaces, edit_places};
 use style_rules::{Findings, documents_have_distinct_members};
 
-/// The findings that a document without findings has after an edit without fault. The document is not edited. Only an edit that
-/// puts something into it takes memory.
+/// The findings that a document without findings has after an edit without fault. The document is not edited. Only an
+/// edit that puts something into it takes memory.
 pub fn findings_after(
     alloc: Global,
     document: &Json,
@@ -31,7 +31,8 @@ pub fn findings_after(
 ) -> Result<Findings, AllocError>
     requires sound { findings (tree_of document.now) ≡ [] }
     requires possible { edit_fault (tree_of document.now) (command_seen command.now) ≡ None }
-    ensures found { IfOk result (λ found. map finding_seen found ≡ findings (edited (tree_of document.now) (command_seen command.now))) }
+    ensures found { IfOk result
+        (λ found. map finding_seen found ≡ findings (edited (tree_of document.now) (command_seen command.now))) }
     ensures memory { takes_memory (command_seen command.now) ≡ false → IsOk result }
 {
     note_keys(document, command);
@@ -39,8 +40,8 @@ pub fn findings_after(
     findings_at(alloc, document, places, command)
 }
 
-/// As `findings_after`, of an edit whose layers are at these places. No name occurs twice in a layer, where one is added or
-/// moved: `layers_have_distinct_members` says it of a document.
+/// As `findings_after`, of an edit whose layers are at these places. No name occurs twice in a layer, where one is
+/// added or moved: `layers_have_distinct_members` says it of a document.
 pub fn findings_at(
     alloc: Global,
     document: &Json,
@@ -51,7 +52,8 @@ pub fn findings_at(
     requires possible { edit_fault (tree_of document.now) (command_seen command.now) ≡ None }
     requires places { places ≡ places_of (tree_of document.now) (command_seen command.now) }
     requires keys { HasKeysFor (command_seen command.now) (layer_list (tree_of document.now)) }
-    ensures found { IfOk result (λ found. map finding_seen found ≡ findings (edited (tree_of document.now) (command_seen command.now))) }
+    ensures found { IfOk result
+        (λ found. map finding_seen found ≡ findings (edited (tree_of document.now) (command_seen command.now))) }
     ensures memory { takes_memory (command_seen command.now) ≡ false → IsOk result }
 {
     documents_have_distinct_members(document);
@@ -66,8 +68,10 @@ fn found_by_edit(
 ) -> Result<Findings, AllocError>
     requires layer { IfSome places.layer (λ i. i < length (layer_list (tree_of document.now))) }
     requires before { IfSome places.before (λ i. i < length (layer_list (tree_of document.now))) }
-    requires same { places.same ≡ option_and_then (layer_place (layer_list (tree_of document.now))) (added_id (command_seen command.now)) }
-    ensures found { IfOk result (λ found. map finding_seen found ≡ found_by_edit (tree_of document.now) places (command_seen command.now)) }
+    requires same { places.same
+        ≡ option_and_then (layer_place (layer_list (tree_of document.now))) (added_id (command_seen command.now)) }
+    ensures found { IfOk result
+        (λ found. map finding_seen found ≡ found_by_edit (tree_of document.now) places (command_seen command.now)) }
     ensures memory { takes_memory (command_seen command.now) ≡ false → IsOk result }
 {
     match command {

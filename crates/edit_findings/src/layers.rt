@@ -1,6 +1,7 @@
 //! The findings of a document to which a layer is added.
 
-ghost use Rattle.std.specs.Prelude.{◌≡◌, ℕ, ◌+◌, ◌<◌, ◌≤◌, ◌^◌, List, [], ◌∷◌, ◌++◌, length, map, nat_le, not, Some, option_map, IfOk, IfSome, OnOk};
+ghost use Rattle.std.specs.Prelude.{◌≡◌, ℕ, ◌+◌, ◌<◌, ◌≤◌, ◌^◌, List, [], ◌∷◌, ◌++◌, length, map, nat_le, not, Some};
+ghost use Rattle.std.specs.Prelude.{option_map, IfOk, IfSome, OnOk};
 ghost use Rattle.std.specs.Option.{option_and_then};
 ghost use Rattle.decimal_json.specs.Tree.{Tree, trees_of};
 ghost use Rattle.decimal_json.specs.View.{items_view, path_of, tree_of};
@@ -8,7 +9,8 @@ ghost use Rattle.style_edits.specs.Layers.{layer_list};
 ghost use Rattle.style_edits.specs.Places.{layer_place};
 ghost use Rattle.style_rules.specs.CodeView.{finding_seen, has_name};
 ghost use Rattle.style_rules.specs.Places.{used_in};
-ghost use Rattle.edit_findings.specs.FoundAfter.{added_found, differs, id_of, later_found, layer_found, layers_path, most_layers, own_found, same_found};
+ghost use Rattle.edit_findings.specs.FoundAfter.{added_found, differs, id_of, later_found, layer_found, layers_path};
+ghost use Rattle.edit_findings.specs.FoundAfter.{most_layers, own_found, same_found};
 
 use decimal_json::{Here, Json, Text, path_to};
 use prop_values::{Entries, Value};
@@ -34,8 +36,10 @@ pub(crate) fn after_addition(
     layer: &Json,
 ) -> Result<Findings, AllocError>
     requires before { IfSome places.before (λ i. i < length (layer_list (tree_of document.now))) }
-    requires same { places.same ≡ option_and_then (layer_place (layer_list (tree_of document.now))) (id_of (tree_of layer.now)) }
-    ensures { IfOk result (λ found. map finding_seen found ≡ added_found (tree_of document.now) places.before (tree_of layer.now)) }
+    requires same { places.same
+        ≡ option_and_then (layer_place (layer_list (tree_of document.now))) (id_of (tree_of layer.now)) }
+    ensures { IfOk result
+        (λ found. map finding_seen found ≡ added_found (tree_of document.now) places.before (tree_of layer.now)) }
 {
     let layers = layer_list(document);
     if !has_room(layers) {
@@ -79,8 +83,10 @@ fn after_layer(
     layer: &Json,
 ) -> Result<Findings, AllocError>
     requires within { place ≤ length (layer_list (tree_of document.now)) }
-    requires same { same ≡ option_and_then (layer_place (layer_list (tree_of document.now))) (id_of (tree_of layer.now)) }
-    ensures { IfOk result (λ found. map finding_seen found ≡ layer_found (tree_of document.now) place (tree_of layer.now)) }
+    requires same { same ≡ option_and_then (layer_place (layer_list (tree_of document.now)))
+        (id_of (tree_of layer.now)) }
+    ensures { IfOk result
+        (λ found. map finding_seen found ≡ layer_found (tree_of document.now) place (tree_of layer.now)) }
 {
     let mut found = own_findings(alloc, document, place, same, layer)?;
     match same {
@@ -106,7 +112,8 @@ fn own_findings(
     layer: &Json,
 ) -> Result<Findings, AllocError>
     requires { same ≡ option_and_then (layer_place (layer_list (tree_of document.now))) (id_of (tree_of layer.now)) }
-    ensures { IfOk result (λ found. map finding_seen found ≡ own_found (tree_of document.now) place (tree_of layer.now)) }
+    ensures { IfOk result
+        (λ found. map finding_seen found ≡ own_found (tree_of document.now) place (tree_of layer.now)) }
 {
     documents_have_distinct_members(layer);
     let used = used_ids(alloc, is_before(same, place), text_id(layer))?;
@@ -126,7 +133,8 @@ fn is_before(first: Option<usize>, place: usize) -> bool
 
 /// An id, if it is used.
 fn used_ids(alloc: Global, is_used: bool, id: Option<&Text>) -> Result<Entries, AllocError>
-    ensures { IfOk result (λ used. (s : List ℕ) → option_map (λ own. own.now) id.entry ≡ Some s → has_name used s ≡ is_used) }
+    ensures { IfOk result
+        (λ used. (s : List ℕ) → option_map (λ own. own.now) id.entry ≡ Some s → has_name used s ≡ is_used) }
 {
     let mut used = Entries::new(alloc);
     if let Some(id) = id {

@@ -11,8 +11,9 @@
 //! something away, moves a layer or sets a range finds nothing. Takes time linear in what is put, and in the number
 //! of layers where their number or order changes.
 //!
-//! `findings_after` goes through the layers for each id that the edit names. Whoever knows the places of layers, and that
-//! no name occurs twice in them (`layers_have_distinct_members`), calls `findings_at`: its time is constant for a move.
+//! `findings_after` goes through the layers for each id that the edit names. Whoever knows the places of layers, and
+//! that no name occurs twice in them (`layers_have_distinct_members`), calls `findings_at`: its time is constant for a
+//! move.
 //!
 //! The text to believe is that of `style_rules` and `style_edits`.
 #![tactic(auto)]

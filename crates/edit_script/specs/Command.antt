@@ -1,5 +1,6 @@
 -- The command of a tree: its form first, and then the numbers.
-use Rattle.std.specs.Prelude.{ℕ, ◌/◌, ◌%◌, ◌^◌, ℤ, pos, negsuc, List, ◌&&◌, nat_eq, nat_lt, Option, Some, None, Result, Ok, Err, if◌then◌else◌}
+use Rattle.std.specs.Prelude.{ℕ, ◌/◌, ◌%◌, ◌^◌, ℤ, pos, negsuc, List, ◌&&◌, nat_eq, nat_lt, Option, Some, None, Result}
+use Rattle.std.specs.Prelude.{Ok, Err, if◌then◌else◌}
 use Rattle.fixed_num.specs.Decimal.{read_text}
 use Rattle.fixed_num.specs.declared.decimal.NumFault.{NumFault}
 use Rattle.decimal_json.specs.Tree.{Tree}
@@ -37,11 +38,14 @@ id_of (Err past) = Err Number
 -- The edit of a form, or that a number of it is past its range. Source: own.
 abbrev pub edit_of : LineForm → Result Edit LineFault
 edit_of (plain edit) = Ok edit
-edit_of (range layer min max) = then_edit (limit_of min) (λ a. then_edit (limit_of max) (λ b. Ok (edits.set_range layer a b)))
+edit_of (range layer min max) =
+    then_edit (limit_of min) (λ a. then_edit (limit_of max) (λ b. Ok (edits.set_range layer a b)))
 edit_of (zoom z) = then_edit (in_bound (read_text z)) (λ a. Ok (edits.set_zoom a))
 edit_of (state source layer id members) =
-    then_edit (id_of (read_text id)) (λ i. then_edit (in_bound (fields_data members)) (λ ms. Ok (edits.set_state source layer i ms)))
-edit_of (removal source layer id key) = then_edit (id_of (read_text id)) (λ i. Ok (edits.remove_state source layer i key))
+    then_edit (id_of (read_text id))
+    (λ i. then_edit (in_bound (fields_data members)) (λ ms. Ok (edits.set_state source layer i ms)))
+edit_of (removal source layer id key) =
+    then_edit (id_of (read_text id)) (λ i. Ok (edits.remove_state source layer i key))
 edit_of (global name value) = then_edit (in_bound (json_data value)) (λ v. Ok (edits.set_global name v))
 
 -- the edit of a form, where there is one

@@ -3,8 +3,8 @@ use Rattle.std.specs.Prelude.{ℕ, ℤ, List, Option}
 use Rattle.decimal_json.specs.Tree.{Tree}
 use Rattle.prop_values.specs.Data.{Data, Pairs}
 
--- The edits, with their parts in the order of a line. A number is its count of millionths, an id the whole number, a text the
--- list of its UTF-8 bytes; `None` is null where a part may be null. Source: own.
+-- The edits, with their parts in the order of a line. A number is its count of millionths, an id the whole number, a
+-- text the list of its UTF-8 bytes; `None` is null where a part may be null. Source: own.
 pub data Edit : Type 0 where
   -- layer, name, value
   set_paint : List ℕ → List ℕ → Tree → Edit

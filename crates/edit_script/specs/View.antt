@@ -4,9 +4,14 @@ use Rattle.decimal_json.specs.View.{tree_of}
 use Rattle.prop_values.specs.Data.{pairs_of}
 use Rattle.prop_values.specs.View.{data_of}
 use Rattle.edit_script.specs.declared.command.Command.{Command}
-use Rattle.edit_script.specs.declared.command.Command.TheVariants.{SetPaint, SetLayout, SetFilter, SetRange, AddLayer, RemoveLayer, MoveLayer, SetZoom, SetState, RemoveState, AddImage, RemoveImage, SetGlobal, List, Stats, Style}
+use Rattle.edit_script.specs.declared.command.Command.TheVariants.{SetPaint, SetLayout, SetFilter, SetRange, AddLayer}
+use Rattle.edit_script.specs.declared.command.Command.TheVariants.{RemoveLayer, MoveLayer, SetZoom, SetState}
+use Rattle.edit_script.specs.declared.command.Command.TheVariants.{RemoveState, AddImage, RemoveImage, SetGlobal, List}
+use Rattle.edit_script.specs.declared.command.Command.TheVariants.{Stats, Style}
 use Rattle.edit_script.specs.declared.command.LineFault.{LineFault}
-use Rattle.edit_script.specs.Edit.{Edit, set_paint, set_layout, set_filter, set_range, add_layer, remove_layer, move_layer, set_zoom, set_state, remove_state, add_image, remove_image, set_global, list, stats, style}
+use Rattle.edit_script.specs.Edit.{Edit, set_paint, set_layout, set_filter, set_range, add_layer, remove_layer}
+use Rattle.edit_script.specs.Edit.{move_layer, set_zoom, set_state, remove_state, add_image, remove_image, set_global}
+use Rattle.edit_script.specs.Edit.{list, stats, style}
 
 -- The edit of a command: each variant is the edit of its name. Source: own.
 abbrev pub command_seen : Command → Edit

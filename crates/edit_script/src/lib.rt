@@ -9,9 +9,9 @@
 //! ```
 //!
 //! What is promised, for all lines and all JSON trees: `read_command` gives the edit that the table of forms in
-//! `specs/Form.antt` has for the tree, or its fault by `specs/Command.antt`: `Form` where it has none of the forms, and `Number`
-//! where it has one and a number of it is past its range. `read_line` gives the same of the tree that the bytes
-//! spell, and `Json` where they spell none. No tree gives `Json` (`each_tree_is_read`).
+//! `specs/Form.antt` has for the tree, or its fault by `specs/Command.antt`: `Form` where it has none of the forms, and
+//! `Number` where it has one and a number of it is past its range. `read_line` gives the same of the tree that the
+//! bytes spell, and `Json` where they spell none. No tree gives `Json` (`each_tree_is_read`).
 //!
 //! Texts and numbers are shared with the line's document, and trees are copied by `decimal_json::copy`. Each call takes
 //! time linear in the line, and at most n log n of the members of an object, whose keys are looked up.

@@ -77,7 +77,9 @@ pub(crate) fn members_of(
     object: &Json,
 ) -> Result<Result<Entries, LineFault>, AllocError>
     requires { (members : Fields) × (tree_of object.now ≡ trees.object members) }
-    ensures { IfOk result (λ read. (members : Fields) → tree_of object.now ≡ trees.object members → seen_by pairs_of read ≡ in_bound (fields_data members)) }
+    ensures { IfOk result
+        (λ read. (members : Fields) → tree_of object.now ≡ trees.object members
+        → seen_by pairs_of read ≡ in_bound (fields_data members)) }
 {
     match value_of(alloc, object)? {
         Ok(Value::Map(entries)) => Ok(Ok(entries.into_entries(alloc)?)),

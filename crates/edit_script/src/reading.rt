@@ -5,7 +5,9 @@ ghost use Rattle.decimal_json.specs.Tree as trees;
 ghost use Rattle.decimal_json.specs.View.{items_view, tree_of};
 ghost use Rattle.edit_script.specs.Command.{command_of, edit_or_fault};
 ghost use Rattle.edit_script.specs.Edit as edits;
-ghost use Rattle.edit_script.specs.Form.{text_or_null, number_or_null, property_form, filter_form, range_form, addition_form, move_form, zoom_form, state_form, removal_form, global_form, text_form, bare_form, form_named, array_form};
+ghost use Rattle.edit_script.specs.Form.{text_or_null, number_or_null, property_form, filter_form, range_form};
+ghost use Rattle.edit_script.specs.Form.{addition_form, move_form, zoom_form, state_form, removal_form, global_form};
+ghost use Rattle.edit_script.specs.Form.{text_form, bare_form, form_named, array_form};
 ghost use Rattle.edit_script.specs.Line.{AnswersLine};
 ghost use Rattle.edit_script.specs.View.{read_seen};
 
@@ -75,7 +77,8 @@ fn read_named(
 }
 
 fn set_paint(alloc: Global, elements: &[Json]) -> Result<Result<Command, LineFault>, AllocError>
-    ensures { IfOk result (λ read. read_seen read ≡ edit_or_fault (property_form edits.set_paint (items_view elements.now))) }
+    ensures { IfOk result
+        (λ read. read_seen read ≡ edit_or_fault (property_form edits.set_paint (items_view elements.now))) }
 {
     match elements {
         [Json::Text(layer), Json::Text(name), value] => {
@@ -87,7 +90,8 @@ fn set_paint(alloc: Global, elements: &[Json]) -> Result<Result<Command, LineFau
 }
 
 fn set_layout(alloc: Global, elements: &[Json]) -> Result<Result<Command, LineFault>, AllocError>
-    ensures { IfOk result (λ read. read_seen read ≡ edit_or_fault (property_form edits.set_layout (items_view elements.now))) }
+    ensures { IfOk result
+        (λ read. read_seen read ≡ edit_or_fault (property_form edits.set_layout (items_view elements.now))) }
 {
     match elements {
         [Json::Text(layer), Json::Text(name), value] => {
@@ -160,7 +164,8 @@ fn text_or_null(json: &Json) -> Result<Option<Option<Text>>, AllocError>
 }
 
 fn remove_layer(elements: &[Json]) -> Result<Result<Command, LineFault>, AllocError>
-    ensures { IfOk result (λ read. read_seen read ≡ edit_or_fault (text_form edits.remove_layer (items_view elements.now))) }
+    ensures { IfOk result
+        (λ read. read_seen read ≡ edit_or_fault (text_form edits.remove_layer (items_view elements.now))) }
 {
     match elements {
         [Json::Text(id)] => Ok(Ok(Command::RemoveLayer(id.share()?))),
@@ -241,7 +246,8 @@ fn remove_state(elements: &[Json]) -> Result<Result<Command, LineFault>, AllocEr
 }
 
 fn add_image(elements: &[Json]) -> Result<Result<Command, LineFault>, AllocError>
-    ensures { IfOk result (λ read. read_seen read ≡ edit_or_fault (text_form edits.add_image (items_view elements.now))) }
+    ensures { IfOk result
+        (λ read. read_seen read ≡ edit_or_fault (text_form edits.add_image (items_view elements.now))) }
 {
     match elements {
         [Json::Text(name)] => Ok(Ok(Command::AddImage(name.share()?))),
@@ -250,7 +256,8 @@ fn add_image(elements: &[Json]) -> Result<Result<Command, LineFault>, AllocError
 }
 
 fn remove_image(elements: &[Json]) -> Result<Result<Command, LineFault>, AllocError>
-    ensures { IfOk result (λ read. read_seen read ≡ edit_or_fault (text_form edits.remove_image (items_view elements.now))) }
+    ensures { IfOk result
+        (λ read. read_seen read ≡ edit_or_fault (text_form edits.remove_image (items_view elements.now))) }
 {
     match elements {
         [Json::Text(name)] => Ok(Ok(Command::RemoveImage(name.share()?))),

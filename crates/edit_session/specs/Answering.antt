@@ -11,7 +11,8 @@ use Rattle.style_edits.specs.Edited.{edited, edited_layers}
 use Rattle.style_edits.specs.Layers.{layer_list}
 use Rattle.style_edits.specs.Places.{places_of}
 use Rattle.style_layout.specs.Shown.{SourceTile}
-use Rattle.edit_session.specs.Applied.{Reply, done, counted, styled, refused, applied, changed_by, is_of_view, kept_left, presented_after, refusal, unless_refused, with_image}
+use Rattle.edit_session.specs.Applied.{Reply, done, counted, styled, refused, applied, changed_by, is_of_view}
+use Rattle.edit_session.specs.Applied.{kept_left, presented_after, refusal, unless_refused, with_image}
 use Rattle.edit_session.specs.OpenViews.{shown_in}
 use Rattle.edit_session.specs.SessionState.{SessionState}
 use Rattle.edit_session.specs.View.{IsKept, reply_seen, view_seen}

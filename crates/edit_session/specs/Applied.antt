@@ -10,7 +10,8 @@ use Rattle.edit_script.specs.Edit.{Edit}
 use Rattle.feature_states.specs.Features.{same_feature, left_of}
 use Rattle.host_ops.specs.Change.{count_after}
 use Rattle.kept_layers.specs.EditedKept.{edited_kept}
-use Rattle.kept_layers.specs.KeptLayers.{StyleKept, evaluations_of, is_stale_global, is_stale_image, is_stale_state, is_stale_zoom, kept_after, kept_of_each, nodes_of}
+use Rattle.kept_layers.specs.KeptLayers.{StyleKept, evaluations_of, is_stale_global, is_stale_image, is_stale_state}
+use Rattle.kept_layers.specs.KeptLayers.{is_stale_zoom, kept_after, kept_of_each, nodes_of}
 use Rattle.listing_text.specs.Listing.{listing}
 use Rattle.prop_values.specs.Changes.{with_member, without_key, merged}
 use Rattle.prop_values.specs.Data.{Data, null, pairs_of, entries_of}
@@ -30,7 +31,9 @@ use Rattle.style_rules.specs.Findings.{findings}
 use Rattle.edit_session.specs.Opening.{within_limit}
 use Rattle.edit_session.specs.SessionState.{SessionState, scene_of}
 use Rattle.edit_session.specs.declared.answer.Refusal.{Refusal}
-use Rattle.edit_session.specs.declared.answer.Refusal.TheVariants.{UnknownLayer, UnknownBefore, UnknownSource, ZoomRange, UnknownProperty, Finding, CellLimit, FixedImages}
+use Rattle.edit_session.specs.declared.answer.Refusal.TheVariants.{UnknownLayer, UnknownBefore, UnknownSource}
+use Rattle.edit_session.specs.declared.answer.Refusal.TheVariants.{ZoomRange, UnknownProperty, Finding, CellLimit}
+use Rattle.edit_session.specs.declared.answer.Refusal.TheVariants.{FixedImages}
 
 -- ---- the states of features
 
@@ -38,7 +41,8 @@ abbrev pub FeatureStates : Type 0
 FeatureStates = List ℕ → List ℕ → ℕ → List (List ℕ × Data)
 
 -- the states with that of one feature changed
-abbrev pub changed_state : List ℕ → List ℕ → ℕ → (List (List ℕ × Data) → List (List ℕ × Data)) → FeatureStates → FeatureStates
+abbrev pub changed_state : List ℕ → List ℕ → ℕ → (List (List ℕ × Data) → List (List ℕ × Data)) → FeatureStates →
+    FeatureStates
 changed_state source layer id change states s l i =
     if same_feature source layer id s l i then change (states s l i) else states s l i
 
@@ -54,8 +58,8 @@ tells_image (edits.add_image name) = true
 tells_image (edits.remove_image name) = true
 tells_image _ = false
 
--- How many reports the test of images had, once an edit is done or refused: an image is reported once, and where the test
--- cannot change that is not counted. Source: own.
+-- How many reports the test of images had, once an edit is done or refused: an image is reported once, and where the
+-- test cannot change that is not counted. Source: own.
 abbrev pub tell_count_after : Bool → Edit → ℕ → ℕ
 tell_count_after can_change edit n = if tells_image edit then count_after can_change n else n
 
@@ -179,7 +183,8 @@ unless_refused (Some refusal) before after = (before, refused refusal)
 -- a whole document over tiles breaks a rule, or has more cells than it may by the values of the global state
 abbrev pub whole_refusal : (limit : ℕ) → List SourceTile → List (List ℕ × Data) → Tree → Option Refusal
 whole_refusal limit tiles globals document =
-    option_or (first_finding (findings document)) (limit_refusal limit (cell_count tiles (style_layers globals document)))
+    option_or (first_finding (findings document))
+    (limit_refusal limit (cell_count tiles (style_layers globals document)))
 
 -- an edit of the layers of a document, which makes another document
 abbrev pub edits_layers : Edit → Bool
@@ -192,8 +197,8 @@ edits_layers (edits.remove_layer id) = true
 edits_layers (edits.move_layer id before) = true
 edits_layers _ = false
 
--- A command in which no allocation has to succeed: layers go or move, their ranges of zooms or the zoom change, a state is
--- removed, the number of evaluations is asked. Source: own.
+-- A command in which no allocation has to succeed: layers go or move, their ranges of zooms or the zoom change, a state
+-- is removed, the number of evaluations is asked. Source: own.
 abbrev pub needs_no_memory : Edit → Bool
 needs_no_memory edits.stats = true
 needs_no_memory (edits.set_zoom zoom) = true
@@ -211,7 +216,8 @@ document_refusal tiles p edit =
 
 -- over tiles, with the test on texts that can be shown; `can_change` says whether the test of images can change
 module _ (tiles : List SourceTile) (scripts : List ℕ → Bool) (can_change : Bool) where
-  -- The first cause that holds: a fault of the edit, of the whole edited document, or that images cannot change. Source: own.
+  -- The first cause that holds: a fault of the edit, of the whole edited document, or that images cannot change.
+  -- Source: own.
   abbrev pub refusal : SessionState → Edit → Option Refusal
   refusal p edit = first_cause (
       option_map refusal_of (edit_fault p.document edit) ∷

@@ -1,5 +1,6 @@
 -- Why a session over a document and tiles cannot be opened: the first cause that holds, in their order.
-use Rattle.std.specs.Prelude.{ℕ, ℤ, ◌-◌, ◌^◌, min, List, [], ◌∷◌, codes, Bool, not, nat_le, Option, Some, None, is_some, option_map, if◌then◌else◌}
+use Rattle.std.specs.Prelude.{ℕ, ℤ, ◌-◌, ◌^◌, min, List, [], ◌∷◌, codes, Bool, not, nat_le, Option, Some, None, is_some}
+use Rattle.std.specs.Prelude.{option_map, if◌then◌else◌}
 use Rattle.std.specs.Bool.{then_some}
 use Rattle.std.specs.Option.{option_and_then, option_or}
 use Rattle.decimal_json.specs.Tree.{Tree}
@@ -20,7 +21,8 @@ abbrev pub has_source : Tree → List ℕ → Bool
 has_source document name = is_some (source_at document name)
 
 abbrev pub is_vector : Tree → List ℕ → Bool
-is_vector document name = is_among (codes "vector" ∷ []) (option_and_then (text_at (codes "type")) (source_at document name))
+is_vector document name =
+    is_among (codes "vector" ∷ []) (option_and_then (text_at (codes "type")) (source_at document name))
 
 -- the source of the first tile whose source fails a test
 abbrev pub first_failing : (List ℕ → Bool) → List SourceTile → Option (List ℕ)
@@ -65,4 +67,5 @@ findings_fault (f ∷ fs) = Some has_findings
 
 -- The fault of an opening, or none. Source: own.
 abbrev pub open_fault : (limit : ℕ) → Tree → List SourceTile → ℤ → Option Fault
-open_fault limit document tiles zoom = option_or (findings_fault (findings document)) (tiles_fault limit document tiles zoom)
+open_fault limit document tiles zoom =
+    option_or (findings_fault (findings document)) (tiles_fault limit document tiles zoom)

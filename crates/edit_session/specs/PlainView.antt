@@ -1,5 +1,5 @@
--- What a session represents by its document as it is, without the ranges that are still to be set. Only contracts of private
--- functions and proofs use it.
+-- What a session represents by its document as it is, without the ranges that are still to be set. Only contracts of
+-- private functions and proofs use it.
 use Rattle.std.specs.Prelude.{◌≡◌, ℕ, List, [], ◌∷◌, Bool, false}
 use Rattle.decimal_json.specs.View.{tree_of}
 use Rattle.edit_session.specs.OpenViews.{shown_in}
@@ -21,7 +21,8 @@ IsPlainUsable session = lacks_memory session ≡ false → IsReady session
 -- What holds of a session from its opening on, by the tests of images and scripts that are handed in to each call.
 pub record IsPlainSound (session : Session) (has_image scripts : List ℕ → Bool) : Type 0 where
   pub ready : IsPlainUsable session
-  pub kept : lacks_memory session ≡ false → IsKept (tiles_of session) scripts (plain_state session has_image) session.kept
+  pub kept : lacks_memory session ≡ false →
+      IsKept (tiles_of session) scripts (plain_state session has_image) session.kept
 
 -- What holds of a view of it from its opening on.
 abbrev pub IsPlainSoundView : Session → (has_image scripts : List ℕ → Bool) → View → Type 0

@@ -13,7 +13,8 @@ use Rattle.edit_session.specs.Opening.{within_limit}
 use Rattle.edit_session.specs.declared.layers.PreparedLayers.{PreparedLayers}
 
 -- what is prepared is that of these layers, over tiles
-pub record ArePrepared (tiles : List SourceTile) (globals : List (List ℕ × Data)) (ts : List Tree) (p : PreparedLayers) : Type 0 where
+pub record ArePrepared (tiles : List SourceTile) (globals : List (List ℕ × Data)) (ts : List Tree)
+    (p : PreparedLayers) : Type 0 where
   pub layers : layers_seen p.style ≡ outlines_of globals ts
   pub counted : p.cells ≡ cell_count tiles (outlines_of globals ts)
   pub noted : p.reads_globals ≡ false → items_name_globals (trees_of ts) ≡ false
@@ -26,8 +27,8 @@ pub record Follows (tiles : List SourceTile) (globals : List (List ℕ × Data))
   pub prepared : is_done ≡ true → ArePrepared tiles globals ts new
   pub stays : is_done ≡ false → new ≡ old
 
--- One layer more or another: where the layers have not too many cells they are these, with a note whether the new one reads
--- the global state; else nothing changes.
+-- One layer more or another: where the layers have not too many cells they are these, with a note whether the new one
+-- reads the global state; else nothing changes.
 pub record Becomes (tiles : List SourceTile) (ls : List StyleLayer) (reads : Bool) (is_done : Bool)
     (old new : PreparedLayers) : Type 0 where
   pub limit : is_done ≡ within_limit old.limit (cell_count tiles ls)

@@ -23,8 +23,8 @@ ranged_document slots document = with_layers (ranged_layers slots) document
 
 -- ---- edits that let the ranges be
 
--- The commands before which no range has to be set in the document: they ask nothing of it, or layers go and move, each with the
--- range that is to be set of it.
+-- The commands before which no range has to be set in the document: they ask nothing of it, or layers go and move, each
+-- with the range that is to be set of it.
 abbrev pub lets_ranges_be : Edit → Bool
 lets_ranges_be edits.stats = true
 lets_ranges_be (edits.set_zoom zoom) = true

@@ -1,5 +1,6 @@
 -- Ranges that are set in the document, and what they follow. Only contracts of private functions and proofs use it.
-use Rattle.std.specs.Prelude.{◌≡◌, ℕ, ◌+◌, List, length, insert, remove, slice_index_or, slice_set, Bool, true, false, Option, Some, None, if◌then◌else◌}
+use Rattle.std.specs.Prelude.{◌≡◌, ℕ, ◌+◌, List, length, insert, remove, slice_index_or, slice_set, Bool, true, false}
+use Rattle.std.specs.Prelude.{Option, Some, None, if◌then◌else◌}
 use Rattle.decimal_json.specs.Tree.{Tree}
 use Rattle.decimal_json.specs.View.{tree_of}
 use Rattle.edit_script.specs.Edit as edits
@@ -34,7 +35,8 @@ SettlesAt place range before after =
 -- a session has another document, of as many layers, and else represents what it did
 pub record HasSettled (old new : Session) : Type 0 where
   pub ready : IsReady new
-  pub state : (has_image : List ℕ → Bool) → plain_state new has_image ≡ record (plain_state old has_image) { document = tree_of new.document }
+  pub state : (has_image : List ℕ → Bool) →
+      plain_state new has_image ≡ record (plain_state old has_image) { document = tree_of new.document }
   pub count : length (layer_list (tree_of new.document)) ≡ length (layer_list (tree_of old.document))
   pub tiles : tiles_of new ≡ tiles_of old
   pub kept : new.kept ≡ old.kept

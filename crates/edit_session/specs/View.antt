@@ -22,13 +22,15 @@ use Rattle.edit_session.specs.Applied.{Reply, done, listed, counted, styled, ref
 use Rattle.edit_session.specs.LayerMarks.{AreMarks}
 use Rattle.edit_session.specs.OpenViews.{OpenView, shown_in}
 use Rattle.edit_session.specs.Ranges.{ranged_document}
-use Rattle.edit_session.specs.Opening.{cell_limit, Fault, has_findings, unknown_source, not_vector, too_many_cells, zoom_range}
+use Rattle.edit_session.specs.Opening.{cell_limit, Fault, has_findings, unknown_source, not_vector, too_many_cells}
+use Rattle.edit_session.specs.Opening.{zoom_range}
 use Rattle.edit_session.specs.SessionState.{SessionState, scene_of}
 use Rattle.edit_session.specs.declared.answer.Answer.{Answer}
 use Rattle.edit_session.specs.declared.answer.Answer.TheVariants.{Done, Listing, Stats, Style, Refused}
 use Rattle.edit_session.specs.declared.layers.PreparedLayers.{PreparedLayers}
 use Rattle.edit_session.specs.declared.opening.OpenFault.{OpenFault}
-use Rattle.edit_session.specs.declared.opening.OpenFault.TheVariants.{Findings, UnknownSource, NotVector, CellLimit, ZoomRange}
+use Rattle.edit_session.specs.declared.opening.OpenFault.TheVariants.{Findings, UnknownSource, NotVector, CellLimit}
+use Rattle.edit_session.specs.declared.opening.OpenFault.TheVariants.{ZoomRange}
 use Rattle.edit_session.specs.declared.session.Session.{Session}
 use Rattle.edit_session.specs.declared.view.View.{View}
 
@@ -50,8 +52,8 @@ fault_seen ZoomRange = zoom_range
 
 -- ---- a session
 
--- What a session represents, with the test of images that is handed in: its document with the ranges that are still to be
--- set of its layers, and what it is shown by. Source: own.
+-- What a session represents, with the test of images that is handed in: its document with the ranges that are still to
+-- be set of its layers, and what it is shown by. Source: own.
 abbrev pub session_state : Session → (List ℕ → Bool) → SessionState
 session_state session has_image = record {
   document = ranged_document session.ranges (tree_of session.document);
@@ -90,8 +92,8 @@ lacks_memory session = session.lacks_memory
 abbrev pub reads_globals : Tree → Bool
 reads_globals document = items_name_globals (layers_of document)
 
--- a document over tiles that breaks no rule and is within its limit of cells, with its layers, their cells, and whether they read the
--- global state
+-- a document over tiles that breaks no rule and is within its limit of cells, with its layers, their cells, and whether
+-- they read the global state
 pub record IsWholeDocument (tiles : List SourceTile) (globals : List (List ℕ × Data)) (document : Tree)
     (layers : PreparedLayers) : Type 0 where
   pub is_limited : layers.limit ≤ cell_limit
@@ -100,7 +102,8 @@ pub record IsWholeDocument (tiles : List SourceTile) (globals : List (List ℕ �
   pub is_counted : layers.cells ≡ cell_count tiles (style_layers globals document)
   pub is_noted : layers.reads_globals ≡ false → reads_globals document ≡ false
 
--- so it is with the document that a session has; and its marks are those of the layers, and its indexes those of the features of its tiles
+-- so it is with the document that a session has; and its marks are those of the layers, and its indexes those of the
+-- features of its tiles
 abbrev pub IsReady : Session → Type 0
 IsReady session =
     IsWholeDocument (tiles_of session) session.globals (tree_of session.document) session.layers
@@ -113,7 +116,8 @@ abbrev pub slots_of : FormPool → List Sized
 slots_of = pool_slots
 
 -- What is kept is of the layers of a document, and right by what they are shown by.
-pub record IsKept (tiles : List SourceTile) (scripts : List ℕ → Bool) (p : SessionState) (kept : KeptLayers) : Type 0 where
+pub record IsKept (tiles : List SourceTile) (scripts : List ℕ → Bool) (p : SessionState)
+    (kept : KeptLayers) : Type 0 where
   pub numbered : AreNumbered kept
   pub holds : HoldsLayers slots_of tiles p.globals (layer_list p.document) kept
   pub right : IsRightIn slots_of tiles p.globals (scene_of scripts p) (layer_list p.document) kept
@@ -131,7 +135,8 @@ IsUsable session = lacks_memory session ≡ false → IsReady session × HasSlot
 -- What holds of a session from its opening on, by the tests of images and scripts that are handed in to each call.
 pub record IsSoundSession (session : Session) (has_image scripts : List ℕ → Bool) : Type 0 where
   pub ready : IsUsable session
-  pub kept : lacks_memory session ≡ false → IsKept (tiles_of session) scripts (session_state session has_image) session.kept
+  pub kept : lacks_memory session ≡ false →
+      IsKept (tiles_of session) scripts (session_state session has_image) session.kept
 
 -- What holds of a view of it from its opening on.
 abbrev pub IsSoundView : Session → (has_image scripts : List ℕ → Bool) → View → Type 0

@@ -4,7 +4,8 @@ ghost use Rattle.std.specs.Prelude.{◌≡◌, ◌≤◌, ◌+◌, ℕ, List, Bo
 ghost use Rattle.decimal_json.specs.View.{tree_of};
 ghost use Rattle.edit_script.specs.Edit as edits;
 ghost use Rattle.edit_script.specs.View.{command_seen};
-ghost use Rattle.edit_session.specs.Answering.{AreAccepted, AreOfAccepted, FollowsEdit, IsAccepted, IsFollowed, IsOfAccepted, is_done, is_list, spares_memory};
+ghost use Rattle.edit_session.specs.Answering.{AreAccepted, AreOfAccepted, FollowsEdit, IsAccepted, IsFollowed};
+ghost use Rattle.edit_session.specs.Answering.{IsOfAccepted, is_done, is_list, spares_memory};
 ghost use Rattle.edit_session.specs.Applied.{applied, least_steps, most_steps, tell_count_after, tells_image};
 ghost use Rattle.edit_session.specs.SessionState.{SessionState};
 ghost use Rattle.edit_session.specs.View.{IsKept, IsReady, reply_seen, tiles_of};
@@ -40,9 +41,11 @@ impl Session<'_> {
         steps: &mut Steps<L>,
     ) -> Result<Answer, AllocError>
         requires ready { IsReady self.old }
-        requires kept { IsKept (tiles_of self.old) (test scripts.now) (plain_state self.old (test images.old)) self.old.kept }
+        requires kept { IsKept (tiles_of self.old) (test scripts.now) (plain_state self.old (test images.old))
+            self.old.kept }
         ensures answer { IfOk result (λ answer. (plain_state self.new (test images.new), reply_seen answer)
-            ≡ applied (tiles_of self.old) (test scripts.now) (changes images.old) (plain_state self.old (test images.old))
+            ≡ applied (tiles_of self.old) (test scripts.now) (changes images.old)
+            (plain_state self.old (test images.old))
             (command_seen command.now)) }
         ensures tiles { tiles_of self.new ≡ tiles_of self.old }
         ensures ranges { self.new.ranges ≡ self.old.ranges }
@@ -73,9 +76,12 @@ impl Session<'_> {
         steps: &mut Steps<L>,
     ) -> Result<Answer, AllocError>
         requires ready { IsReady self.old }
-        requires kept { IsKept (tiles_of self.old) (test scripts.now) (plain_state self.old (test images.now)) self.old.kept }
-        ensures answer { (can_change : Bool) → IfOk result (λ answer. (plain_state self.new (test images.now), reply_seen answer)
-            ≡ applied (tiles_of self.old) (test scripts.now) can_change (plain_state self.old (test images.now)) edits.list) }
+        requires kept { IsKept (tiles_of self.old) (test scripts.now) (plain_state self.old (test images.now))
+            self.old.kept }
+        ensures answer { (can_change : Bool)
+            → IfOk result (λ answer. (plain_state self.new (test images.now), reply_seen answer)
+            ≡ applied (tiles_of self.old) (test scripts.now) can_change (plain_state self.old (test images.now))
+            edits.list) }
         ensures tiles { tiles_of self.new ≡ tiles_of self.old }
         ensures ranges { self.new.ranges ≡ self.old.ranges }
         ensures ready { IsReady self.new }
@@ -182,8 +188,8 @@ impl Session<'_> {
         )
     }
 
-    /// What is kept of each of several views follows a command that was done. It is one of the style, for which no feature is
-    /// looked for.
+    /// What is kept of each of several views follows a command that was done. It is one of the style, for which no
+    /// feature is looked for.
     pub(crate) fn follow_in_all(
         &self,
         views: &mut [View],

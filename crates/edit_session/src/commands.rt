@@ -43,8 +43,10 @@ impl Session<'_> {
         requires ready { IsReady self.old }
         requires edit { is_list (command_seen command.now) ≡ false }
         requires places { places ≡ places_of (tree_of self.old.document) (command_seen command.now) }
-        ensures answer { (scripts : List ℕ → Bool) → IfOk result (IsAnswer (tiles_of self.old) scripts (changes images.old)
-            (plain_state self.old (test images.old)) (plain_state self.new (test images.new)) (command_seen command.now)) }
+        ensures answer { (scripts : List ℕ → Bool)
+            → IfOk result (IsAnswer (tiles_of self.old) scripts (changes images.old)
+            (plain_state self.old (test images.old)) (plain_state self.new (test images.new))
+            (command_seen command.now)) }
         ensures tiles { tiles_of self.new ≡ tiles_of self.old }
         ensures ranges { self.new.ranges ≡ self.old.ranges }
         ensures changes { changes images.new ≡ changes images.old }
@@ -74,8 +76,10 @@ impl Session<'_> {
         requires edit { is_list (command_seen command.now) ≡ false }
         requires possible { edit_fault (tree_of self.old.document) (command_seen command.now) ≡ None }
         requires places { places ≡ places_of (tree_of self.old.document) (command_seen command.now) }
-        ensures answer { (scripts : List ℕ → Bool) → IfOk result (IsAnswer (tiles_of self.old) scripts (changes images.old)
-            (plain_state self.old (test images.old)) (plain_state self.new (test images.new)) (command_seen command.now)) }
+        ensures answer { (scripts : List ℕ → Bool)
+            → IfOk result (IsAnswer (tiles_of self.old) scripts (changes images.old)
+            (plain_state self.old (test images.old)) (plain_state self.new (test images.new))
+            (command_seen command.now)) }
         ensures tiles { tiles_of self.new ≡ tiles_of self.old }
         ensures ranges { self.new.ranges ≡ self.old.ranges }
         ensures changes { changes images.new ≡ changes images.old }

@@ -55,7 +55,8 @@ fn set_or_remove(name: &Text, value: Option<Value>, globals: &mut Entries) -> Re
     }
 }
 
-/// Whether a text in the layers of a document is `global-state`. Where none is, no value of them reads the global state.
+/// Whether a text in the layers of a document is `global-state`. Where none is, no value of them reads the global
+/// state.
 pub(crate) fn reads_globals(document: &Json) -> bool
     ensures { result ≡ reads_globals (tree_of document.now) }
 {

@@ -58,7 +58,8 @@ impl LayerMarks {
     fn place_if(&self, document: &Json, id: Option<&Text>) -> Option<usize>
         requires marks { AreMarks self.now (layer_list (tree_of document.now)) }
         requires sound { findings (tree_of document.now) ≡ [] }
-        ensures { result ≡ option_and_then (layer_place (layer_list (tree_of document.now))) (option_map (λ id. id.now) id.entry) }
+        ensures { result ≡ option_and_then (layer_place (layer_list (tree_of document.now)))
+            (option_map (λ id. id.now) id.entry) }
     {
         match id {
             Some(id) => self.place(document, id.as_str()),

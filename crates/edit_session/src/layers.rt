@@ -1,6 +1,7 @@
 //! What is prepared of the layers of a session's document, each once, and how many cells they have.
 
-ghost use Rattle.std.specs.Prelude.{◌≡◌, ◌-◌, ◌<◌, ◌≤◌, ◌^◌, insert, length, map, min, remove, slice_set, true, ◌||◌, IfOk, IsOkAnd};
+ghost use Rattle.std.specs.Prelude.{◌≡◌, ◌-◌, ◌<◌, ◌≤◌, ◌^◌, insert, length, map, min, remove, slice_set, true, ◌||◌};
+ghost use Rattle.std.specs.Prelude.{IfOk, IsOkAnd};
 ghost use Rattle.decimal_json.specs.View.{items_view, tree_of};
 ghost use Rattle.edit_session.specs.Opening.{within_limit};
 ghost use Rattle.edit_session.specs.PreparedLayers.{ArePrepared, Becomes, Follows};
@@ -50,7 +51,8 @@ impl PreparedLayers {
         ensures style { IfOk result (λ made. layers_seen made.style
             ≡ map layer_outline (style_layers globals.now (tree_of document.now))) }
         ensures cells { IfOk result (λ made. made.cells
-            ≡ min (cell_count (map tile_seen tiles.now) (style_layers globals.now (tree_of document.now))) (2 ^ 128 - 1)) }
+            ≡ min (cell_count (map tile_seen tiles.now) (style_layers globals.now (tree_of document.now)))
+            (2 ^ 128 - 1)) }
         ensures reads { IfOk result (λ made. made.reads_globals ≡ reads_globals (tree_of document.now)) }
         ensures limit { IfOk result (λ made. made.limit ≡ limit) }
     {
@@ -80,7 +82,8 @@ impl PreparedLayers {
         undo: &Undo,
         tiles: &[SourceTile<'_>],
     ) -> Result<bool, AllocError>
-        requires before { ArePrepared (map tile_seen tiles.now) globals.now (undone_layers undo.now (items_view layers.now)) self.old }
+        requires before { ArePrepared (map tile_seen tiles.now) globals.now
+            (undone_layers undo.now (items_view layers.now)) self.old }
         requires few { within_limit self.old.limit self.old.cells ≡ true }
         requires within { IsWithin undo.now (items_view layers.now) }
         requires typed { AreTyped (items_view layers.now) }
@@ -189,7 +192,8 @@ impl PreparedLayers {
         requires within { place < length (layers_seen self.old.style) }
         requires counted { self.old.cells ≡ cell_count (map tile_seen tiles.now) (layers_seen self.old.style) }
         ensures layers { layers_seen self.new.style ≡ remove (layers_seen self.old.style) place }
-        ensures cells { self.new.cells ≡ cell_count (map tile_seen tiles.now) (remove (layers_seen self.old.style) place) }
+        ensures cells { self.new.cells
+            ≡ cell_count (map tile_seen tiles.now) (remove (layers_seen self.old.style) place) }
         ensures reads { self.new.reads_globals ≡ self.old.reads_globals }
         ensures limit { self.new.limit ≡ self.old.limit }
     {

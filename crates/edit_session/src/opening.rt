@@ -4,7 +4,8 @@ ghost use Rattle.std.specs.Prelude.{◌≡◌, ◌≤◌, ℕ, ◌-◌, ◌^◌,
 ghost use Rattle.std.specs.Result.{result_err};
 ghost use Rattle.decimal_json.specs.View.{tree_of};
 ghost use Rattle.style_parts.specs.Parts.{source_at};
-ghost use Rattle.edit_session.specs.Opening.{cell_limit, first_failing, has_source, is_vector, tiles_fault, within_limit};
+ghost use Rattle.edit_session.specs.Opening.{cell_limit, first_failing, has_source, is_vector, tiles_fault};
+ghost use Rattle.edit_session.specs.Opening.{within_limit};
 ghost use Rattle.edit_session.specs.View.{IsWholeDocument, fault_seen};
 ghost use Rattle.style_layout.specs.CodeView.{tile_seen};
 ghost use Rattle.style_layout.specs.Globals.{globals_of};
@@ -81,7 +82,8 @@ pub(crate) fn open_layers<'a>(
 
 /// The source of the first tile whose source is none of the style's.
 pub(crate) fn first_unknown<'a>(style: &Json, tiles: &[SourceTile<'a>]) -> Option<&'a str>
-    ensures { option_map (λ source. source.now) result ≡ first_failing (has_source (tree_of style.now)) (map tile_seen tiles.now) }
+    ensures { option_map (λ source. source.now) result
+        ≡ first_failing (has_source (tree_of style.now)) (map tile_seen tiles.now) }
 {
     for tile in tiles {
         if source_at(style, tile.source).is_none() {
@@ -93,7 +95,8 @@ pub(crate) fn first_unknown<'a>(style: &Json, tiles: &[SourceTile<'a>]) -> Optio
 
 /// The source of the first tile whose source is not of type `vector`.
 pub(crate) fn first_of_no_vector<'a>(style: &Json, tiles: &[SourceTile<'a>]) -> Option<&'a str>
-    ensures { option_map (λ source. source.now) result ≡ first_failing (is_vector (tree_of style.now)) (map tile_seen tiles.now) }
+    ensures { option_map (λ source. source.now) result
+        ≡ first_failing (is_vector (tree_of style.now)) (map tile_seen tiles.now) }
 {
     for tile in tiles {
         if !is_vector(style, tile.source) {

@@ -1,12 +1,15 @@
 //! The calls of a session without a look at the ranges that are still to be set: they answer by its document as it is.
 
-ghost use Rattle.std.specs.Prelude.{◌≡◌, ◌≤◌, ◌+◌, ℕ, List, Bool, map, false, true, is_err, IfOk, IsErr, IsOk, OnErr, OnOk};
+ghost use Rattle.std.specs.Prelude.{◌≡◌, ◌≤◌, ◌+◌, ℕ, List, Bool, map, false, true, is_err, IfOk, IsErr, IsOk, OnErr};
+ghost use Rattle.std.specs.Prelude.{OnOk};
 ghost use Rattle.edit_script.specs.Edit as edits;
 ghost use Rattle.edit_script.specs.View.{command_seen};
 ghost use Rattle.edit_session.specs.Answering.{spares_memory, through, with_own};
-ghost use Rattle.edit_session.specs.Applied.{applied, is_of_view, least_steps, listing_of, most_steps, tell_count_after};
+ghost use Rattle.edit_session.specs.Applied.{applied, is_of_view, least_steps, listing_of, most_steps};
+ghost use Rattle.edit_session.specs.Applied.{tell_count_after};
 ghost use Rattle.edit_session.specs.OpenViews.{fresh_view, in_each};
-ghost use Rattle.edit_session.specs.PlainView.{plain_state, plain_state_in, ArePlainSoundViews, IsPlainSound, IsPlainSoundView, IsPlainUsable};
+ghost use Rattle.edit_session.specs.PlainView.{plain_state, plain_state_in, ArePlainSoundViews, IsPlainSound};
+ghost use Rattle.edit_session.specs.PlainView.{IsPlainSoundView, IsPlainUsable};
 ghost use Rattle.edit_session.specs.SessionState.{opened};
 ghost use Rattle.edit_session.specs.Setting.{NonePending};
 ghost use Rattle.edit_session.specs.View.{HasSlots, IsWholeDocument, reply_seen, tiles_of, view_seen, lacks_memory};
@@ -61,7 +64,8 @@ impl<'a> Session<'a> {
             → IfOk result (λ session. IsPlainSound session has_image scripts) }
         ensures none { IfOk result (λ session. NonePending session.ranges) }
         ensures slots { IfOk result HasSlots }
-        ensures there { IfOk result (λ session. HasLayers (tree_of session.document) (layer_list (tree_of session.document))) }
+        ensures there { IfOk result
+            (λ session. HasLayers (tree_of session.document) (layer_list (tree_of session.document))) }
         ensures memory { IfOk result (λ session. lacks_memory session ≡ false) }
     {
         note_types(&style);
@@ -98,7 +102,8 @@ impl<'a> Session<'a> {
     ) -> Result<Answer, AllocError>
         requires { IsPlainSound self.old (test images.old) (test scripts.now) }
         ensures answer { IfOk result (λ answer. (plain_state self.new (test images.new), reply_seen answer)
-            ≡ applied (tiles_of self.old) (test scripts.now) (changes images.old) (plain_state self.old (test images.old))
+            ≡ applied (tiles_of self.old) (test scripts.now) (changes images.old)
+            (plain_state self.old (test images.old))
             (command_seen command.now)) }
         ensures tiles { tiles_of self.new ≡ tiles_of self.old }
         ensures ranges { self.new.ranges ≡ self.old.ranges }
@@ -133,7 +138,8 @@ impl<'a> Session<'a> {
         steps: &mut Steps<L>,
     ) -> Result<(), Halt<SinkFailed>>
         requires { IsPlainSound self (test images.now) (test scripts.now) }
-        ensures text { WritesText O.held O.faults result out.old out.new (listing_of (tiles_of self.entry) (test scripts.now)
+        ensures text { WritesText O.held O.faults result out.old out.new
+            (listing_of (tiles_of self.entry) (test scripts.now)
             (plain_state self.entry (test images.now))) }
         ensures memory { lacks_memory self.entry ≡ true → IsErr result }
         ensures least { OnOk result (steps.old + least_steps (tiles_of self.entry) (test scripts.now)
@@ -218,7 +224,8 @@ impl<'a> Session<'a> {
         requires view { IsPlainSoundView self.old (test images.old) (test scripts.now) view.old }
         requires command { is_of_view (command_seen command.now) ≡ true }
         ensures answer { IfOk result (λ answer. (plain_state_in self.new view.new (test images.new), reply_seen answer)
-            ≡ applied (tiles_of self.old) (test scripts.now) (changes images.old) (plain_state_in self.old view.old (test images.old))
+            ≡ applied (tiles_of self.old) (test scripts.now) (changes images.old)
+            (plain_state_in self.old view.old (test images.old))
             (command_seen command.now)) }
         ensures own { OnOk result (plain_state self.new (test images.new) ≡ plain_state self.old (test images.old)) }
         ensures name { view.new.name ≡ view.old.name }
@@ -269,7 +276,8 @@ impl<'a> Session<'a> {
         requires views { ArePlainSoundViews self.old (test images.old) (test scripts.now) views.old }
         requires command { is_of_view (command_seen command.now) ≡ false }
         ensures answer { IfOk result (λ answer. (plain_state self.new (test images.new), reply_seen answer)
-            ≡ applied (tiles_of self.old) (test scripts.now) (changes images.old) (plain_state self.old (test images.old))
+            ≡ applied (tiles_of self.old) (test scripts.now) (changes images.old)
+            (plain_state self.old (test images.old))
             (command_seen command.now)) }
         ensures views { OnOk result (map view_seen views.new ≡ in_each (tiles_of self.old) (test scripts.now)
             (changes images.old) (plain_state self.old (test images.old)) (command_seen command.now)

@@ -1,12 +1,14 @@
 //! Ranges of zooms that are to be set in the document, before the next command that needs it as it is then.
 
-ghost use Rattle.std.specs.Prelude.{◌≡◌, ◌<◌, ◌+◌, ℕ, List, Bool, false, true, length, Some, IfOk, IfSome, IsOk, OnOk, is_err};
+ghost use Rattle.std.specs.Prelude.{◌≡◌, ◌<◌, ◌+◌, ℕ, List, Bool, false, true, length, Some, IfOk, IfSome, IsOk, OnOk};
+ghost use Rattle.std.specs.Prelude.{is_err};
 ghost use Rattle.decimal_json.specs.View.{tree_of};
 ghost use Rattle.edit_script.specs.View.{command_seen};
 ghost use Rattle.edit_session.specs.Answering.{is_done};
 ghost use Rattle.edit_session.specs.Applied.{applied};
 ghost use Rattle.edit_session.specs.Ranges.{lets_ranges_be};
-ghost use Rattle.edit_session.specs.Setting.{HasSettled, IsBeforeRanges, NonePending, RepresentsSame, SettlesAt, is_range, moved_slot, removed_slot, slots_after, slots_for};
+ghost use Rattle.edit_session.specs.Setting.{HasSettled, IsBeforeRanges, NonePending, RepresentsSame, SettlesAt};
+ghost use Rattle.edit_session.specs.Setting.{is_range, moved_slot, removed_slot, slots_after, slots_for};
 ghost use Rattle.edit_session.specs.View.{HasSlots, IsReady, reply_seen, session_state, tiles_of, lacks_memory};
 ghost use Rattle.pending_ranges.specs.Pending.{AreZoomRanges, IsZoomRange};
 ghost use Rattle.style_edits.specs.Layers.{layer_list};
@@ -84,8 +86,8 @@ impl Session<'_> {
         Answer::Done
     }
 
-    /// Sets all ranges in the document that are still to be set. Takes the time of as many edits, and of a look at each slot
-    /// between the first range and the last.
+    /// Sets all ranges in the document that are still to be set. Takes the time of as many edits, and of a look at each
+    /// slot between the first range and the last.
     pub(crate) fn settle(&mut self) -> Result<(), AllocError>
         requires ready { IsReady self.old }
         requires slots { HasSlots self.old }
@@ -115,7 +117,8 @@ impl Session<'_> {
         requires ready { IsReady self.old }
         requires within { place < length (layer_list (tree_of self.old.document)) }
         requires zooms { IsZoomRange (Some (min, max)) }
-        ensures settles { OnOk result (SettlesAt place (min, max) (tree_of self.old.document) (tree_of self.new.document)) }
+        ensures settles { OnOk result
+            (SettlesAt place (min, max) (tree_of self.old.document) (tree_of self.new.document)) }
         ensures settled { OnOk result (HasSettled self.old self.new) }
         ensures ranges { self.new.ranges ≡ self.old.ranges }
         ensures tiles { tiles_of self.new ≡ tiles_of self.old }
@@ -134,8 +137,8 @@ impl Session<'_> {
         Ok(())
     }
 
-    /// Makes the ranges ready for a command that sets none: where it needs the document they are set in it, and there is a
-    /// slot for a layer that it adds. What they follow it by.
+    /// Makes the ranges ready for a command that sets none: where it needs the document they are set in it, and there
+    /// is a slot for a layer that it adds. What they follow it by.
     pub(crate) fn before_ranges(&mut self, command: &Command) -> Result<BeforeRanges, AllocError>
         requires ready { IsReady self.old }
         requires slots { HasSlots self.old }
@@ -144,7 +147,8 @@ impl Session<'_> {
         ensures none { OnOk result (lets_ranges_be (command_seen command.now) ≡ false → NonePending self.new.ranges) }
         ensures slots { OnOk result (length self.new.ranges
             ≡ slots_for (command_seen command.now) (length (layer_list (tree_of self.new.document)))) }
-        ensures before { IfOk result (λ before. IsBeforeRanges (tree_of self.new.document) (command_seen command.now) before) }
+        ensures before { IfOk result
+            (λ before. IsBeforeRanges (tree_of self.new.document) (command_seen command.now) before) }
         ensures distinct { OnOk result (HasDistinctMembers (tree_of self.new.document)) }
         ensures zooms { AreZoomRanges self.new.ranges }
         ensures tiles { tiles_of self.new ≡ tiles_of self.old }

@@ -7,8 +7,8 @@ use feature_states::States;
 use kept_layers::KeptLayers;
 use style_layout::Zoom;
 
-/// One of several views of the style of a session: its name, the zoom and the states of features by which it is shown, the
-/// cells of its layers that are kept, and the number of its last listing. `Session::open_view` makes one.
+/// One of several views of the style of a session: its name, the zoom and the states of features by which it is shown,
+/// the cells of its layers that are kept, and the number of its last listing. `Session::open_view` makes one.
 #[derive(Drop)]
 pub struct View {
     pub(crate) name: Text,

@@ -35,7 +35,8 @@ pub(crate) fn finding_refusal(
     requires possible { edit_fault (tree_of document.now) (command_seen command.now) ≡ None }
     requires places { places ≡ places_of (tree_of document.now) (command_seen command.now) }
     requires keyed { AreKeyed (layer_list (tree_of document.now)) }
-    ensures finding { IfOk result (λ refusal. refusal ≡ first_finding (findings (edited (tree_of document.now) (command_seen command.now)))) }
+    ensures finding { IfOk result
+        (λ refusal. refusal ≡ first_finding (findings (edited (tree_of document.now) (command_seen command.now)))) }
     ensures memory { takes_memory (command_seen command.now) ≡ false → IsOk result }
 {
     match findings_at(alloc, document, places, command)?.into_first() {
@@ -44,7 +45,8 @@ pub(crate) fn finding_refusal(
     }
 }
 
-/// That each layer of a document without findings has a type and is one of an array, and no two members of it have one name.
+/// That each layer of a document without findings has a type and is one of an array, and no two members of it have one
+/// name.
 pub(crate) fn note_types(document: &Json)
     requires { findings (tree_of document.now) ≡ [] }
     ensures typed { AreTyped (layer_list (tree_of document.now)) }

@@ -18,4 +18,5 @@ pub record AgreeOn (m : Mentions) (v w : World) : Type 0 where
 
 abbrev pub AgreeingWorldsGiveOneMeaning : Type 0
 AgreeingWorldsGiveOneMeaning =
-    (t : Term) (want : Want) (names : BoundOutcomes) (v w : World) → AgreeOn (mentions t) v w → mean t want names v ≡ mean t want names w
+    (t : Term) (want : Want) (names : BoundOutcomes) (v w : World) → AgreeOn (mentions t) v w →
+    mean t want names v ≡ mean t want names w

@@ -21,7 +21,8 @@ body_of _ want names world = Err WrongType
 -- `let`: the body, in the names of the bindings
 abbrev pub let_of : List (List ℕ) → List Meaning → Meaning
 let_of bs meanings want names world =
-    body_of (drop (length bs) meanings) want (bound bs (outcomes_of (take (length bs) meanings) names world) ∷ names) world
+    body_of (drop (length bs) meanings) want
+    (bound bs (outcomes_of (take (length bs) meanings) names world) ∷ names) world
 
 -- `var`: what its binding gives, fitted
 abbrev pub var_of : List ℕ → Meaning

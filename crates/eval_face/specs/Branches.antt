@@ -50,7 +50,8 @@ output_at outputs k = the_output (slice_get outputs k)
 abbrev pub match_of : List Labelled → List Meaning → Meaning
 match_of labels [] want names world = Err WrongType
 match_of labels (input ∷ outputs) want names world =
-    then_value (input wants.Any names world) (λ d. output_at outputs (output_of labels d (length outputs - 1)) want names world)
+    then_value (input wants.Any names world)
+    (λ d. output_at outputs (output_of labels d (length outputs - 1)) want names world)
 
 -- ---- `step`: the output of the greatest input that is not above the value, else the first; it has no input
 
@@ -77,7 +78,8 @@ abbrev pub ramp_at : List ℤ → List Meaning → ℤ → StopPlace → Want �
 ramp_at inputs outputs x First want names world = output_at outputs 0 want names world
 ramp_at inputs outputs x Last want names world = output_at outputs (length inputs - 1) want names world
 ramp_at inputs outputs x (Between i) want names world =
-    between_values x (input_at inputs i) (input_at inputs (i + 1)) (output_at outputs i want names world) (output_at outputs (i + 1) want names world)
+    between_values x (input_at inputs i) (input_at inputs (i + 1)) (output_at outputs i want names world)
+    (output_at outputs (i + 1) want names world)
 
 abbrev pub ramp_of : Curve → List ℤ → List Meaning → Meaning
 ramp_of curve inputs [] want names world = Err WrongType

@@ -53,7 +53,9 @@ or_later (Some d) later = Ok d
 or_later None later = later
 
 -- what the first of the arguments from place k on decides, or the other value where none does
-abbrev pub first_of : (Data → Option Data) → Evaluated → Operator → ℕ → ℕ → List Meaning → Want → BoundOutcomes → World → Evaluated
+abbrev pub first_of : (Data → Option Data) → Evaluated → Operator → ℕ → ℕ → List Meaning → Want → BoundOutcomes →
+    World → Evaluated
 first_of decides none op m k [] want names world = none
 first_of decides none op m k (meaning ∷ meanings) want names world =
-    then_value (argument_of op m k meaning want names world) (λ d. or_later (decides d) (first_of decides none op m (k + 1) meanings want names world))
+    then_value (argument_of op m k meaning want names world)
+    (λ d. or_later (decides d) (first_of decides none op m (k + 1) meanings want names world))

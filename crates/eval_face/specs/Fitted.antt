@@ -10,4 +10,6 @@ use Rattle.eval_face.specs.World.{World}
 
 -- Fitting it once more changes nothing. Source: own.
 abbrev pub EachValueIsFitted : Type 0
-EachValueIsFitted = (t : Term) (want : Want) (names : BoundOutcomes) (world : World) (d : Data) → mean t want names world ≡ Ok d → fit want d ≡ Ok d
+EachValueIsFitted =
+    (t : Term) (want : Want) (names : BoundOutcomes) (world : World) (d : Data) → mean t want names world ≡ Ok d →
+    fit want d ≡ Ok d

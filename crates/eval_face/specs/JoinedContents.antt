@@ -34,4 +34,5 @@ pub record IsOfContents (d : Data) (joined : Evaluated) : Type 0 where
 abbrev pub FormatsJoinTheirContents : Type 0
 FormatsJoinTheirContents =
     (ps : List FormatPiece) (ts : Terms) (names : BoundOutcomes) (world : World) (d : Data) →
-    mean (node (Format ps) ts) wants.Any names world ≡ Ok d → IsOfContents d (mean (node Concat (contents ps ts)) wants.Any names world)
+    mean (node (Format ps) ts) wants.Any names world ≡ Ok d →
+    IsOfContents d (mean (node Concat (contents ps ts)) wants.Any names world)

@@ -1,6 +1,7 @@
 -- Operators that look something up: in the feature, in its state, or in an object. Source: MapLibre style
 -- specification, version 8, expressions.
-use Rattle.std.specs.Prelude.{ℕ, ◌*◌, pos, List, [], ◌∷◌, Bool, Option, Some, None, is_some, unwrap_or, Ok, Err, if◌then◌else◌}
+use Rattle.std.specs.Prelude.{ℕ, ◌*◌, pos, List, [], ◌∷◌, Bool, Option, Some, None, is_some, unwrap_or, Ok, Err}
+use Rattle.std.specs.Prelude.{if◌then◌else◌}
 use Rattle.prop_values.specs.Data.{Data, null, boolean, number, text, map, Pairs, pairs_of}
 use Rattle.prop_values.specs.Equality.{at_key}
 use Rattle.prop_values.specs.declared.fault.EvalFault.TheVariants.{WrongType}

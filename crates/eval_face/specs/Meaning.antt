@@ -13,8 +13,10 @@ use Rattle.eval_face.specs.Rules.{Rule, each, deciding, cases, labels, stops, ra
 
 -- a node, by the meanings of its arguments
 abbrev pub meaning_by : Rule → Operator → List Meaning → Meaning
-meaning_by (each apply) op ms want names world = then_values (values_of op (length ms) 0 ms want names world) (λ ds. then_value (apply world ds) (fit want))
-meaning_by (deciding decides none) op ms want names world = then_value (first_of decides none op (length ms) 0 ms want names world) (fit want)
+meaning_by (each apply) op ms want names world =
+    then_values (values_of op (length ms) 0 ms want names world) (λ ds. then_value (apply world ds) (fit want))
+meaning_by (deciding decides none) op ms want names world =
+    then_value (first_of decides none op (length ms) 0 ms want names world) (fit want)
 meaning_by cases op ms want names world = case_of ms want names world
 meaning_by (labels ls) op ms want names world = match_of ls ms want names world
 meaning_by (stops inputs) op ms want names world = step_of inputs ms want names world

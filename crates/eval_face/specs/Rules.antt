@@ -8,18 +8,30 @@ use Rattle.prop_values.specs.declared.kinds.Item.{Item}
 use Rattle.prop_values.specs.declared.outcome.Curve.{Curve}
 use Rattle.property_tables.specs.Fitting.{fit_list}
 use Rattle.expr_syntax.specs.declared.expression.Operator.{Operator}
-use Rattle.expr_syntax.specs.declared.expression.Operator.TheVariants.{Array, Boolean, Number, String, Object, ToBoolean, ToColor, ToNumber, ToString, TypeOf, Get, Has, Properties, Id, GeometryType, FeatureState, At, In, IndexOf, Length, Slice, Not, Equal, NotEqual, Less, LessOrEqual, Greater, GreaterOrEqual, All, Any, Case, Match, Coalesce, Step, Interpolate, Let, Var, Zoom, Concat, Rgb, Rgba, ToRgba, Add, Multiply, Subtract, Divide, Remainder, Abs, Ceil, Floor, Round, Min, Max, Image, IsSupportedScript, Format}
+use Rattle.expr_syntax.specs.declared.expression.Operator.TheVariants.{Array, Boolean, Number, String, Object}
+use Rattle.expr_syntax.specs.declared.expression.Operator.TheVariants.{ToBoolean, ToColor, ToNumber, ToString, TypeOf}
+use Rattle.expr_syntax.specs.declared.expression.Operator.TheVariants.{Get, Has, Properties, Id, GeometryType}
+use Rattle.expr_syntax.specs.declared.expression.Operator.TheVariants.{FeatureState, At, In, IndexOf, Length, Slice}
+use Rattle.expr_syntax.specs.declared.expression.Operator.TheVariants.{Not, Equal, NotEqual, Less, LessOrEqual, Greater}
+use Rattle.expr_syntax.specs.declared.expression.Operator.TheVariants.{GreaterOrEqual, All, Any, Case, Match, Coalesce}
+use Rattle.expr_syntax.specs.declared.expression.Operator.TheVariants.{Step, Interpolate, Let, Var, Zoom, Concat, Rgb}
+use Rattle.expr_syntax.specs.declared.expression.Operator.TheVariants.{Rgba, ToRgba, Add, Multiply, Subtract, Divide}
+use Rattle.expr_syntax.specs.declared.expression.Operator.TheVariants.{Remainder, Abs, Ceil, Floor, Round, Min, Max}
+use Rattle.expr_syntax.specs.declared.expression.Operator.TheVariants.{Image, IsSupportedScript, Format}
 use Rattle.expr_syntax.specs.declared.parts.Labelled.{Labelled}
 use Rattle.expr_syntax.specs.Operators.{item_or_any}
 use Rattle.tile_reader.specs.ShapeName.{shape_name}
 use Rattle.operator_values.specs.Evaluated.{Evaluated}
-use Rattle.operator_values.specs.Arithmetic.{sum_of, product_of, difference_of, quotient_of, remainder_of, of_number, least_of, greatest_of}
+use Rattle.operator_values.specs.Arithmetic.{sum_of, product_of, difference_of, quotient_of, remainder_of, of_number}
+use Rattle.operator_values.specs.Arithmetic.{least_of, greatest_of}
 use Rattle.operator_values.specs.Colors.{rgba_of, parts_of}
-use Rattle.operator_values.specs.Comparisons.{equal_of, different_of, ordered_of, is_less, is_less_or_equal, is_greater, is_greater_or_equal}
+use Rattle.operator_values.specs.Comparisons.{equal_of, different_of, ordered_of, is_less, is_less_or_equal, is_greater}
+use Rattle.operator_values.specs.Comparisons.{is_greater_or_equal}
 use Rattle.operator_values.specs.Sequences.{at_of, in_of, index_of_of, length_of, slice_of}
 use Rattle.operator_values.specs.Conversions.{truth_of, text_of, kind_of, negation_of}
 use Rattle.operator_values.specs.Texts.{concat_of}
-use Rattle.eval_face.specs.Decisions.{if_boolean, if_number, if_text, if_object, if_color, if_readable, if_false, if_true, if_there}
+use Rattle.eval_face.specs.Decisions.{if_boolean, if_number, if_text, if_object, if_color, if_readable, if_false}
+use Rattle.eval_face.specs.Decisions.{if_true, if_there}
 use Rattle.eval_face.specs.Lookups.{get_of, has_of, state_at, id_value, image_of, script_of}
 use Rattle.eval_face.specs.Sections.{format_of}
 use Rattle.eval_face.specs.World.{World}

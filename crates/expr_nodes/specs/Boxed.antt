@@ -27,4 +27,5 @@ boxed_nodes = map boxed_node
 pub boxed_inner : (op : Operator) (want : Want) (nodes : Vec BoxedNode Global) →
     boxed_node (Inner want op nodes) ≡ inner op want (children_of (boxed_nodes nodes.items))
 boxed_inner op want nodes =
-    ap boxed_node (sym (rolls-Inner want op nodes)) ∙ fold-roll-BoxedNode Node boxed_step (BoxedNode-F.Inner want op nodes)
+    ap boxed_node (sym (rolls-Inner want op nodes)) ∙ fold-roll-BoxedNode Node boxed_step
+    (BoxedNode-F.Inner want op nodes)

@@ -39,8 +39,8 @@ pub record IsReady (limit : ℕ) (bindings : List Node) (world : World) (evaluat
   pub earlier : AskEarlier bindings
   pub kept : HoldPromises (promises bindings world) evaluation.slots.items
 
--- Of an evaluation that came so far: it visited as many nodes as it cost, those of a binding once, and no slot from the limit on
--- has changed.
+-- Of an evaluation that came so far: it visited as many nodes as it cost, those of a binding once, and no slot from the
+-- limit on has changed.
 pub record HasProgressed (limit : ℕ) (bindings : List Node) (world : World) (cost : ℕ) (old new : Workspace)
     (before after : ℕ) : Type 0 where
   pub kept : HoldPromises (promises bindings world) new.slots.items
@@ -48,8 +48,10 @@ pub record HasProgressed (limit : ℕ) (bindings : List Node) (world : World) (c
   pub rises : before ≤ after
   pub paid : after + pending limit bindings new.slots.items ≤ before + cost + pending limit bindings old.slots.items
 
--- What is given is what is meant, unless an allocation fails. At most as many nodes were visited as it costs and as wait.
-pub record EvaluatesNode (limit : ℕ) (bindings : List Node) (world : World) (result : Result Value (Halt EvalFault)) (meant : Evaluated)
+-- What is given is what is meant, unless an allocation fails. At most as many nodes were visited as it costs and as
+-- wait.
+pub record EvaluatesNode (limit : ℕ) (bindings : List Node) (world : World) (result : Result Value (Halt EvalFault))
+    (meant : Evaluated)
     (cost : ℕ) (old new : Workspace) (before after : ℕ) : Type 0 where
   pub gives : GivesValue result meant
   pub rises : before ≤ after
@@ -59,7 +61,8 @@ pub record EvaluatesNode (limit : ℕ) (bindings : List Node) (world : World) (r
   pub stands : IfOk result (λ _. new.values.items ≡ old.values.items)
 
 -- The values that are meant are added to the stack of values.
-pub record EvaluatesNodes {A : Type 0} (limit : ℕ) (bindings : List Node) (world : World) (result : Result A (Halt EvalFault))
+pub record EvaluatesNodes {A : Type 0} (limit : ℕ) (bindings : List Node) (world : World)
+    (result : Result A (Halt EvalFault))
     (meant : Result (List Data) EvalFault) (cost : ℕ) (old new : Workspace) (before after : ℕ) : Type 0 where
   pub gives : GivesAll result (added old.values.items new.values.items) meant
   pub rises : before ≤ after

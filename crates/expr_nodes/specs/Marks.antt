@@ -45,4 +45,5 @@ abbrev mutual
   LetMarksHold no_terms = λ bs want marks names inside world. Unit {0}
   LetMarksHold (term t ts) = λ bs want marks names inside world.
       HoldsAt bs (MarksHold t want marks inside world)
-      (λ later. MarksHold t wants.Any marks names world × LetMarksHold ts later want (drop (nodes t) marks) names inside world)
+      (λ later. MarksHold t wants.Any marks names world
+      × LetMarksHold ts later want (drop (nodes t) marks) names inside world)

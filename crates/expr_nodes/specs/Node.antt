@@ -1,5 +1,5 @@
--- An expression without names, as a counted evaluator has it: a binding is asked for by its number, and a node knows what it is
--- wanted as.
+-- An expression without names, as a counted evaluator has it: a binding is asked for by its number, and a node knows
+-- what it is wanted as.
 use Rattle.std.specs.Prelude.{ℕ, ◌+◌, List, [], ◌∷◌}
 use Rattle.prop_values.specs.declared.kinds.Want.{Want}
 use Rattle.expr_syntax.specs.declared.expression.Operator.{Operator}

@@ -27,7 +27,8 @@ abbrev mutual
   code_node (constant outcome) = gcons (gnum 0) (code_outcome outcome)
   code_node (asked slot w) = gcons (gnum 2) (gcons (gnum slot) (want_code.code w))
   code_node (property key w) = gcons (gnum 3) (gcons ((coded_list coded_ℕ).code key) (want_code.code w))
-  code_node (inner op w ns) = gcons (gnum 4) (gcons (operator_code.code op) (gcons (want_code.code w) (code_children ns)))
+  code_node (inner op w ns) =
+      gcons (gnum 4) (gcons (operator_code.code op) (gcons (want_code.code w) (code_children ns)))
 
   pub code_children : Children → Gv
   code_children childless = gnil

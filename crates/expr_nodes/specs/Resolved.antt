@@ -11,8 +11,8 @@ use Rattle.expr_nodes.specs.Limits.{AsksBelow, AskEarlier}
 use Rattle.expr_nodes.specs.Resolving.{resolve}
 use Rattle.expr_nodes.specs.Marks.{MarksHold}
 
--- A node and its bindings represent an expression under a want: they give what the expression means in every world, they can be
--- evaluated from the first binding to the last, and they have no more nodes. Own.
+-- A node and its bindings represent an expression under a want: they give what the expression means in every world,
+-- they can be evaluated from the first binding to the last, and they have no more nodes. Own.
 pub record Represents (t : Term) (want : Want) (root : Node) (bindings : List Node) : Type 0 where
   pub meaning : (world : World) → mean t want [] world ≡ outcome root (promises bindings world) world
   pub below : AsksBelow (length bindings) root

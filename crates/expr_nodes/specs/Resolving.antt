@@ -1,5 +1,7 @@
--- An expression with its bindings in a list, and their numbers in the place of names. A `let` and a `var` are nodes no more.
-use Rattle.std.specs.Prelude.{ℕ, ◌+◌, List, [], ◌∷◌, ◌++◌, length, drop, Bool, ◌&&◌, true, false, Option, Some, None, Err, if◌then◌else◌}
+-- An expression with its bindings in a list, and their numbers in the place of names. A `let` and a `var` are nodes no
+-- more.
+use Rattle.std.specs.Prelude.{ℕ, ◌+◌, List, [], ◌∷◌, ◌++◌, length, drop, Bool, ◌&&◌, true, false, Option, Some, None}
+use Rattle.std.specs.Prelude.{Err, if◌then◌else◌}
 use Rattle.prop_values.specs.Data.{text}
 use Rattle.prop_values.specs.Equality.{same_text}
 use Rattle.prop_values.specs.declared.fault.EvalFault.TheVariants.{WrongType}
@@ -65,7 +67,8 @@ outputs_want _ want = want
 abbrev pub argument_want : Operator → ℕ → ℕ → Want → Want
 argument_want op m k want = want_of (wanted_by op m k) (outputs_want (rule_of op) want)
 
--- ---- tests that are left out: a mark for each node in preorder, literals among them. Where marks are missing, no node is marked.
+-- ---- tests that are left out: a mark for each node in preorder, literals among them. Where marks are missing, no node
+-- is marked.
 
 -- the rules of which a node fits its own value; the others hand the want to their outputs
 abbrev pub has_fit : Rule → Bool
@@ -107,7 +110,8 @@ by_key None want so_far other = other
 -- ---- resolving
 
 -- a node by the rule of its operator, its arguments, and what it is if it is a `let` of these names
-abbrev pub by_rule : Rule → Operator → Want → List NumberedNames → List Node → Children × List Node → (List (List ℕ) → Numbered) → Numbered
+abbrev pub by_rule : Rule → Operator → Want → List NumberedNames → List Node → Children × List Node →
+    (List (List ℕ) → Numbered) → Numbered
 by_rule (bindings names) op want scope so_far arguments as_let = as_let names
 by_rule (variable name) op want scope so_far arguments as_let = (variable_node (number_of scope name) want, so_far)
 by_rule _ op want scope so_far arguments as_let = (inner op want arguments.0, arguments.1)
@@ -131,13 +135,14 @@ abbrev mutual
       (λ names. resolve_let ts names (own_want op marks want) (drop 1 marks) scope [] so_far))
 
   -- the arguments from that of place k on, of m
-  pub resolve_arguments : Terms → Operator → ℕ → ℕ → Want → List Bool → List NumberedNames → List Node → Children × List Node
+  pub resolve_arguments : Terms → Operator → ℕ → ℕ → Want → List Bool → List NumberedNames → List Node →
+      Children × List Node
   resolve_arguments no_terms = λ op m k want marks scope so_far. (childless, so_far)
   resolve_arguments (term t ts) = λ op m k want marks scope so_far.
       (child (resolve t (argument_want op m k want) marks scope so_far).0 (resolve_arguments ts op m (k + 1) want (drop (nodes t) marks) scope (resolve t (argument_want op m k want) marks scope so_far).1).0, (resolve_arguments ts op m (k + 1) want (drop (nodes t) marks) scope (resolve t (argument_want op m k want) marks scope so_far).1).1)
 
-  -- The bindings of these names and the body, where earlier names of the `let` have their numbers already. A binding is put
-  -- after those that it asks for, and does not see the other names of its own `let`.
+  -- The bindings of these names and the body, where earlier names of the `let` have their numbers already. A binding is
+  -- put after those that it asks for, and does not see the other names of its own `let`.
   pub resolve_let : Terms → List (List ℕ) → Want → List Bool → List NumberedNames → NumberedNames → List Node → Numbered
   resolve_let no_terms = λ names want marks scope earlier so_far. misfit so_far
   resolve_let (term t ts) = λ names want marks scope earlier so_far.

@@ -26,8 +26,8 @@ use prop_values::{Value, Want};
 use std::sync::ledger::Ledger;
 
 impl Workspace {
-    /// A node whose operator evaluates all its arguments. The values of up to two take no memory, where none has to be a text or
-    /// a list, and two numbers that are known no evaluation.
+    /// A node whose operator evaluates all its arguments. The values of up to two take no memory, where none has to be
+    /// a text or a list, and two numbers that are known no evaluation.
     #[tactic(auto, using(crate::proofs::NodeLaws::below_at, crate::proofs::NodeLaws::child_size))]
     #[cycle(nodes)]
     pub(crate) fn evaluate_each<N: NodeHandle, B: Bindings<N>, W: WorldView, L: Ledger>(

@@ -27,8 +27,8 @@ use prop_values::{Value, Want};
 use std::alloc::Global;
 use tile_reader::FeatureProperties;
 
-/// The number that a node of an operator gives without an evaluation: the zoom, or the first argument of `number` where it is
-/// there. Most inputs of curves, comparisons and sums are one.
+/// The number that a node of an operator gives without an evaluation: the zoom, or the first argument of `number` where
+/// it is there. Most inputs of curves, comparisons and sums are one.
 pub(crate) fn number_there<N: NodeHandle, W: WorldView>(
     tree: &N,
     op: &Operator,

@@ -119,8 +119,8 @@ impl Workspace {
         }
     }
 
-    // What a binding gives, fitted. What it gave when it was first asked for is kept; a constant needs neither an evaluation
-    // nor a copy that is kept.
+    // What a binding gives, fitted. What it gave when it was first asked for is kept; a constant needs neither an
+    // evaluation nor a copy that is kept.
     #[tactic(auto, using(crate::proofs::NodeLaws::below_at, crate::proofs::NodeLaws::child_size))]
     #[cycle(nodes)]
     fn evaluate_asked<N: NodeHandle, B: Bindings<N>, W: WorldView, L: Ledger>(

@@ -1,5 +1,5 @@
-//! Bindings of which many ask for others: they are evaluated in turn before the node that asks for them. No evaluation of
-//! a binding is inside of that of another, however they ask for one another.
+//! Bindings of which many ask for others: they are evaluated in turn before the node that asks for them. No evaluation
+//! of a binding is inside of that of another, however they ask for one another.
 
 ghost use Rattle.std.specs.Prelude.{◌≡◌, ◌<◌, ◌≤◌, ◌+◌, [], length, map, IfOk};
 ghost use Rattle.prop_values.specs.ViewParts.{evaluated_of};
@@ -21,8 +21,8 @@ use std::mem;
 use std::sync::ledger::Ledger;
 
 impl Workspace {
-    /// The value of a node, each of whose bindings is evaluated once before it, over those before. A fault of a binding is
-    /// one of the node where it asks for it, and nowhere else.
+    /// The value of a node, each of whose bindings is evaluated once before it, over those before. A fault of a binding
+    /// is one of the node where it asks for it, and nowhere else.
     pub(crate) fn evaluate_in_turn<N: NodeHandle, B: Bindings<N>, W: WorldView, L: Ledger>(
         &mut self,
         tree: N,

@@ -19,7 +19,8 @@ use operator_rules::WorldView;
 use prop_values::{Value, Want};
 
 impl Workspace {
-    /// The numbers that two arguments give, where both are known. The second is looked at first: most often it is a constant.
+    /// The numbers that two arguments give, where both are known. The second is looked at first: most often it is a
+    /// constant.
     pub(crate) fn numbers_known<N: NodeHandle, B: Bindings<N>, W: WorldView>(
         &self,
         left: &N,
@@ -42,8 +43,8 @@ impl Workspace {
         Some((first, second))
     }
 
-    // The number that an argument gives: a constant, a binding that was asked for before or is a constant, the zoom, or the
-    // `number` of a property. A `get` by itself would be looked up a second time where its property is no number.
+    // The number that an argument gives: a constant, a binding that was asked for before or is a constant, the zoom, or
+    // the `number` of a property. A `get` by itself would be looked up a second time where its property is no number.
     fn number_known<N: NodeHandle, B: Bindings<N>, W: WorldView>(
         &self,
         node: &N,

@@ -23,10 +23,10 @@
 //!
 //! A node knows what it is wanted as, and a literal is fitted already. The property of a literal key is a node of its
 //! own. Names are gone: a `let` is its body, and its bindings are in one list, each after those that it asks for. A
-//! binding is evaluated when it is first asked for, and its value is kept. Where more than three bindings ask for others
-//! all are evaluated in turn before the node, each over what those before it gave (`in_turn.rt`, `given.rt`): a value or a
-//! fault, which is one of the node only where it is asked for. So at most four bindings are evaluated inside one another,
-//! however they ask for one another.
+//! binding is evaluated when it is first asked for, and its value is kept. Where more than three bindings ask for
+//! others all are evaluated in turn before the node, each over what those before it gave (`in_turn.rt`, `given.rt`): a
+//! value or a fault, which is one of the node only where it is asked for. So at most four bindings are evaluated inside
+//! one another, however they ask for one another.
 //!
 //! The functions are those of `expr_plain`, over nodes (`evaluation.rt`, `arguments.rt`, `branches.rt`), and what
 //! they make of values is in `operator_rules`. They are methods of the `Workspace`, which has what changes: a slot

@@ -11,8 +11,8 @@
 //! fails. An expression of 2^64 nodes or more is refused as a failed allocation is.
 //!
 //! The expression becomes nodes without names (`expr_resolving`), which are evaluated as those of a listing are
-//! (`expr_nodes`), with a counter of steps that nobody reads. Calls go as deep there, however bindings ask for one another.
-//! `value` and the folding of `simplify` evaluate by it. No crate of a session depends on it.
+//! (`expr_nodes`), with a counter of steps that nobody reads. Calls go as deep there, however bindings ask for one
+//! another. `value` and the folding of `simplify` evaluate by it. No crate of a session depends on it.
 //!
 //! No text of its own is to be believed: the meaning is that of `eval_face`.
 #![tactic(auto)]

@@ -16,8 +16,8 @@ use operator_values::Halt;
 use prop_values::{EvalFault, Value, Want};
 use std::alloc::{AllocError, Global};
 
-/// The value that an expression has under a want, or its first fault (MapLibre style specification, version 8, expressions). The
-/// tests answer for the names of images and for the texts whose scripts can be shown.
+/// The value that an expression has under a want, or its first fault (MapLibre style specification, version 8,
+/// expressions). The tests answer for the names of images and for the texts whose scripts can be shown.
 pub fn eval_plain(
     alloc: Global,
     expression: &Expr,

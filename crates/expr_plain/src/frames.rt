@@ -23,8 +23,8 @@ pub(crate) struct Frames<'x> {
 }
 
 /// How many nodes are evaluated inside one another at most. Bindings that ask one another crosswise go deeper than the
-/// expression is, and with no bound a hostile one would overflow the stack. A deeper evaluation ends as one does for which
-/// there is no memory.
+/// expression is, and with no bound a hostile one would overflow the stack. A deeper evaluation ends as one does for
+/// which there is no memory.
 pub(crate) const MOST_UNDER_WAY: u16 = 2_400;
 
 /// What an expression is evaluated in: the world, and the frames around it.

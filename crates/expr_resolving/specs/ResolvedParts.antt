@@ -7,7 +7,8 @@ use Rattle.expr_syntax.specs.declared.expression.Operator.{Operator}
 use Rattle.eval_face.specs.Rules.{rule_of}
 use Rattle.expr_nodes.specs.Node.{Node, inner, Children, child}
 use Rattle.expr_resolving.specs.NumberScopes.{numbered}
-use Rattle.expr_nodes.specs.Resolving.{NumberedNames, Numbered, count_of, key_of, by_key, by_rule, resolve_arguments, resolve_let}
+use Rattle.expr_nodes.specs.Resolving.{NumberedNames, Numbered, count_of, key_of, by_key, by_rule, resolve_arguments}
+use Rattle.expr_nodes.specs.Resolving.{resolve_let}
 
 -- the text that a value is
 abbrev pub text_in : Data → Option (List ℕ)
@@ -19,7 +20,8 @@ abbrev pub inner_node : Operator → Want → Children × List Node → Numbered
 inner_node op want arguments = (inner op want arguments.0, arguments.1)
 
 abbrev pub inner_of : Operator → Want → List Bool → Terms → List NumberedNames → List Node → Numbered
-inner_of op want left ts scope so_far = inner_node op want (resolve_arguments ts op (count_of ts) 0 want left scope so_far)
+inner_of op want left ts scope so_far =
+    inner_node op want (resolve_arguments ts op (count_of ts) 0 want left scope so_far)
 
 -- a node by its key and its rule, where its own want and the marks of its arguments are known
 abbrev pub resolved_node : Operator → Terms → Want → List Bool → List NumberedNames → List Node → Numbered

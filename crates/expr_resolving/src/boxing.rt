@@ -50,8 +50,8 @@ pub fn boxed_checked(
     boxed_marked(alloc, expression, want, marks.as_slice())
 }
 
-// The same by marks, each of which says of a node, in preorder, that under its want it gives what it gives where anything
-// is wanted.
+// The same by marks, each of which says of a node, in preorder, that under its want it gives what it gives where
+// anything is wanted.
 fn boxed_marked(
     alloc: Global,
     expression: Expr,

@@ -15,8 +15,8 @@
 //! up of the nodes. The law of `fit_laws` says that these nodes give the same without their tests. To find the marks of
 //! an argument, the nodes of those before it are counted, once for each level of the expression.
 //!
-//! A literal list that is the second argument of `in` is kept with an index of its items (`searched.rt`), where they are
-//! more than sixteen. It takes memory linear in them.
+//! A literal list that is the second argument of `in` is kept with an index of its items (`searched.rt`), where they
+//! are more than sixteen. It takes memory linear in them.
 //!
 //! An expression is taken by value: its operators are moved into the nodes. What is copied is the key of a property,
 //! which is shared.

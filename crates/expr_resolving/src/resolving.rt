@@ -8,7 +8,8 @@ ghost use Rattle.eval_face.specs.Rules.{rule_of};
 ghost use Rattle.expr_nodes.specs.Boxed.{boxed_node, boxed_nodes};
 ghost use Rattle.expr_nodes.specs.Node.{constant};
 ghost use Rattle.expr_resolving.specs.NumberScopes.{HasNumbers, numbered, numbered_scope};
-ghost use Rattle.expr_nodes.specs.Resolving.{resolve, resolve_let, argument_want, number_of, outputs_want, variable_node};
+ghost use Rattle.expr_nodes.specs.Resolving.{resolve, resolve_let, argument_want, number_of, outputs_want};
+ghost use Rattle.expr_nodes.specs.Resolving.{variable_node};
 ghost use Rattle.expr_resolving.specs.ResolvedParts.{inner_of, resolved_node};
 
 use crate::marks::{after, below, own_want};
@@ -23,8 +24,8 @@ use prop_values::{EvalFault, Value, Want};
 use property_tables::fit;
 use std::alloc::{AllocError, Global};
 
-/// The node of an expression under a want, and its bindings in order, each after those that it asks for. The operators of the
-/// expression are moved into them.
+/// The node of an expression under a want, and its bindings in order, each after those that it asks for. The operators
+/// of the expression are moved into them.
 pub fn resolve(
     alloc: Global,
     expression: Expr,
@@ -80,7 +81,8 @@ impl Resolver {
     ) -> Result<BoxedNode, AllocError>
         requires { HasNumbers scope.now }
         ensures { IfOk result (λ made. (boxed_node made, boxed_nodes self.new.bindings.items)
-            ≡ resolve (term_of expression) want marks.now (numbered_scope scope.now) (boxed_nodes self.old.bindings.items)) }
+            ≡ resolve (term_of expression) want marks.now (numbered_scope scope.now)
+            (boxed_nodes self.old.bindings.items)) }
     {
         match expression {
             Expr::Literal(value) => fitted_constant(self.alloc, value, &want),

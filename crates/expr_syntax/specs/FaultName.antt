@@ -1,7 +1,8 @@
 -- The names of the faults of reading, as they are printed.
 use Rattle.std.specs.Prelude.{ℕ, List, codes}
 use Rattle.expr_syntax.specs.declared.fault.SynCode.{SynCode}
-use Rattle.expr_syntax.specs.declared.fault.SynCode.TheVariants.{NoOperator, UnknownOperator, Arity, Part, BareObject, NumberRange, UnknownVar}
+use Rattle.expr_syntax.specs.declared.fault.SynCode.TheVariants.{NoOperator, UnknownOperator, Arity, Part, BareObject}
+use Rattle.expr_syntax.specs.declared.fault.SynCode.TheVariants.{NumberRange, UnknownVar}
 
 abbrev pub code_name : SynCode → List ℕ
 code_name NoOperator = codes "NoOperator"

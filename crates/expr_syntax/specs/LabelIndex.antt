@@ -23,7 +23,8 @@ value_output index _ = None
 
 -- An index as it was and as it is with one label more: that label has its output, each other what it had.
 abbrev pub NotesLabel : Label → ℕ → LabelIndex → LabelIndex → Type 0
-NotesLabel label output old new = (m : Label) → output_at new m ≡ (if same_label label m then Some output else output_at old m)
+NotesLabel label output old new =
+    (m : Label) → output_at new m ≡ (if same_label label m then Some output else output_at old m)
 
 abbrev pub NotesNumber : ℤ → ℕ → BTreeMap ℤ ℕ → BTreeMap ℤ ℕ → Type 0
 NotesNumber y output old new = (z : ℤ) → get int_cmp new z ≡ (if int_eq y z then Some output else get int_cmp old z)

@@ -5,7 +5,19 @@ use Rattle.std.specs.Str.{bytes_eq}
 use Rattle.prop_values.specs.declared.kinds.Want.TheVariants as wants
 use Rattle.prop_values.specs.declared.kinds.Item.TheVariants as items
 use Rattle.expr_syntax.specs.declared.names.Name.{Name}
-use Rattle.expr_syntax.specs.declared.names.Name.TheVariants.{Literal, Array, Boolean, Number, String, Object, ToBoolean, ToColor, ToNumber, ToString, TypeOf, Get, Has, Properties, Id, GeometryType, FeatureState, At, In, IndexOf, Length, Slice, Not, Equal, NotEqual, Less, LessOrEqual, Greater, GreaterOrEqual, All, Any, Case, Match, Coalesce, Step, Interpolate, Let, Var, Zoom, Concat, Rgb, Rgba, ToRgba, Add, Multiply, Subtract, Divide, Remainder, Abs, Ceil, Floor, Round, Min, Max, Image, IsSupportedScript, GlobalState, Format, Upcase, Downcase, Collator, ResolvedLocale, NumberFormat, Within, Distance, InterpolateHcl, InterpolateLab, Power, Sqrt, Ln, Log10, Log2, Sin, Cos, Tan, Asin, Acos, Atan, E, Pi, Ln2, HeatmapDensity, LineProgress, Accumulated}
+use Rattle.expr_syntax.specs.declared.names.Name.TheVariants.{Literal, Array, Boolean, Number, String, Object}
+use Rattle.expr_syntax.specs.declared.names.Name.TheVariants.{ToBoolean, ToColor, ToNumber, ToString, TypeOf, Get, Has}
+use Rattle.expr_syntax.specs.declared.names.Name.TheVariants.{Properties, Id, GeometryType, FeatureState, At, In}
+use Rattle.expr_syntax.specs.declared.names.Name.TheVariants.{IndexOf, Length, Slice, Not, Equal, NotEqual, Less}
+use Rattle.expr_syntax.specs.declared.names.Name.TheVariants.{LessOrEqual, Greater, GreaterOrEqual, All, Any, Case}
+use Rattle.expr_syntax.specs.declared.names.Name.TheVariants.{Match, Coalesce, Step, Interpolate, Let, Var, Zoom}
+use Rattle.expr_syntax.specs.declared.names.Name.TheVariants.{Concat, Rgb, Rgba, ToRgba, Add, Multiply, Subtract}
+use Rattle.expr_syntax.specs.declared.names.Name.TheVariants.{Divide, Remainder, Abs, Ceil, Floor, Round, Min, Max}
+use Rattle.expr_syntax.specs.declared.names.Name.TheVariants.{Image, IsSupportedScript, GlobalState, Format, Upcase}
+use Rattle.expr_syntax.specs.declared.names.Name.TheVariants.{Downcase, Collator, ResolvedLocale, NumberFormat, Within}
+use Rattle.expr_syntax.specs.declared.names.Name.TheVariants.{Distance, InterpolateHcl, InterpolateLab, Power, Sqrt, Ln}
+use Rattle.expr_syntax.specs.declared.names.Name.TheVariants.{Log10, Log2, Sin, Cos, Tan, Asin, Acos, Atan, E, Pi, Ln2}
+use Rattle.expr_syntax.specs.declared.names.Name.TheVariants.{HeatmapDensity, LineProgress, Accumulated}
 use Rattle.expr_syntax.specs.declared.rows.Arity.TheVariants.{Exactly, Between, AtLeast, OddFrom, EvenFrom}
 use Rattle.expr_syntax.specs.declared.rows.Wants.TheVariants as wanting
 use Rattle.expr_syntax.specs.declared.rows.Wants.TheVariants.{Each, Then, Third, Conditions, Input}
@@ -37,7 +49,8 @@ row GeometryType = record (plain (codes "geometry-type") (Exactly 0) (Each wants
 row FeatureState = record (plain (codes "feature-state") (Exactly 1) (Each wants.Text)) { reads = reads.State }
 row At = plain (codes "at") (Exactly 2) (Then wants.Number (wants.List items.Any None))
 row In = record (plain (codes "in") (Exactly 2) (Each wants.Any)) { sequence = Some 1 }
-row IndexOf = record (plain (codes "index-of") (Between 2 3) (Third wants.Any wants.Any wants.Number)) { sequence = Some 1 }
+row IndexOf = record (plain (codes "index-of") (Between 2 3) (Third wants.Any wants.Any wants.Number))
+    { sequence = Some 1 }
 row Length = record (plain (codes "length") (Exactly 1) (Each wants.Any)) { sequence = Some 0 }
 row Slice = record (plain (codes "slice") (Between 2 3) (Then wants.Any wants.Number)) { sequence = Some 0 }
 row Not = plain (codes "!") (Exactly 1) (Each wants.Boolean)
@@ -50,12 +63,19 @@ row GreaterOrEqual = plain (codes ">=") (Exactly 2) (Each wants.Any)
 row All = record (plain (codes "all") (AtLeast 0) (Each wants.Boolean)) { manner = manners.Deciding }
 row Any = record (plain (codes "any") (AtLeast 0) (Each wants.Boolean)) { manner = manners.Deciding }
 row Case = record (plain (codes "case") (OddFrom 3) Conditions) { layout = layouts.Cases; manner = manners.Branches }
-row Match = record (plain (codes "match") (EvenFrom 4) (Input wants.Any)) { layout = layouts.Labels; manner = manners.Branches }
-row Coalesce = record (plain (codes "coalesce") (AtLeast 1) (Each wants.Any)) { layout = layouts.Choices; manner = manners.Deciding }
-row Step = record (plain (codes "step") (EvenFrom 4) (Input wants.Number)) { layout = layouts.Stops; manner = manners.Branches }
-row Interpolate = record (plain (codes "interpolate") (EvenFrom 4) (Input wants.Number)) { layout = layouts.Ramp; manner = manners.Branches }
-row Let = record (plain (codes "let") (OddFrom 3) wanting.Bindings) { layout = layouts.Bindings; manner = manners.Names }
-row Var = record (plain (codes "var") (Exactly 1) (Each wants.Any)) { layout = layouts.Variable; manner = manners.Names }
+row Match = record (plain (codes "match") (EvenFrom 4) (Input wants.Any))
+    { layout = layouts.Labels; manner = manners.Branches }
+row Coalesce = record (plain (codes "coalesce") (AtLeast 1) (Each wants.Any))
+    { layout = layouts.Choices; manner = manners.Deciding }
+row Step = record (plain (codes "step") (EvenFrom 4) (Input wants.Number))
+    { layout = layouts.Stops; manner = manners.Branches }
+row Interpolate =
+    record (plain (codes "interpolate") (EvenFrom 4) (Input wants.Number))
+    { layout = layouts.Ramp; manner = manners.Branches }
+row Let = record (plain (codes "let") (OddFrom 3) wanting.Bindings)
+    { layout = layouts.Bindings; manner = manners.Names }
+row Var = record (plain (codes "var") (Exactly 1) (Each wants.Any))
+    { layout = layouts.Variable; manner = manners.Names }
 row Zoom = record (plain (codes "zoom") (Exactly 0) (Each wants.Any)) { reads = reads.Zoom }
 row Concat = plain (codes "concat") (AtLeast 0) (Each wants.Any)
 row Rgb = plain (codes "rgb") (Between 3 4) (Each wants.Number)

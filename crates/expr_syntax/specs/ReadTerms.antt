@@ -1,7 +1,8 @@
 -- What holds of every expression that was read: at each node the number of elements is one that its row
 -- allows, the parts are of their form, and each `var` names a name of a `let` around it. Source: own, from
 -- the table of operators. Source: MapLibre style specification, version 8, expressions.
-use Rattle.std.specs.Prelude.{◌≡◌, ℕ, ◌+◌, ◌-◌, ◌<◌, List, [], ◌∷◌, ◌++◌, length, Bool, true, false, ◌||◌, nat_eq, Some, None, Ok}
+use Rattle.std.specs.Prelude.{◌≡◌, ℕ, ◌+◌, ◌-◌, ◌<◌, List, [], ◌∷◌, ◌++◌, length, Bool, true, false, ◌||◌, nat_eq, Some}
+use Rattle.std.specs.Prelude.{None, Ok}
 use Rattle.std.specs.List.{list_all}
 use Rattle.decimal_json.specs.Tree.{Tree}
 use Rattle.prop_values.specs.Data.{Data}
@@ -10,7 +11,8 @@ use Rattle.expr_syntax.specs.declared.parts.Labelled.{Labelled}
 use Rattle.expr_syntax.specs.declared.parts.FormatPiece.{FormatPiece}
 use Rattle.expr_syntax.specs.declared.parts.Role.TheVariants.{Content}
 use Rattle.expr_syntax.specs.declared.expression.Operator.{Operator}
-use Rattle.expr_syntax.specs.declared.expression.Operator.TheVariants.{Array, Match, Step, Interpolate, Let, Var, Format}
+use Rattle.expr_syntax.specs.declared.expression.Operator.TheVariants.{Array, Match, Step, Interpolate, Let, Var}
+use Rattle.expr_syntax.specs.declared.expression.Operator.TheVariants.{Format}
 use Rattle.expr_syntax.specs.BoundNames.{is_among}
 use Rattle.expr_syntax.specs.Mentioned.{count}
 use Rattle.expr_syntax.specs.Names.{row}
@@ -93,4 +95,5 @@ abbrev mutual
 
 -- What a tree reads as, whatever the values of the global state, is sound at each node.
 abbrev pub ReadTermsAreSound : Type 0
-ReadTermsAreSound = (t : Tree) (values : List (List ℕ × Data)) (e : Term) → reading_with t values ≡ Ok (Some e) → IsRead [] e
+ReadTermsAreSound =
+    (t : Tree) (values : List (List ℕ × Data)) (e : Term) → reading_with t values ≡ Ok (Some e) → IsRead [] e

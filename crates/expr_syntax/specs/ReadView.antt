@@ -17,7 +17,8 @@ use Rattle.expr_syntax.specs.declared.reading.Reading.TheVariants.{Inside, Outsi
 use Rattle.expr_syntax.specs.declared.rows.ElementLayout.{ElementLayout}
 use Rattle.expr_syntax.specs.declared.scope.Scope.{Scope as CodeScope, Globals, Inside'}
 use Rattle.expr_syntax.specs.Elements.{Element}
-use Rattle.expr_syntax.specs.Reading.{Read, Reader, Reading, elements, members, arguments, names_in, node_read, options, read, section_read}
+use Rattle.expr_syntax.specs.Reading.{Read, Reader, Reading, elements, members, arguments, names_in, node_read, options}
+use Rattle.expr_syntax.specs.Reading.{read, section_read}
 use Rattle.expr_syntax.specs.Scopes.{Scope, frame, globals}
 use Rattle.expr_syntax.specs.Term.{Term}
 use Rattle.expr_syntax.specs.TermView.{term_of}

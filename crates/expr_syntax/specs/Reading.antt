@@ -1,7 +1,9 @@
 -- What a JSON tree reads as: an expression, that it is outside, or its first fault in document order, of two
 -- at one node the lesser. Source: MapLibre style specification, version 8, expressions.
-use Rattle.std.specs.Prelude.{ℕ, ◌+◌, ◌-◌, ℤ, List, [], ◌∷◌, ◌++◌, length, Bool, true, false, not, nat_eq, is_none, Option, Some, None, Result, Ok, Err, if◌then◌else◌}
-use Rattle.decimal_json.specs.Tree.{Tree, null, boolean, number, text, list, object, Trees, no_trees, tree, Fields, no_fields, field}
+use Rattle.std.specs.Prelude.{ℕ, ◌+◌, ◌-◌, ℤ, List, [], ◌∷◌, ◌++◌, length, Bool, true, false, not, nat_eq, is_none}
+use Rattle.std.specs.Prelude.{Option, Some, None, Result, Ok, Err, if◌then◌else◌}
+use Rattle.decimal_json.specs.Tree.{Tree, null, boolean, number, text, list, object, Trees, no_trees, tree, Fields}
+use Rattle.decimal_json.specs.Tree.{no_fields, field}
 use Rattle.decimal_json.specs.declared.paths.PathPart.{PathPart}
 use Rattle.decimal_json.specs.declared.paths.PathPart.TheVariants as parts
 use Rattle.fixed_num.specs.declared.decimal.NumFault.{NumFault}

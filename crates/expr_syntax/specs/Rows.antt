@@ -1,10 +1,12 @@
 -- What a row of the table of operators says.
-use Rattle.std.specs.Prelude.{ℕ, ◌+◌, ◌%◌, List, Bool, true, false, not, ◌&&◌, ◌||◌, nat_eq, nat_le, Option, None, if◌then◌else◌}
+use Rattle.std.specs.Prelude.{ℕ, ◌+◌, ◌%◌, List, Bool, true, false, not, ◌&&◌, ◌||◌, nat_eq, nat_le, Option, None}
+use Rattle.std.specs.Prelude.{if◌then◌else◌}
 use Rattle.prop_values.specs.declared.kinds.Want.TheVariants as wants
 use Rattle.expr_syntax.specs.declared.rows.Arity.{Arity}
 use Rattle.expr_syntax.specs.declared.rows.Arity.TheVariants.{Exactly, Between, AtLeast, OddFrom, EvenFrom}
 use Rattle.expr_syntax.specs.declared.rows.ElementLayout.{ElementLayout}
-use Rattle.expr_syntax.specs.declared.rows.ElementLayout.TheVariants.{Arguments, Choices, Value, Items, Cases, Labels, Stops, Ramp, Bindings, Variable, Global, Sections}
+use Rattle.expr_syntax.specs.declared.rows.ElementLayout.TheVariants.{Arguments, Choices, Value, Items, Cases, Labels}
+use Rattle.expr_syntax.specs.declared.rows.ElementLayout.TheVariants.{Stops, Ramp, Bindings, Variable, Global, Sections}
 use Rattle.expr_syntax.specs.declared.rows.ElementPlace.{ElementPlace}
 use Rattle.expr_syntax.specs.declared.rows.ElementPlace.TheVariants.{Part, Argument, Output}
 use Rattle.expr_syntax.specs.declared.rows.Wants.{Wants}

@@ -1,9 +1,11 @@
 -- Whether a tree contains a node of some sort. A node of an unknown or outside name, or with a number of
 -- elements that its row does not allow, has no argument nodes.
-use Rattle.std.specs.Prelude.{ℕ, ◌+◌, ◌-◌, List, [], ◌∷◌, length, Bool, true, false, not, ◌&&◌, ◌||◌, nat_lt, Option, Some, None, is_none, if◌then◌else◌, codes}
+use Rattle.std.specs.Prelude.{ℕ, ◌+◌, ◌-◌, List, [], ◌∷◌, length, Bool, true, false, not, ◌&&◌, ◌||◌, nat_lt, Option}
+use Rattle.std.specs.Prelude.{Some, None, is_none, if◌then◌else◌, codes}
 use Rattle.std.specs.Str.{bytes_eq}
 use Rattle.decimal_json.specs.Accessors.{is_object}
-use Rattle.decimal_json.specs.Tree.{Tree, null, boolean, number, text, list, object, Trees, no_trees, tree, Fields, no_fields, field}
+use Rattle.decimal_json.specs.Tree.{Tree, null, boolean, number, text, list, object, Trees, no_trees, tree, Fields}
+use Rattle.decimal_json.specs.Tree.{no_fields, field}
 use Rattle.prop_values.specs.declared.outcome.Curve.{Curve}
 use Rattle.expr_syntax.specs.declared.names.Name.{Name}
 use Rattle.expr_syntax.specs.declared.rows.ElementLayout.{ElementLayout}
@@ -52,7 +54,8 @@ outside_part i follows _ = false
 
 abbrev pub outside_sections : ℕ → Bool → Trees → Bool
 outside_sections i follows no_trees = false
-outside_sections i follows (tree t ts) = outside_part i follows t || outside_sections (i + 1) (nat_lt 0 i && not (is_object t)) ts
+outside_sections i follows (tree t ts) =
+    outside_part i follows t || outside_sections (i + 1) (nat_lt 0 i && not (is_object t)) ts
 
 abbrev pub layout_outside : ElementLayout → Trees → Bool → Bool
 layout_outside Ramp ts format = outside_ramp (second ts)
@@ -106,7 +109,8 @@ in_section i follows None w sought = nat_lt 0 i && w sought false
 
 abbrev pub some_section : ℕ → Bool → List (Element Walker) → Sought → Bool
 some_section i follows [] sought = false
-some_section i follows (e ∷ es) sought = in_section i follows e.1 e.0 sought || some_section (i + 1) (nat_lt 0 i && is_none e.1) es sought
+some_section i follows (e ∷ es) sought =
+    in_section i follows e.1 e.0 sought || some_section (i + 1) (nat_lt 0 i && is_none e.1) es sought
 
 abbrev pub node_stands : Name → Trees → List (Element Walker) → Walker
 node_stands name ts es sought format =

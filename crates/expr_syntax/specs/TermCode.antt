@@ -37,7 +37,8 @@ tail (gcons a b) = b
 mutual
   pub inj_term : (x y : Term) → code_term x ≡ code_term y → x ≡ y
   inj_term (literal a) (literal b) p = ap literal (data_code.inj a b (ap tail p))
-  inj_term (node f a) (node g b) p = λ i. node (operator_code.inj f g (ap (λ x. head (tail x)) p) i) (inj_terms a b (ap (λ x. tail (tail x)) p) i)
+  inj_term (node f a) (node g b) p =
+      λ i. node (operator_code.inj f g (ap (λ x. head (tail x)) p) i) (inj_terms a b (ap (λ x. tail (tail x)) p) i)
   inj_term (literal a) (node g b) p = absurd (let q = ap tag p in cc)
   inj_term (node f a) (literal b) p = absurd (let q = ap tag p in cc)
 

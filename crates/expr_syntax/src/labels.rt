@@ -4,7 +4,8 @@ ghost use Rattle.std.specs.Prelude.{◌≡◌, IfOk, length};
 ghost use Rattle.std.specs.List.{list_all};
 ghost use Rattle.decimal_json.specs.View.{tree_of, trees};
 ghost use Rattle.expr_syntax.specs.LabelLists.{is_number, is_text};
-ghost use Rattle.expr_syntax.specs.Parts.{match_operator, labels_operator, labels_among, collect_part, collect_some, collect_labels};
+ghost use Rattle.expr_syntax.specs.Parts.{match_operator, labels_operator, labels_among, collect_part, collect_some};
+ghost use Rattle.expr_syntax.specs.Parts.{collect_labels};
 ghost use Rattle.expr_syntax.specs.Parts.{collect_label, collect_number, with_label, are_of_one_type};
 
 use crate::expression::Operator;

@@ -4,7 +4,8 @@ ghost use Rattle.std.specs.Prelude.{◌≡◌, ◌<◌, ◌≤◌, ◌^◌, IfOk
 ghost use Rattle.decimal_json.specs.View.{path_of, tree_of, trees};
 ghost use Rattle.decimal_json.specs.Tree.{list};
 ghost use Rattle.expr_syntax.specs.Elements.{second, second_text};
-ghost use Rattle.expr_syntax.specs.ReadView.{read_of, reading_of, read_at, arguments_of, arguments_within, elements_of, members_of, value_view, node_of, section_of, scope_of, uses_globals};
+ghost use Rattle.expr_syntax.specs.ReadView.{read_of, reading_of, read_at, arguments_of, arguments_within, elements_of};
+ghost use Rattle.expr_syntax.specs.ReadView.{members_of, value_view, node_of, section_of, scope_of, uses_globals};
 ghost use Rattle.expr_syntax.specs.Reading.{read, reading, reading_with, fault, number_read, literal_read};
 ghost use Rattle.expr_syntax.specs.Reading.{global_read, global_term, is_value_layout, is_global_layout, is_part};
 ghost use Rattle.expr_syntax.specs.Reading.{then_node, all_sections, options_read};
@@ -229,7 +230,8 @@ fn read_section(
     scope: &Scope<'_>,
     here: &Here<'_>,
 ) -> Result<Result<FormatArguments, SynFault>, AllocError>
-    ensures { IfOk result (λ r. r ≡ read_at (section_of element.at element.follows (tree_of item.now)) scope.now here.now found) }
+    ensures { IfOk result
+        (λ r. r ≡ read_at (section_of element.at element.follows (tree_of item.now)) scope.now here.now found) }
 {
     match item {
         Json::Object(options) if element.follows => {

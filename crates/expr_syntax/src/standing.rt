@@ -5,7 +5,10 @@ ghost use Rattle.std.specs.Prelude.{◌≡◌, length, false, Some, ◌-◌};
 ghost use Rattle.decimal_json.specs.Tree.{list};
 ghost use Rattle.decimal_json.specs.View.{tree_of, trees, fields};
 ghost use Rattle.expr_syntax.specs.Elements.{second, head_text};
-ghost use Rattle.expr_syntax.specs.Standing.{stands, elements, members, some_element, some_section, some_option, is_sought, layout_outside, outside_curve, is_outside_curve, outside_sections, outside_part, other_options, is_image_node, is_format_layout, outside_ramp};
+ghost use Rattle.expr_syntax.specs.Standing.{stands, elements, members, some_element, some_section, some_option};
+ghost use Rattle.expr_syntax.specs.Standing.{is_sought, layout_outside, outside_curve, is_outside_curve};
+ghost use Rattle.expr_syntax.specs.Standing.{outside_sections, outside_part, other_options, is_image_node};
+ghost use Rattle.expr_syntax.specs.Standing.{is_format_layout, outside_ramp};
 
 use crate::elements::{head_name, head_text, second};
 use crate::rows::{Arity, ElementLayout, ElementPlace};

@@ -9,9 +9,12 @@ ghost use Rattle.interpolate_fixed.specs.PlaceFacts.{HasPositiveBase};
 ghost use Rattle.expr_syntax.specs.declared.rows.ElementLayout.TheVariants as layouts;
 ghost use Rattle.expr_syntax.specs.Elements.{after_head, second, second_text, option_named};
 ghost use Rattle.expr_syntax.specs.ReadView.{scope_of};
-ghost use Rattle.expr_syntax.specs.Parts.{operator_of, or_unknown, array_operator, with_item, with_length, item_named, item_of};
-ghost use Rattle.expr_syntax.specs.Parts.{whole_units, length_in, length_of, step_operator, interpolate_operator, inputs_among};
-ghost use Rattle.expr_syntax.specs.Parts.{value_in, steps_up, base_of, curve_of, curve_from, linear, exponential, curve_in};
+ghost use Rattle.expr_syntax.specs.Parts.{operator_of, or_unknown, array_operator, with_item, with_length, item_named};
+ghost use Rattle.expr_syntax.specs.Parts.{item_of};
+ghost use Rattle.expr_syntax.specs.Parts.{whole_units, length_in, length_of, step_operator, interpolate_operator};
+ghost use Rattle.expr_syntax.specs.Parts.{inputs_among};
+ghost use Rattle.expr_syntax.specs.Parts.{value_in, steps_up, base_of, curve_of, curve_from, linear, exponential};
+ghost use Rattle.expr_syntax.specs.Parts.{curve_in};
 ghost use Rattle.expr_syntax.specs.Parts.{is_name_byte, is_binding_name, names_among, let_operator, var_operator};
 
 use crate::bound_names::{AskedName, Names};

@@ -13,7 +13,8 @@ abbrev pub Allowed : Type 0
 Allowed = Mentions → Bool
 
 abbrev pub row_allows : RowData → Allowed
-row_allows row m = (row.reads.zoom || not m.zoom) && ((row.reads.feature || not m.feature) && (row.reads.state || not m.state))
+row_allows row m =
+    (row.reads.zoom || not m.zoom) && ((row.reads.feature || not m.feature) && (row.reads.state || not m.state))
 
 abbrev pub filter_allows : Allowed
 filter_allows m = not m.state

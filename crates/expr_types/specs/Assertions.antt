@@ -34,4 +34,5 @@ own_to_color ls ks = owns kinds.Color (faults_if (not (some_kind kinds.Color ks 
 
 -- `to-number`
 abbrev pub own_to_number : List Kind → Own
-own_to_number ks = owns kinds.Number (faults_if (not (some_kind kinds.Number ks || some_kind kinds.Boolean ks)) NotNumberText)
+own_to_number ks =
+    owns kinds.Number (faults_if (not (some_kind kinds.Number ks || some_kind kinds.Boolean ks)) NotNumberText)

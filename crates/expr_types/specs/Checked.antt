@@ -18,7 +18,9 @@ unless_at (Some path) code typed = fault TypedNodes path code
 unless_at None code typed = typed
 
 abbrev pub allowed : Option RowData → List Visit → Typed → Typed
-allowed row vs (Ok found) = unless_at (first_unread (allowed_by row) vs) codes.Input (unless_at (stray_zoom_by row vs) codes.ZoomPlace (Ok found))
+allowed row vs (Ok found) =
+    unless_at (first_unread (allowed_by row) vs) codes.Input
+    (unless_at (stray_zoom_by row vs) codes.ZoomPlace (Ok found))
 allowed row vs (Err f) = Err f
 
 -- as the value of a property of a row, or as a filter where there is none

@@ -48,7 +48,8 @@ is_open n = same_count n None
 abbrev pub list_fit : Item → Option ℕ → Item → Option ℕ → Fit
 list_fit i n j m =
     if (is_any_item j || same_item i j) && (is_open m || same_count n m) then Always
-    else if (is_any_item i || (is_any_item j || same_item i j)) && (is_open n || (is_open m || same_count n m)) then Maybe
+    else if (is_any_item i || (is_any_item j || same_item i j)) && (is_open n || (is_open m || same_count n m))
+    then Maybe
     else Never
 
 -- a list of i where texts of a set are wanted

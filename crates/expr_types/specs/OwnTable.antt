@@ -1,6 +1,7 @@
 -- What each operator has of its own, in the order of the table. Source: MapLibre style specification, version
 -- 8, expressions, with types as this project takes them.
-use Rattle.std.specs.Prelude.{ℕ, ◌+◌, List, [], ◌∷◌, length, drop, Bool, true, false, not, ◌||◌, Option, Some, None, if◌then◌else◌}
+use Rattle.std.specs.Prelude.{ℕ, ◌+◌, List, [], ◌∷◌, length, drop, Bool, true, false, not, ◌||◌, Option, Some, None}
+use Rattle.std.specs.Prelude.{if◌then◌else◌}
 use Rattle.prop_values.specs.Data.{Data}
 use Rattle.prop_values.specs.Faults.{no_faults, one_fault}
 use Rattle.prop_values.specs.declared.fault.EvalFault.TheVariants.{Overflow, ColorRange}
@@ -9,7 +10,16 @@ use Rattle.prop_values.specs.declared.kinds.Kind.{Kind}
 use Rattle.prop_values.specs.declared.kinds.Kind.TheVariants as kinds
 use Rattle.prop_values.specs.declared.kinds.Want.{Want}
 use Rattle.expr_syntax.specs.declared.expression.Operator.{Operator}
-use Rattle.expr_syntax.specs.declared.expression.Operator.TheVariants.{Array, Boolean, Number, String, Object, ToBoolean, ToColor, ToNumber, ToString, TypeOf, Get, Has, Properties, Id, GeometryType, FeatureState, At, In, IndexOf, Length, Slice, Not, Equal, NotEqual, Less, LessOrEqual, Greater, GreaterOrEqual, All, Any, Case, Match, Coalesce, Step, Interpolate, Let, Var, Zoom, Concat, Rgb, Rgba, ToRgba, Add, Multiply, Subtract, Divide, Remainder, Abs, Ceil, Floor, Round, Min, Max, Image, IsSupportedScript, Format}
+use Rattle.expr_syntax.specs.declared.expression.Operator.TheVariants.{Array, Boolean, Number, String, Object}
+use Rattle.expr_syntax.specs.declared.expression.Operator.TheVariants.{ToBoolean, ToColor, ToNumber, ToString, TypeOf}
+use Rattle.expr_syntax.specs.declared.expression.Operator.TheVariants.{Get, Has, Properties, Id, GeometryType}
+use Rattle.expr_syntax.specs.declared.expression.Operator.TheVariants.{FeatureState, At, In, IndexOf, Length, Slice}
+use Rattle.expr_syntax.specs.declared.expression.Operator.TheVariants.{Not, Equal, NotEqual, Less, LessOrEqual, Greater}
+use Rattle.expr_syntax.specs.declared.expression.Operator.TheVariants.{GreaterOrEqual, All, Any, Case, Match, Coalesce}
+use Rattle.expr_syntax.specs.declared.expression.Operator.TheVariants.{Step, Interpolate, Let, Var, Zoom, Concat, Rgb}
+use Rattle.expr_syntax.specs.declared.expression.Operator.TheVariants.{Rgba, ToRgba, Add, Multiply, Subtract, Divide}
+use Rattle.expr_syntax.specs.declared.expression.Operator.TheVariants.{Remainder, Abs, Ceil, Floor, Round, Min, Max}
+use Rattle.expr_syntax.specs.declared.expression.Operator.TheVariants.{Image, IsSupportedScript, Format}
 use Rattle.expr_syntax.specs.Operators.{item_or_any}
 use Rattle.expr_syntax.specs.Rows.{is_last, is_even}
 use Rattle.expr_syntax.specs.declared.parts.Labelled.{Labelled}
@@ -36,7 +46,8 @@ output_kinds m i (k ∷ ks) = if is_output m i then k ∷ output_kinds m (i + 1)
 -- `match`
 abbrev pub own_match : List Labelled → List Kind → Own
 own_match ls [] = ill_typed
-own_match ls (input ∷ ks) = record { kind = common_kind ks; code = unless_comparable (has_such_labels input ls); faults = no_faults }
+own_match ls (input ∷ ks) =
+    record { kind = common_kind ks; code = unless_comparable (has_such_labels input ls); faults = no_faults }
 
 -- `format`: a list with an item for each content
 abbrev pub is_content : Role → ℕ

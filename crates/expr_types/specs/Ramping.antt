@@ -1,6 +1,7 @@
 -- `interpolate`: what may be interpolated, and when a number may pass the bound. Source: MapLibre style
 -- specification, version 8, expressions, as this project takes them.
-use Rattle.std.specs.Prelude.{ℕ, ◌*◌, ℤ, ◌-ℤ◌, unsigned_abs, nat_le, List, [], ◌∷◌, drop, Bool, true, false, not, ◌&&◌, ◌||◌, Option, Some, None, Result, Ok, Err, if◌then◌else◌}
+use Rattle.std.specs.Prelude.{ℕ, ◌*◌, ℤ, ◌-ℤ◌, unsigned_abs, nat_le, List, [], ◌∷◌, drop, Bool, true, false, not, ◌&&◌}
+use Rattle.std.specs.Prelude.{◌||◌, Option, Some, None, Result, Ok, Err, if◌then◌else◌}
 use Rattle.prop_values.specs.Data.{Data, number, list, Items, no_items, item}
 use Rattle.prop_values.specs.declared.fault.EvalFault.{EvalFault}
 use Rattle.prop_values.specs.declared.fault.EvalFault.TheVariants.{Overflow}

@@ -41,11 +41,13 @@ own_at index k = owns (kind_of_items k) index_faults
 
 -- `in`
 abbrev pub own_in : Kind → Kind → Own
-own_in needle k = record { kind = kinds.Boolean; code = unless_comparable (not (is_compound needle)); faults = no_faults }
+own_in needle k =
+    record { kind = kinds.Boolean; code = unless_comparable (not (is_compound needle)); faults = no_faults }
 
 -- `index-of`, without and with a place to begin at
 abbrev pub own_place : Kind → FaultSet → Own
-own_place needle faults = record { kind = kinds.Number; code = unless_comparable (not (is_compound needle)); faults = faults }
+own_place needle faults =
+    record { kind = kinds.Number; code = unless_comparable (not (is_compound needle)); faults = faults }
 
 abbrev pub own_index_of : List Kind → Own
 own_index_of (needle ∷ k ∷ []) = own_place needle no_faults

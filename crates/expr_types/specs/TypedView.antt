@@ -11,7 +11,9 @@ use Rattle.expr_syntax.specs.TermView.{term_of}
 use Rattle.expr_syntax.specs.declared.expression.Expr.{Expr}
 use Rattle.expr_types.specs.LiteralView.{literals_of, typings_of}
 use Rattle.expr_types.specs.ScopeView.{scope_of}
-use Rattle.expr_types.specs.Typing.{TypedNodes, Typed, Node, places_of, typed_as, kinds_in, may_after, places_after, node_typed, founds_of, plain_typed, let_typed, looked_at, is_sequence_of, argument_want, argument_typed, frame}
+use Rattle.expr_types.specs.Typing.{TypedNodes, Typed, Node, places_of, typed_as, kinds_in, may_after, places_after}
+use Rattle.expr_types.specs.Typing.{node_typed, founds_of, plain_typed, let_typed, looked_at, is_sequence_of}
+use Rattle.expr_types.specs.Typing.{argument_want, argument_typed, frame}
 use Rattle.expr_types.specs.declared.checking.ArgumentKinds.{ArgumentKinds}
 use Rattle.expr_types.specs.declared.checking.NodeContext.{NodeContext}
 use Rattle.expr_types.specs.declared.fault.TypeFault.{TypeFault}
@@ -22,13 +24,18 @@ abbrev pub typed_of : Expr → Bool → Want → KindScope → Here → Typed
 typed_of e is_sequence want scope here = typed_as (term_of e) is_sequence want (scope_of scope) (path_of here)
 
 abbrev pub node_of : NodeContext → List Expr → Typed
-node_of node es = node_typed node.op.now (literals_of es) (typings_of es) node.is_sequence node.want (scope_of node.scope.now) (path_of node.here.now)
+node_of node es =
+    node_typed node.op.now (literals_of es) (typings_of es) node.is_sequence node.want (scope_of node.scope.now)
+    (path_of node.here.now)
 
 abbrev pub founds_in : NodeContext → ℕ → ℕ → List Expr → Result (List TypedNodes) TypeFault
-founds_in node m k es = founds_of node.op.now m k (typings_of es) node.want (scope_of node.scope.now) (path_of node.here.now)
+founds_in node m k es =
+    founds_of node.op.now m k (typings_of es) node.want (scope_of node.scope.now) (path_of node.here.now)
 
 abbrev pub plain_of : NodeContext → List Expr → Typed
-plain_of node es = plain_typed node.op.now (literals_of es) (typings_of es) node.is_sequence node.want (scope_of node.scope.now) (path_of node.here.now)
+plain_of node es =
+    plain_typed node.op.now (literals_of es) (typings_of es) node.is_sequence node.want (scope_of node.scope.now)
+    (path_of node.here.now)
 
 abbrev pub let_of : NodeContext → List (List ℕ) → List Expr → Typed
 let_of node names es = let_typed names (typings_of es) node.want (scope_of node.scope.now) (path_of node.here.now)
@@ -36,15 +43,19 @@ let_of node names es = let_typed names (typings_of es) node.want (scope_of node.
 -- an argument at its path, and in its node
 abbrev pub found_at : NodeContext → ℕ → ℕ → Expr → List PathPart → Typed
 found_at node m k e path =
-    looked_at (is_sequence_of node.op.now k) (typed_as (term_of e) (is_sequence_of node.op.now k) (argument_want node.op.now m k node.want) (scope_of node.scope.now) path) path
+    looked_at (is_sequence_of node.op.now k)
+    (typed_as (term_of e) (is_sequence_of node.op.now k) (argument_want node.op.now m k node.want)
+    (scope_of node.scope.now) path) path
 
 abbrev pub argument_found : NodeContext → ℕ → ℕ → Expr → Typed
-argument_found node m k e = argument_typed node.op.now m k (typed_as (term_of e)) node.want (scope_of node.scope.now) (path_of node.here.now)
+argument_found node m k e =
+    argument_typed node.op.now m k (typed_as (term_of e)) node.want (scope_of node.scope.now) (path_of node.here.now)
 
 -- the body of a `let`
 abbrev pub body_of : NodeContext → List (List ℕ) → List Kind → Expr → Typed
 body_of node names kinds body =
-    argument_typed node.op.now (length names + 1) (length names) (typed_as (term_of body)) node.want (frame names kinds ∷ scope_of node.scope.now) (path_of node.here.now)
+    argument_typed node.op.now (length names + 1) (length names) (typed_as (term_of body)) node.want
+    (frame names kinds ∷ scope_of node.scope.now) (path_of node.here.now)
 
 -- the root of what was found, and the places that it adds to others
 abbrev pub root_of : Typed → Node

@@ -1,6 +1,7 @@
 -- The kind of an expression under a want with the faults that it may give, or its type fault.
 -- Source: MapLibre style specification, version 8, types of expressions, as this project takes them.
-use Rattle.std.specs.Prelude.{ℕ, ◌+◌, List, [], ◌∷◌, ◌++◌, length, take, drop, map, nat_eq, Bool, true, false, Option, Some, None, Result, Ok, Err, if◌then◌else◌}
+use Rattle.std.specs.Prelude.{ℕ, ◌+◌, List, [], ◌∷◌, ◌++◌, length, take, drop, map, nat_eq, Bool, true, false, Option}
+use Rattle.std.specs.Prelude.{Some, None, Result, Ok, Err, if◌then◌else◌}
 use Rattle.decimal_json.specs.declared.paths.PathPart.{PathPart}
 use Rattle.prop_values.specs.Data.{Data}
 use Rattle.prop_values.specs.Equality.{same_text}
@@ -68,18 +69,22 @@ unless_code (Some code) k path = fault Kinded path code
 abbrev pub fit_or : Fit → Want → Own → FaultSet → List PathPart → Node
 fit_or Never want own may path = fault Kinded path codes.Kind
 fit_or fit want own may path =
-    unless_code own.code (kinded want (kind_under want own.kind) (union may (union own.faults (fit_faults fit want own.kind))) (is_always fit)) path
+    unless_code own.code
+    (kinded want (kind_under want own.kind) (union may (union own.faults (fit_faults fit want own.kind)))
+    (is_always fit)) path
 
 abbrev pub fitted : Want → Own → FaultSet → List PathPart → Node
 fitted want own may path = fit_or (fits own.kind want) want own may path
 
 -- one that hands its want to its branches has no fit of its own
 abbrev pub branched : Want → Own → FaultSet → List PathPart → Node
-branched want own may path = unless_code own.code (kinded want (branch_kind want own.kind) (union may own.faults) true) path
+branched want own may path =
+    unless_code own.code (kinded want (branch_kind want own.kind) (union may own.faults) true) path
 
 abbrev pub literal_node : Data → Want → List PathPart → Node
 literal_node d want path =
-    if surely_fits want d then Ok (kinded want (kind_under want (literal_kind d)) no_faults (is_always (fits (literal_kind d) want)))
+    if surely_fits want d
+    then Ok (kinded want (kind_under want (literal_kind d)) no_faults (is_always (fits (literal_kind d) want)))
     else fitted want (owns (literal_kind d) no_faults) no_faults path
 
 abbrev pub with_below : List Placed → Node → Typed
@@ -130,7 +135,9 @@ is_sequence_of op k = is_place (row (operator_name op)).sequence k
 
 abbrev pub argument_typed : Operator → ℕ → ℕ → Typing → Want → KindScope → List PathPart → Typed
 argument_typed op m k typing want scope path =
-    looked_at (is_sequence_of op k) (typing (is_sequence_of op k) (argument_want op m k want) scope (argument_path op m k path)) (argument_path op m k path)
+    looked_at (is_sequence_of op k)
+    (typing (is_sequence_of op k) (argument_want op m k want) scope (argument_path op m k path))
+    (argument_path op m k path)
 
 abbrev pub and_found : Typed → Result (List TypedNodes) TypeFault → Result (List TypedNodes) TypeFault
 and_found (Ok found) (Ok founds) = Ok (found ∷ founds)
@@ -138,7 +145,8 @@ and_found (Ok found) (Err f) = Err f
 and_found (Err f) later = Err f
 
 -- the arguments from that of place k on, from left to right: the first fault is the fault of all
-abbrev pub founds_of : Operator → ℕ → ℕ → List Typing → Want → KindScope → List PathPart → Result (List TypedNodes) TypeFault
+abbrev pub founds_of : Operator → ℕ → ℕ → List Typing → Want → KindScope → List PathPart →
+    Result (List TypedNodes) TypeFault
 founds_of op m k [] want scope path = Ok []
 founds_of op m k (typing ∷ typings) want scope path =
     and_found (argument_typed op m k typing want scope path) (founds_of op m (k + 1) typings want scope path)
@@ -222,7 +230,9 @@ with_bindings want founds (Err f) = Err f
 
 abbrev pub body_typed : List (List ℕ) → List Typing → List TypedNodes → Want → KindScope → List PathPart → Typed
 body_typed names (body ∷ []) founds want scope path =
-    with_bindings want founds (argument_typed (Let names) (length names + 1) (length names) body want (frame names (kinds_in founds) ∷ scope) path)
+    with_bindings want founds
+    (argument_typed (Let names) (length names + 1) (length names) body want
+    (frame names (kinds_in founds) ∷ scope) path)
 body_typed names typings founds want scope path = fault TypedNodes path codes.Kind
 
 abbrev pub let_typed : List (List ℕ) → List Typing → Want → KindScope → List PathPart → Typed
@@ -232,7 +242,8 @@ let_typed names typings want scope path =
 
 abbrev pub node_typed : Operator → List (Option Data) → List Typing → Typing
 node_typed (Let names) ls typings is_sequence want scope path = let_typed names typings want scope path
-node_typed (Var name) ls typings is_sequence want scope path = with_below [] (fitted want (own_named scope name) no_faults path)
+node_typed (Var name) ls typings is_sequence want scope path =
+    with_below [] (fitted want (own_named scope name) no_faults path)
 node_typed op ls typings is_sequence want scope path = plain_typed op ls typings is_sequence want scope path
 
 abbrev pub literal_of : Term → Option Data
@@ -246,7 +257,8 @@ literals (term t ts) = literal_of t ∷ literals ts
 abbrev mutual
   pub typed_as : Term → Typing
   typed_as (literal d) = λ is_sequence want scope path. with_below [] (literal_node d want path)
-  typed_as (node op ts) = λ is_sequence want scope path. node_typed op (literals ts) (typings ts) is_sequence want scope path
+  typed_as (node op ts) =
+      λ is_sequence want scope path. node_typed op (literals ts) (typings ts) is_sequence want scope path
 
   pub typings : Terms → List Typing
   typings no_terms = []

@@ -36,7 +36,8 @@ Visiting = Standing → List PathPart → List Visit
 abbrev pub all_visits : Operator → ℕ → ℕ → List Visiting → Standing → List PathPart → List Visit
 all_visits op m k [] standing path = []
 all_visits op m k (visiting ∷ visitings) standing path =
-    visiting (standing_of standing op m k) (argument_path op m k path) ++ all_visits op m (k + 1) visitings standing path
+    visiting (standing_of standing op m k) (argument_path op m k path)
+    ++ all_visits op m (k + 1) visitings standing path
 
 abbrev pub node_visits : Operator → ℕ → List Visiting → Visiting
 node_visits op m visitings standing path =

@@ -2,7 +2,8 @@
 
 ghost use Rattle.std.specs.Prelude.{◌≡◌, option_map};
 ghost use Rattle.prop_values.specs.View.{data_of};
-ghost use Rattle.expr_types.specs.Assertions.{own_array, own_asserted, is_color_text, some_color_text, own_to_color, own_to_number};
+ghost use Rattle.expr_types.specs.Assertions.{own_array, own_asserted, is_color_text, some_color_text, own_to_color};
+ghost use Rattle.expr_types.specs.Assertions.{own_to_number};
 ghost use Rattle.expr_syntax.specs.Operators.{item_or_any};
 ghost use Rattle.expr_types.specs.LiteralView.{literals_of};
 

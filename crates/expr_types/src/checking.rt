@@ -5,7 +5,8 @@ ghost use Rattle.decimal_json.specs.View.{path_of};
 ghost use Rattle.expr_syntax.specs.declared.expression.Operator.TheVariants as operators;
 ghost use Rattle.expr_types.specs.Typing.{argument_want, handed, finished_node, own_where, sequence_if, is_sequence_of};
 ghost use Rattle.prop_values.specs.Faults.{no_faults};
-ghost use Rattle.expr_types.specs.TypedView.{typed_of, node_of, founds_in, root_of, added, added_below, kinds_after, kinds_of, all_added, plain_of, let_of, body_of, argument_found, found_at};
+ghost use Rattle.expr_types.specs.TypedView.{typed_of, node_of, founds_in, root_of, added, added_below, kinds_after};
+ghost use Rattle.expr_types.specs.TypedView.{kinds_of, all_added, plain_of, let_of, body_of, argument_found, found_at};
 
 use crate::argument_paths::{element_at, key_at};
 use crate::bindings::Bound;

@@ -1,7 +1,9 @@
 //! Kinds that may be compared.
 
 ghost use Rattle.std.specs.Prelude.{◌≡◌};
-ghost use Rattle.expr_types.specs.Comparing.{unless_comparable, is_compound, differ, are_comparable, own_equal, may_be_ordered, number_and_text, are_orderable, are_ordered, own_ordered, has_labels, has_such_labels};
+ghost use Rattle.expr_types.specs.Comparing.{unless_comparable, is_compound, differ, are_comparable, own_equal};
+ghost use Rattle.expr_types.specs.Comparing.{may_be_ordered, number_and_text, are_orderable, are_ordered, own_ordered};
+ghost use Rattle.expr_types.specs.Comparing.{has_labels, has_such_labels};
 
 use crate::fault::TypeCode;
 use crate::own::{Own, faults_if};

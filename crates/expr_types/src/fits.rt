@@ -1,7 +1,9 @@
 //! How a kind fits a want.
 
 ghost use Rattle.std.specs.Prelude.{◌≡◌};
-ghost use Rattle.expr_types.specs.Fits.{same_item, same_count, same_kind, is_any_item, is_open, list_fit, choices_fit, fits, is_always, wanted_kind, list_under, kind_under, branch_kind, misfits, fit_faults};
+ghost use Rattle.expr_types.specs.Fits.{same_item, same_count, same_kind, is_any_item, is_open, list_fit, choices_fit};
+ghost use Rattle.expr_types.specs.Fits.{fits, is_always, wanted_kind, list_under, kind_under, branch_kind, misfits};
+ghost use Rattle.expr_types.specs.Fits.{fit_faults};
 
 use prop_values::{EvalFault, FaultSet, Item, Kind, Want};
 

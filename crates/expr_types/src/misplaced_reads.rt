@@ -78,7 +78,8 @@ pub(crate) fn noted(
     standing: Standing,
     here: &Here<'_>,
 ) -> Result<MisplacedReads, AllocError>
-    ensures { IfOk result (λ s. s ≡ noted_if allowed (record { reads = reads; standing = standing; path = path_of here.now }) found) }
+    ensures { IfOk result
+        (λ s. s ≡ noted_if allowed (record { reads = reads; standing = standing; path = path_of here.now }) found) }
 {
     let MisplacedReads {
         unread,

@@ -3,7 +3,8 @@
 ghost use Rattle.std.specs.Prelude.{◌≡◌, [], IfOk};
 ghost use Rattle.prop_values.specs.View.{data_of};
 ghost use Rattle.prop_values.specs.Faults.{no_faults};
-ghost use Rattle.expr_types.specs.NodeKinds.{kind_found, literal_kind_under, name_kind, is_possible, may_be_sequence, has_sequence, node_kind};
+ghost use Rattle.expr_types.specs.NodeKinds.{kind_found, literal_kind_under, name_kind, is_possible, may_be_sequence};
+ghost use Rattle.expr_types.specs.NodeKinds.{has_sequence, node_kind};
 ghost use Rattle.expr_types.specs.ScopeView.{scope_of};
 ghost use Rattle.expr_types.specs.Typing.{finished_node};
 

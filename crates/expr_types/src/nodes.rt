@@ -5,7 +5,8 @@ ghost use Rattle.decimal_json.specs.View.{path_of};
 ghost use Rattle.prop_values.specs.Faults.{union};
 ghost use Rattle.prop_values.specs.View.{data_of};
 ghost use Rattle.expr_types.specs.Fits.{branch_kind};
-ghost use Rattle.expr_types.specs.Typing.{fault, kinded, fitted, branched, literal_node, own_where, as_sequence, is_branching};
+ghost use Rattle.expr_types.specs.Typing.{fault, kinded, fitted, branched, literal_node, own_where, as_sequence};
+ghost use Rattle.expr_types.specs.Typing.{is_branching};
 ghost use Rattle.expr_types.specs.declared.placed.Kinded.{Kinded as FoundNode};
 
 use crate::fault::{TypeCode, TypeFault};
@@ -117,7 +118,8 @@ pub(crate) fn literal_node(
     }
 }
 
-/// What a node has of its own, where a text or a list has to come or not: of another kind it has the code `Kind`, before any other.
+/// What a node has of its own, where a text or a list has to come or not: of another kind it has the code `Kind`,
+/// before any other.
 pub(crate) fn own_where(is_sequence: bool, own: Own) -> Own
     ensures { result ≡ own_where is_sequence own }
 {

@@ -3,7 +3,9 @@
 ghost use Rattle.std.specs.Prelude.{◌≡◌, ◌-ℤ◌, unsigned_abs, IfOk, option_map};
 ghost use Rattle.prop_values.specs.View.{data_of};
 ghost use Rattle.prop_values.specs.ViewParts.{items};
-ghost use Rattle.expr_types.specs.Ramping.{is_ramp_kind, is_interpolable, is_near, is_item_near, are_items_near, are_near, is_fitting, are_next_near, first_near, next_from, steps_are_near, may_pass, unless_interpolable, own_ramp};
+ghost use Rattle.expr_types.specs.Ramping.{is_ramp_kind, is_interpolable, is_near, is_item_near, are_items_near};
+ghost use Rattle.expr_types.specs.Ramping.{are_near, is_fitting, are_next_near, first_near, next_from, steps_are_near};
+ghost use Rattle.expr_types.specs.Ramping.{may_pass, unless_interpolable, own_ramp};
 ghost use Rattle.expr_types.specs.LiteralView.{literals_of};
 
 use crate::fault::TypeCode;
@@ -109,7 +111,8 @@ fn is_fitting(alloc: Global, want: &Want, literal: Option<&Value>) -> Result<boo
 }
 
 fn are_next_near(x0: Fixed, from: Option<&Value>, x1: Fixed, to: Option<&Value>) -> bool
-    ensures { result ≡ are_next_near x0 (option_map (λ v. data_of v.now) from.entry) x1 (option_map (λ v. data_of v.now) to.entry) }
+    ensures { result ≡ are_next_near x0 (option_map (λ v. data_of v.now) from.entry) x1
+        (option_map (λ v. data_of v.now) to.entry) }
 {
     match (from, to) {
         (Some(from), Some(to)) => are_near(x0, from, x1, to),

@@ -1,7 +1,8 @@
 //! Operators over texts and lists.
 
 ghost use Rattle.std.specs.Prelude.{◌≡◌};
-ghost use Rattle.expr_types.specs.Sequences.{sequence_fit, item_kind, kind_of_items, index_faults, own_at, own_in, own_place, own_index_of, stretch_kind, own_slice};
+ghost use Rattle.expr_types.specs.Sequences.{sequence_fit, item_kind, kind_of_items, index_faults, own_at, own_in};
+ghost use Rattle.expr_types.specs.Sequences.{own_place, own_index_of, stretch_kind, own_slice};
 
 use crate::comparing::{is_compound, unless_comparable};
 use crate::fits::Fit;

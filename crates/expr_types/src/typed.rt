@@ -46,7 +46,9 @@ impl<'a> Model for Typed<'a> {
     ghost use Rattle.std.specs.Prelude.{◌≡◌};
     ghost use Rattle.expr_types.specs.JudgedFacts.{kind_of, may_of, places_in};
 
-    ghost invariant = { λ a. (a.node.kind ≡ kind_of (term_of a.expression.now, a.want)) × ((a.node.may ≡ may_of (term_of a.expression.now, a.want)) × (a.places.items ≡ places_in (term_of a.expression.now, a.want))) };
+    ghost invariant = { λ a. (a.node.kind ≡ kind_of (term_of a.expression.now, a.want))
+        × ((a.node.may ≡ may_of (term_of a.expression.now, a.want))
+        × (a.places.items ≡ places_in (term_of a.expression.now, a.want))) };
 }
 
 impl<'a> Typed<'a> {
@@ -104,7 +106,9 @@ pub fn check<'a>(
     want: &Want,
     row: Option<&Row>,
 ) -> Result<Result<Typed<'a>, TypeFault>, AllocError>
-    ensures { IfOk result (λ r. r ≡ judged (term_of expression.now, want.now) (checked (term_of expression.now) want.now (option_map (λ r. row_seen r.now) row.entry))) }
+    ensures { IfOk result
+        (λ r. r ≡ judged (term_of expression.now, want.now)
+        (checked (term_of expression.now) want.now (option_map (λ r. row_seen r.now) row.entry))) }
 {
     let typed = match check_under(alloc, expression, want)? {
         Ok(typed) => typed,
@@ -147,7 +151,8 @@ pub fn check_free<'a>(
     alloc: Global,
     expression: &'a Expr,
 ) -> Result<Result<Typed<'a>, TypeFault>, AllocError>
-    ensures { IfOk result (λ r. r ≡ judged (term_of expression.now, wants.Any) (checked_free (term_of expression.now))) }
+    ensures { IfOk result
+        (λ r. r ≡ judged (term_of expression.now, wants.Any) (checked_free (term_of expression.now))) }
 {
     check_under(alloc, expression, &Want::Any)
 }
@@ -157,7 +162,8 @@ fn check_under<'a>(
     expression: &'a Expr,
     want: &Want,
 ) -> Result<Result<Typed<'a>, TypeFault>, AllocError>
-    ensures { IfOk result (λ r. r ≡ judged (term_of expression.now, want.now) (typed (term_of expression.now) want.now [] [])) }
+    ensures { IfOk result
+        (λ r. r ≡ judged (term_of expression.now, want.now) (typed (term_of expression.now) want.now [] [])) }
 {
     let mut checking = Checking {
         alloc,

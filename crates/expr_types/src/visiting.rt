@@ -44,7 +44,9 @@ impl<'r> ExpressionWalk<'r> {
         here: &'x Here<'x>,
         before: MisplacedReads,
     ) -> Result<MisplacedReads, AllocError>
-        ensures { IfOk result (λ s. s ≡ all_noted (allowed_in self.now) (visits (term_of expression.now) standing (path_of here.now)) before) }
+        ensures { IfOk result
+            (λ s. s ≡ all_noted (allowed_in self.now)
+            (visits (term_of expression.now) standing (path_of here.now)) before) }
     {
         match expression {
             Expr::Literal(_) => Ok(before),
@@ -67,7 +69,10 @@ impl<'r> ExpressionWalk<'r> {
         arguments: &'x [Expr],
         before: MisplacedReads,
     ) -> Result<MisplacedReads, AllocError>
-        ensures { IfOk result (λ s. s ≡ all_noted (allowed_in self.now) (node_visits node.now.op.now (count (terms arguments.now)) (visitings (terms arguments.now)) node.now.standing (path_of node.now.here.now)) before) }
+        ensures { IfOk result
+            (λ s. s ≡ all_noted (allowed_in self.now)
+            (node_visits node.now.op.now (count (terms arguments.now)) (visitings (terms arguments.now))
+            node.now.standing (path_of node.now.here.now)) before) }
     {
         let reads = of_operator(node.op, arguments);
         let is_allowed = allows(self.row, reads);
@@ -97,7 +102,10 @@ impl<'r> ExpressionWalk<'r> {
         before: MisplacedReads,
     ) -> Result<MisplacedReads, AllocError>
         requires { place < 2 ^ 60 }
-        ensures { IfOk result (λ s. s ≡ all_noted (allowed_in self.now) (visits (term_of argument.now) (standing_of node.now.standing node.now.op.now count place) (argument_path node.now.op.now count place (path_of node.now.here.now))) before) }
+        ensures { IfOk result
+            (λ s. s ≡ all_noted (allowed_in self.now)
+            (visits (term_of argument.now) (standing_of node.now.standing node.now.op.now count place)
+            (argument_path node.now.op.now count place (path_of node.now.here.now))) before) }
     {
         let below = node.standing.of_argument(node.op, count, place);
         let element = Here::Index(element_at(node.op, count, place), &*node.here);

@@ -1,5 +1,6 @@
 -- An index of numbers by ids, and what it represents. Source: own.
-use Rattle.std.specs.Prelude.{◌≡◌, ◌<◌, ℕ, List, [], ◌∷◌, length, nat_eq, slice_index_or, Bool, false, Option, Some, None, IfSome, if◌then◌else◌, ◌||◌}
+use Rattle.std.specs.Prelude.{◌≡◌, ◌<◌, ℕ, List, [], ◌∷◌, length, nat_eq, slice_index_or, Bool, false, Option, Some}
+use Rattle.std.specs.Prelude.{None, IfSome, if◌then◌else◌, ◌||◌}
 use Rattle.std.proofs.Common.{zero, suc}
 use Rattle.std.specs.BTreeMap.{get}
 use Rattle.std.specs.Ordering.{nat_cmp}

@@ -23,7 +23,8 @@ IsOfLayer layer entry = (entry.source ≡ layer.source) × (entry.source_layer �
 -- the index of a source layer, where there is one, is that of its features
 abbrev pub IsEntryOf : List SourceTile → SearchedLayer → Type 0
 IsEntryOf tiles entry =
-    IfSome entry.index (λ index. IsIndexed index (ids_of (flat_map (features_in entry.source entry.source_layer) tiles)))
+    IfSome entry.index
+    (λ index. IsIndexed index (ids_of (flat_map (features_in entry.source entry.source_layer) tiles)))
 
 -- so it is with each of them
 abbrev pub AreEntries : List SourceTile → List SearchedLayer → Type 0

@@ -1,6 +1,7 @@
 //! An index of numbers by ids.
 
-ghost use Rattle.std.specs.Prelude.{◌≡◌, ◌<◌, ℕ, List, [], ◌∷◌, ◌++◌, length, nat_eq, slice_index_or, Option, Some, None, MatchOption, OnOk, if◌then◌else◌};
+ghost use Rattle.std.specs.Prelude.{◌≡◌, ◌<◌, ℕ, List, [], ◌∷◌, ◌++◌, length, nat_eq, slice_index_or, Option, Some};
+ghost use Rattle.std.specs.Prelude.{None, MatchOption, OnOk, if◌then◌else◌};
 ghost use Rattle.std.specs.BTreeMap.{get};
 ghost use Rattle.std.specs.Ordering.{nat_cmp};
 ghost use Rattle.feature_index.specs.Ids.{IsIndexed, IsIdWalk, numbers_left, numbers_of};
@@ -28,8 +29,8 @@ impl IdIndex {
         }
     }
 
-    /// Gives the next number an id, or none. Takes time logarithmic in the ids. Where an allocation fails, nothing is said of
-    /// the index.
+    /// Gives the next number an id, or none. Takes time logarithmic in the ids. Where an allocation fails, nothing is
+    /// said of the index.
     pub fn push(&mut self, id: Option<u64>) -> Result<(), AllocError>
         requires { length self.old.before.items < 4294967295 }
         ensures { (ids : List (Option ℕ)) → IsIndexed self.old ids → OnOk result (IsIndexed self.new (ids ++ id ∷ [])) }
@@ -67,7 +68,8 @@ fn last_number(last: &BTreeMap<u64, u32>, id: u64) -> Option<u32>
 }
 
 fn note_last(last: &mut BTreeMap<u64, u32>, id: u64, number: u32) -> Result<(), AllocError>
-    ensures { OnOk result ((i : ℕ) → get nat_cmp last.new i ≡ (if nat_eq id i then Some number else get nat_cmp last.old i)) }
+    ensures { OnOk result ((i : ℕ) → get nat_cmp last.new i
+        ≡ (if nat_eq id i then Some number else get nat_cmp last.old i)) }
 {
     let Ok(_) = last.insert(id, number) else {
         return Err(AllocError);

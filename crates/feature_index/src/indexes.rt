@@ -35,8 +35,8 @@ impl SearchedLayer {
             && self.source_layer.as_str() == layer.source_layer.as_str()
     }
 
-    // Notes one search more for the features of a layer, and indexes them at the sixteenth. Where there is no memory for
-    // it, it is not tried again.
+    // Notes one search more for the features of a layer, and indexes them at the sixteenth. Where there is no memory
+    // for it, it is not tried again.
     fn note(&mut self, alloc: Global, layer: &StyleLayer, tiles: &[SourceTile<'_>])
         requires few { length (layer_features (map tile_seen tiles.now) (layer_seen layer.now)) < 4294967295 }
         requires shown { has_features layer.now.layer_type ≡ true }
@@ -57,8 +57,8 @@ impl SearchedLayer {
     }
 }
 
-/// The features of source layers by their ids, where they were looked for often. Whoever finds no index goes through the
-/// features, so nothing fails where there is no memory for one.
+/// The features of source layers by their ids, where they were looked for often. Whoever finds no index goes through
+/// the features, so nothing fails where there is no memory for one.
 #[derive(Drop)]
 pub struct FeatureIndexes {
     pub(crate) alloc: Global,
@@ -76,9 +76,10 @@ impl FeatureIndexes {
         }
     }
 
-    /// Notes that the features of a layer are looked for by an id, over the same tiles in each call. The sixteenth call for a
-    /// source layer makes its index: that takes time n log n in its features, and some 40 bytes for each. Each other takes time
-    /// linear in the source layers that were noted, and constant time where this one was noted last: it is put first.
+    /// Notes that the features of a layer are looked for by an id, over the same tiles in each call. The sixteenth call
+    /// for a source layer makes its index: that takes time n log n in its features, and some 40 bytes for each. Each
+    /// other takes time linear in the source layers that were noted, and constant time where this one was noted last:
+    /// it is put first.
     pub fn note(&mut self, layer: &StyleLayer, tiles: &[SourceTile<'_>])
         requires few { length (layer_features (map tile_seen tiles.now) (layer_seen layer.now)) < 4294967295 }
         requires shown { has_features layer.now.layer_type ≡ true }

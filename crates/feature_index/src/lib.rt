@@ -9,12 +9,13 @@
 //! }
 //! ```
 //!
-//! What is promised: an `IdIndex` that represents a list of ids (`IsIndexed`) gives for each id all the numbers that have it, and
-//! no other, each once. An index that `find` gives is that of the features that the layer shows over the tiles, in the order of
-//! their list. How often features were looked for, and that an allocation failed, changes what is indexed, and no answer.
+//! What is promised: an `IdIndex` that represents a list of ids (`IsIndexed`) gives for each id all the numbers that
+//! have it, and no other, each once. An index that `find` gives is that of the features that the layer shows over the
+//! tiles, in the order of their list. How often features were looked for, and that an allocation failed, changes what
+//! is indexed, and no answer.
 //!
-//! The text to believe is in `specs/`: `Ids`, `Indexes`. That a number is among those of an id exactly where the list has this id
-//! there is a law (`proofs/ChainLaws.antt`, `among_all`).
+//! The text to believe is in `specs/`: `Ids`, `Indexes`. That a number is among those of an id exactly where the list
+//! has this id there is a law (`proofs/ChainLaws.antt`, `among_all`).
 #![tactic(auto)]
 
 mod ids;

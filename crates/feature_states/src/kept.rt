@@ -1,4 +1,5 @@
-ghost use Rattle.std.specs.Prelude.{◌≡◌, ◌<◌, ℕ, List, [], length, ◌&&◌, nat_eq, OnOk, OnErr, option_map, if◌then◌else◌};
+ghost use Rattle.std.specs.Prelude.{◌≡◌, ◌<◌, ℕ, List, [], length, ◌&&◌, nat_eq, OnOk, OnErr, option_map};
+ghost use Rattle.std.specs.Prelude.{if◌then◌else◌};
 ghost use Rattle.std.specs.Str.{bytes_eq};
 ghost use Rattle.prop_values.specs.Changes.{merged, without_key};
 ghost use Rattle.feature_states.specs.Features.{same_feature, left_of};
@@ -27,7 +28,9 @@ pub(crate) fn merge_id(
     members: Entries,
 ) -> Result<(), AllocError>
     requires { 0 < length members }
-    ensures ok { OnOk result ((i : ℕ) → members_of_id ids.new i ≡ (if nat_eq id i then merged (members_of_id ids.old i) members else members_of_id ids.old i)) }
+    ensures ok { OnOk result ((i : ℕ)
+        → members_of_id ids.new i
+        ≡ (if nat_eq id i then merged (members_of_id ids.old i) members else members_of_id ids.old i)) }
     ensures err { OnErr result ((i : ℕ) → members_of_id ids.new i ≡ members_of_id ids.old i) }
 {
     match ids.get_mut(&id) {
@@ -52,8 +55,11 @@ pub(crate) fn merge_layer(
     members: Entries,
 ) -> Result<(), AllocError>
     requires { 0 < length members }
-    ensures ok { OnOk result ((l : List ℕ) (i : ℕ) → members_in_layer layers.new l i ≡ (if bytes_eq layer.now l && nat_eq id i then merged (members_in_layer layers.old l i) members else members_in_layer layers.old l i)) }
-    ensures err { OnErr result ((l : List ℕ) (i : ℕ) → members_in_layer layers.new l i ≡ members_in_layer layers.old l i) }
+    ensures ok { OnOk result ((l : List ℕ) (i : ℕ) → members_in_layer layers.new l i
+        ≡ (if bytes_eq layer.now l && nat_eq id i then merged (members_in_layer layers.old l i) members
+        else members_in_layer layers.old l i)) }
+    ensures err { OnErr result
+        ((l : List ℕ) (i : ℕ) → members_in_layer layers.new l i ≡ members_in_layer layers.old l i) }
 {
     match layers.get_mut(layer) {
         Some(ids) => merge_id(alloc, ids, id, members),
@@ -78,8 +84,11 @@ pub(crate) fn merge_source(
     members: Entries,
 ) -> Result<(), AllocError>
     requires { 0 < length members }
-    ensures ok { OnOk result ((s l : List ℕ) (i : ℕ) → members_in_source sources.new s l i ≡ (if same_feature source.now layer.now id s l i then merged (members_in_source sources.old s l i) members else members_in_source sources.old s l i)) }
-    ensures err { OnErr result ((s l : List ℕ) (i : ℕ) → members_in_source sources.new s l i ≡ members_in_source sources.old s l i) }
+    ensures ok { OnOk result ((s l : List ℕ) (i : ℕ) → members_in_source sources.new s l i
+        ≡ (if same_feature source.now layer.now id s l i then merged (members_in_source sources.old s l i) members
+        else members_in_source sources.old s l i)) }
+    ensures err { OnErr result
+        ((s l : List ℕ) (i : ℕ) → members_in_source sources.new s l i ≡ members_in_source sources.old s l i) }
 {
     match sources.get_mut(source) {
         Some(layers) => merge_layer(alloc, layers, layer, id, members),
@@ -96,7 +105,9 @@ pub(crate) fn merge_source(
 
 /// Removes a member of an id, or all.
 pub(crate) fn remove_id(ids: &mut Ids, id: u64, key: Option<&str>)
-    ensures { (i : ℕ) → members_of_id ids.new i ≡ (if nat_eq id i then left_of (option_map (λ k. k.now) key.entry) (members_of_id ids.old i) else members_of_id ids.old i) }
+    ensures { (i : ℕ) → members_of_id ids.new i
+        ≡ (if nat_eq id i then left_of (option_map (λ k. k.now) key.entry) (members_of_id ids.old i)
+        else members_of_id ids.old i) }
 {
     match key {
         Some(key) => remove_key(ids, id, key),
@@ -106,7 +117,8 @@ pub(crate) fn remove_id(ids: &mut Ids, id: u64, key: Option<&str>)
 
 // Removes a member of an id.
 fn remove_key(ids: &mut Ids, id: u64, key: &str)
-    ensures { (i : ℕ) → members_of_id ids.new i ≡ (if nat_eq id i then without_key key.now (members_of_id ids.old i) else members_of_id ids.old i) }
+    ensures { (i : ℕ) → members_of_id ids.new i
+        ≡ (if nat_eq id i then without_key key.now (members_of_id ids.old i) else members_of_id ids.old i) }
 {
     let Some(kept) = ids.get_mut(&id) else {
         return;
@@ -127,7 +139,10 @@ fn remove_all(ids: &mut Ids, id: u64)
 
 /// Removes a member of an id of a layer, or all.
 pub(crate) fn remove_in_layer(layers: &mut Layers, layer: &str, id: u64, key: Option<&str>)
-    ensures { (l : List ℕ) (i : ℕ) → members_in_layer layers.new l i ≡ (if bytes_eq layer.now l && nat_eq id i then left_of (option_map (λ k. k.now) key.entry) (members_in_layer layers.old l i) else members_in_layer layers.old l i) }
+    ensures { (l : List ℕ) (i : ℕ) → members_in_layer layers.new l i
+        ≡ (if bytes_eq layer.now l && nat_eq id i
+        then left_of (option_map (λ k. k.now) key.entry) (members_in_layer layers.old l i)
+        else members_in_layer layers.old l i) }
 {
     if let Some(ids) = layers.get_mut(layer) {
         remove_id(ids, id, key);
@@ -142,7 +157,11 @@ pub(crate) fn remove_in_source(
     id: u64,
     key: Option<&str>,
 )
-    ensures { (s l : List ℕ) (i : ℕ) → members_in_source sources.new s l i ≡ (if same_feature source.now layer.now id s l i then left_of (option_map (λ k. k.now) key.entry) (members_in_source sources.old s l i) else members_in_source sources.old s l i) }
+    ensures { (s l : List ℕ) (i : ℕ)
+        → members_in_source sources.new s l i
+        ≡ (if same_feature source.now layer.now id s l i
+        then left_of (option_map (λ k. k.now) key.entry) (members_in_source sources.old s l i)
+        else members_in_source sources.old s l i) }
 {
     if let Some(layers) = sources.get_mut(source) {
         remove_in_layer(layers, layer, id, key);

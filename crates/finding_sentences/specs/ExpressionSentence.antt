@@ -1,5 +1,6 @@
 -- Why an expression is not read or not well typed, V16, or reads what it may not, V17 and V18. Source: own.
-use Rattle.std.specs.Prelude.{ℕ, zero, suc, ◌+◌, ◌-◌, List, [], ◌∷◌, codes, decimal, nat_eq, nat_lt, Bool, true, false, Option, Some, None, option_map, Result, Ok, Err, if◌then◌else◌}
+use Rattle.std.specs.Prelude.{ℕ, zero, suc, ◌+◌, ◌-◌, List, [], ◌∷◌, codes, decimal, nat_eq, nat_lt, Bool, true, false}
+use Rattle.std.specs.Prelude.{Option, Some, None, option_map, Result, Ok, Err, if◌then◌else◌}
 use Rattle.std.specs.Option.{option_and_then}
 use Rattle.decimal_json.specs.JsonText.{text_json}
 use Rattle.decimal_json.specs.Tree.{Tree, list, object, Trees, no_trees, tree, field_at}
@@ -85,15 +86,19 @@ layout_words layouts.Bindings = codes " (a name and a value in turn, and a last 
 layout_words _ = []
 
 abbrev pub arity_sentence : OperatorRow → ℕ → List ℕ
-arity_sentence r found = words (r.text ∷ codes " takes " ∷ arity_words r.arity ∷ layout_words r.layout ∷ codes ", found " ∷ decimal found ∷ [])
+arity_sentence r found =
+    words (r.text ∷ codes " takes " ∷ arity_words r.arity ∷ layout_words r.layout ∷ codes ", found " ∷
+    decimal found ∷ [])
 
 -- ---- what the parts of an operator are
 
 abbrev pub part_words : ElementLayout → List ℕ
-part_words layouts.Items = codes "the items are \"string\", \"number\" or \"boolean\", and their count is a whole number"
+part_words layouts.Items =
+    codes "the items are \"string\", \"number\" or \"boolean\", and their count is a whole number"
 part_words layouts.Labels = codes "labels are texts or whole numbers, or arrays of these, and no label is given twice"
 part_words layouts.Stops = codes "the inputs of stops are numbers and must ascend"
-part_words layouts.Ramp = codes "the curve is [\"linear\"] or [\"exponential\", BASE], and the inputs of stops are numbers and must ascend"
+part_words layouts.Ramp =
+    codes "the curve is [\"linear\"] or [\"exponential\", BASE], and the inputs of stops are numbers and must ascend"
 part_words layouts.Bindings = codes "the names are texts of letters, digits and _"
 part_words layouts.Variable = codes "the name is a text"
 part_words layouts.Global = codes "the name is a text"
@@ -117,7 +122,8 @@ elements_of (list ts) = ts
 elements_of _ = no_trees
 
 abbrev pub read_sentence : SynCode → Trees → List ℕ
-read_sentence faults.NoOperator ts = codes "an expression begins with the name of an operator, and a list of values is written [\"literal\", [..]]"
+read_sentence faults.NoOperator ts =
+    codes "an expression begins with the name of an operator, and a list of values is written [\"literal\", [..]]"
 read_sentence faults.UnknownOperator ts = name_or_rule [] (head_text ts) (codes " is no operator")
 read_sentence faults.Arity ts = row_or_rule (head_name ts) (λ r. arity_sentence r (count_of ts - 1))
 read_sentence faults.Part ts = row_or_rule (head_name ts) part_sentence
@@ -134,14 +140,16 @@ is_argument _ = true
 -- how many of the first elements of n are arguments
 abbrev pub arguments_before : ElementLayout → (n : ℕ) → ℕ → ℕ
 arguments_before layout n zero = 0
-arguments_before layout n (suc i) = if is_argument (element_place layout n i) then suc (arguments_before layout n i) else arguments_before layout n i
+arguments_before layout n (suc i) =
+    if is_argument (element_place layout n i) then suc (arguments_before layout n i) else arguments_before layout n i
 
 abbrev pub handed_by : ElementLayout → Want → Want
 handed_by layouts.Ramp want = ramp_want want
 handed_by _ want = want
 
 abbrev pub element_want : OperatorRow → (n i : ℕ) → Want → Want
-element_want r n i want = want_of (wanted r.wants (arguments_before r.layout n n) (arguments_before r.layout n i)) (handed_by r.layout want)
+element_want r n i want =
+    want_of (wanted r.wants (arguments_before r.layout n n) (arguments_before r.layout n i)) (handed_by r.layout want)
 
 -- what a node is wanted as: fitted to a want, or a text or a list
 pub record WantedNode : Type 0 where
@@ -153,14 +161,17 @@ is_place (Some place) k = nat_eq k place
 is_place None k = false
 
 abbrev pub wanted_element : OperatorRow → (n i : ℕ) → Want → WantedNode
-wanted_element r n i want = record { want = element_want r n i want; is_sequence = is_place r.sequence (arguments_before r.layout n i) }
+wanted_element r n i want =
+    record { want = element_want r n i want; is_sequence = is_place r.sequence (arguments_before r.layout n i) }
 
 abbrev pub fitted_to : Want → WantedNode
 fitted_to want = record { want = want; is_sequence = false }
 
 -- an element of a node that is wanted as this, or an option of a `format`; nothing where it is neither
 abbrev pub wanted_child : PathPart → Tree → Want → Option WantedNode
-wanted_child (Index i) (list ts) want = if nat_lt i (count_of ts) then option_map (λ name. wanted_element (row name) (count_of ts) i want) (head_name ts) else None
+wanted_child (Index i) (list ts) want =
+    if nat_lt i (count_of ts) then option_map (λ name. wanted_element (row name) (count_of ts) i want)
+    (head_name ts) else None
 wanted_child (Key key) (object fs) want = option_map (λ role. fitted_to (role_want role)) (option_named key)
 wanted_child _ _ want = None
 
@@ -188,12 +199,14 @@ abbrev pub kind_alone : Tree → Option Kind
 kind_alone t = kind_read (reading t)
 
 abbrev pub kind_sentence : Option WantedNode → Option Kind → List ℕ
-kind_sentence (Some wanted) (Some kind) = words (codes "must be " ∷ wanted_words wanted ∷ codes ", found " ∷ kind_words kind ∷ [])
+kind_sentence (Some wanted) (Some kind) =
+    words (codes "must be " ∷ wanted_words wanted ∷ codes ", found " ∷ kind_words kind ∷ [])
 kind_sentence (Some wanted) None = words (codes "must be " ∷ wanted_words wanted ∷ [])
 kind_sentence None kind = breaks_rule
 
 unfoldable pub both_kinds : Tree → Kind → Kind → List ℕ
-both_kinds node j k = words (node_text node ∷ codes " cannot compare " ∷ kind_words j ∷ codes " with " ∷ kind_words k ∷ [])
+both_kinds node j k =
+    words (node_text node ∷ codes " cannot compare " ∷ kind_words j ∷ codes " with " ∷ kind_words k ∷ [])
 
 unfoldable pub no_kinds : Tree → List ℕ
 no_kinds node = words (node_text node ∷ codes " cannot compare values of these types" ∷ [])
@@ -212,7 +225,8 @@ compared_sentence node ts = compared_pair node (pair_of (after_head ts))
 
 abbrev pub typed_sentence : TypeCode → Option WantedNode → Tree → List ℕ
 typed_sentence codes_of_types.Kind wanted node = kind_sentence wanted (kind_alone node)
-typed_sentence codes_of_types.NotInterpolable wanted node = codes "only numbers, colors and arrays of numbers can be interpolated"
+typed_sentence codes_of_types.NotInterpolable wanted node =
+    codes "only numbers, colors and arrays of numbers can be interpolated"
 typed_sentence codes_of_types.NotComparable wanted node = compared_sentence node (elements_of node)
 typed_sentence _ wanted node = breaks_rule
 
@@ -235,7 +249,8 @@ check_sentence want t more node (Err fault) =
 abbrev pub fault_sentence : Want → Option RowData → Tree → List PathPart → (node : Tree) → Reading → List ℕ
 fault_sentence want row t more node (Ok (Some term)) = check_sentence want t more node (checked term want row)
 fault_sentence want row t more node (Ok None) = breaks_rule
-fault_sentence want row t more node (Err fault) = coded (read_sentence fault.code (elements_of node)) (read_name fault.code)
+fault_sentence want row t more node (Err fault) =
+    coded (read_sentence fault.code (elements_of node)) (read_name fault.code)
 
 abbrev pub expression_sentence : Want → Option RowData → Tree → List PathPart → List ℕ
 expression_sentence want row t more = in_node (node_at more t) (λ node. fault_sentence want row t more node (reading t))
@@ -248,4 +263,5 @@ input_sentence row node = words (codes "may read " ∷ allowed_words row ∷ cod
 -- ---- V18
 
 abbrev pub zoom_sentence : List ℕ
-zoom_sentence = codes "[\"zoom\"] is the input of a \"step\" or \"interpolate\" that is the whole value, and is there once"
+zoom_sentence =
+    codes "[\"zoom\"] is the input of a \"step\" or \"interpolate\" that is the whole value, and is there once"

@@ -1,5 +1,6 @@
 -- Why a legacy filter does not have its form, V20, at the part where it has not. Source: own.
-use Rattle.std.specs.Prelude.{ℕ, List, [], ◌∷◌, codes, nat_eq, Bool, true, false, not, ◌&&◌, ◌||◌, Option, Some, None, is_some, if◌then◌else◌}
+use Rattle.std.specs.Prelude.{ℕ, List, [], ◌∷◌, codes, nat_eq, Bool, true, false, not, ◌&&◌, ◌||◌, Option, Some, None}
+use Rattle.std.specs.Prelude.{is_some, if◌then◌else◌}
 use Rattle.std.specs.Str.{bytes_eq}
 use Rattle.decimal_json.specs.JsonText.{text_json}
 use Rattle.decimal_json.specs.Tree.{Tree, boolean, number, text, list, Trees, no_trees, tree}
@@ -62,7 +63,9 @@ abbrev pub is_value : List ℕ → Tree → Bool
 is_value key t = if is_shape_key key then is_named_shape t else is_scalar t
 
 abbrev pub value_words : List ℕ → List ℕ
-value_words key = if is_shape_key key then words (codes "one of " ∷ texts_listed shapes ∷ []) else codes "a text, a number, true or false"
+value_words key =
+    if is_shape_key key then words (codes "one of " ∷ texts_listed shapes ∷ []) else
+    codes "a text, a number, true or false"
 
 -- the first of these that is no value
 abbrev pub first_other : List ℕ → Trees → Option Tree
@@ -70,23 +73,28 @@ first_other key no_trees = None
 first_other key (tree t ts) = if is_value key t then first_other key ts else Some t
 
 abbrev pub other_or_rule : (name key : List ℕ) → Option Tree → List ℕ
-other_or_rule name key (Some t) = words (codes "a value of " ∷ text_json name ∷ codes " " ∷ unlike (value_words key) t ∷ [])
+other_or_rule name key (Some t) =
+    words (codes "a value of " ∷ text_json name ∷ codes " " ∷ unlike (value_words key) t ∷ [])
 other_or_rule name key None = breaks_rule
 
 unfoldable pub takes_sentence : (name : List ℕ) → (wanted : List ℕ) → ℕ → List ℕ
-takes_sentence name wanted found = words (text_json name ∷ codes " takes " ∷ wanted ∷ codes ", found a key and " ∷ counted found (codes "value") (codes "values") ∷ [])
+takes_sentence name wanted found =
+    words (text_json name ∷ codes " takes " ∷ wanted ∷ codes ", found a key and " ∷
+    counted found (codes "value") (codes "values") ∷ [])
 
 -- by the elements after the key
 abbrev pub keyed_sentence : (name key : List ℕ) → Trees → List ℕ
 keyed_sentence name key ts =
     if is_key_test name then takes_sentence name (codes "a key alone") (count_of ts) else
-    if is_value_test name && not (nat_eq (count_of ts) 1) then takes_sentence name (codes "a key and one value") (count_of ts) else
+    if is_value_test name && not (nat_eq (count_of ts) 1)
+    then takes_sentence name (codes "a key and one value") (count_of ts) else
     if is_order name && is_shape_key key then codes "\"$type\" has no order" else
     other_or_rule name key (first_other key ts)
 
 abbrev pub test_sentence : (name : List ℕ) → Trees → List ℕ
 test_sentence name (tree (text key) ts) = keyed_sentence name key ts
-test_sentence name (tree t ts) = words (codes "the key of " ∷ text_json name ∷ codes " " ∷ unlike (codes "a text in a legacy filter") t ∷ [])
+test_sentence name (tree t ts) =
+    words (codes "the key of " ∷ text_json name ∷ codes " " ∷ unlike (codes "a text in a legacy filter") t ∷ [])
 test_sentence name no_trees = words (text_json name ∷ codes " needs a key" ∷ [])
 
 abbrev pub is_test : List ℕ → Bool

@@ -1,5 +1,6 @@
 -- Why an object is no legacy function of its property, V19, or reads what it may not, V17. Source: own.
-use Rattle.std.specs.Prelude.{ℕ, ◌+◌, List, [], ◌∷◌, codes, decimal, Bool, true, false, not, ◌&&◌, ◌||◌, Option, Some, None, is_some, is_none, if◌then◌else◌}
+use Rattle.std.specs.Prelude.{ℕ, ◌+◌, List, [], ◌∷◌, codes, decimal, Bool, true, false, not, ◌&&◌, ◌||◌, Option, Some}
+use Rattle.std.specs.Prelude.{None, is_some, is_none, if◌then◌else◌}
 use Rattle.std.specs.Str.{bytes_eq}
 use Rattle.decimal_json.specs.Accessors.{is_text}
 use Rattle.decimal_json.specs.JsonText.{text_json}
@@ -16,7 +17,8 @@ use Rattle.finding_sentences.specs.Pairs.{pair_of}
 -- ---- what each member has to be
 
 abbrev pub member_names : List (List ℕ)
-member_names = codes "stops" ∷ codes "property" ∷ codes "base" ∷ codes "type" ∷ codes "default" ∷ codes "colorSpace" ∷ []
+member_names = codes "stops" ∷ codes "property" ∷ codes "base" ∷ codes "type" ∷ codes "default" ∷
+    codes "colorSpace" ∷ []
 
 abbrev pub type_names : List (List ℕ)
 type_names = codes "exponential" ∷ codes "interval" ∷ codes "categorical" ∷ codes "identity" ∷ []
@@ -75,7 +77,8 @@ is_zoomed_by any _ _ = false
 
 -- with a zoom it is an object of exactly these two
 unfoldable pub is_placed_input : Bool → Tree → Bool
-is_placed_input any (object fs) = has_two_members fs && is_zoomed_by any (field_at (codes "zoom") fs) (field_at (codes "value") fs)
+is_placed_input any (object fs) =
+    has_two_members fs && is_zoomed_by any (field_at (codes "zoom") fs) (field_at (codes "value") fs)
 is_placed_input any t = is_input any t
 
 abbrev pub placed_words : Bool → Tree → List ℕ
@@ -95,7 +98,8 @@ abbrev pub is_stop : RowData → Bool → Tree → Bool
 is_stop row any t = is_pair row any (pair_in t)
 
 unfoldable pub stop_part : (i : ℕ) → (part wanted : List ℕ) → Tree → List ℕ
-stop_part i part wanted t = words (codes "\"stops\": the " ∷ part ∷ codes " of stop " ∷ decimal i ∷ codes " " ∷ unlike wanted t ∷ [])
+stop_part i part wanted t =
+    words (codes "\"stops\": the " ∷ part ∷ codes " of stop " ∷ decimal i ∷ codes " " ∷ unlike wanted t ∷ [])
 
 -- of a stop at a place, counted from 0, that is none
 abbrev pub pair_sentence : RowData → Bool → (i : ℕ) → (input output : Tree) → List ℕ
@@ -116,7 +120,8 @@ stop_sentence row any i t = pair_or row any i t (pair_in t)
 -- the sentence of the first that is none
 abbrev pub stops_fault : RowData → Bool → (i : ℕ) → Trees → Option (List ℕ)
 stops_fault row any i no_trees = None
-stops_fault row any i (tree t ts) = if is_stop row any t then stops_fault row any (i + 1) ts else Some (stop_sentence row any i t)
+stops_fault row any i (tree t ts) =
+    if is_stop row any t then stops_fault row any (i + 1) ts else Some (stop_sentence row any i t)
 
 -- a stop whose input is an object has a zoom
 abbrev pub has_zoom : Tree → Bool
@@ -167,18 +172,27 @@ identity_sentence = codes "an \"identity\" function has no \"stops\""
 
 abbrev pub kind_sentence : RowData → Fields → List ℕ
 kind_sentence row fs =
-    if is_type (codes "exponential") (field_at (codes "type") fs) && not row.reads.ramps then codes "\"type\" is \"exponential\", and this property does not ramp: \"interval\" does" else
-    if is_type (codes "categorical") (field_at (codes "type") fs) && is_none (field_at (codes "property") fs) then lacks (codes "property") else
-    if is_type (codes "identity") (field_at (codes "type") fs) && is_none (field_at (codes "property") fs) then lacks (codes "property") else
+    if is_type (codes "exponential") (field_at (codes "type") fs) && not row.reads.ramps
+    then codes "\"type\" is \"exponential\", and this property does not ramp: \"interval\" does" else
+    if is_type (codes "categorical") (field_at (codes "type") fs) && is_none (field_at (codes "property") fs)
+    then lacks (codes "property") else
+    if is_type (codes "identity") (field_at (codes "type") fs) && is_none (field_at (codes "property") fs)
+    then lacks (codes "property") else
     if is_type (codes "identity") (field_at (codes "type") fs) then identity_sentence else
-    stops_sentence row (is_type (codes "categorical") (field_at (codes "type") fs)) (is_some (field_at (codes "property") fs)) (field_at (codes "stops") fs)
+    stops_sentence row (is_type (codes "categorical") (field_at (codes "type") fs))
+    (is_some (field_at (codes "property") fs)) (field_at (codes "stops") fs)
 
 abbrev pub known_sentence : RowData → Fields → List ℕ
 known_sentence row fs =
-    if is_unlike is_type_name (field_at (codes "type") fs) then of_member (codes "type") (words (codes "one of " ∷ texts_listed type_names ∷ [])) (field_at (codes "type") fs) else
-    if is_unlike is_number (field_at (codes "base") fs) then of_member (codes "base") (codes "a number") (field_at (codes "base") fs) else
-    if is_unlike is_text (field_at (codes "property") fs) then of_member (codes "property") (codes "a text") (field_at (codes "property") fs) else
-    if is_unlike (is_output row) (field_at (codes "default") fs) then default_sentence row (field_at (codes "default") fs) else
+    if is_unlike is_type_name (field_at (codes "type") fs)
+    then of_member (codes "type") (words (codes "one of " ∷ texts_listed type_names ∷ []))
+    (field_at (codes "type") fs) else
+    if is_unlike is_number (field_at (codes "base") fs)
+    then of_member (codes "base") (codes "a number") (field_at (codes "base") fs) else
+    if is_unlike is_text (field_at (codes "property") fs)
+    then of_member (codes "property") (codes "a text") (field_at (codes "property") fs) else
+    if is_unlike (is_output row) (field_at (codes "default") fs)
+    then default_sentence row (field_at (codes "default") fs) else
     kind_sentence row fs
 
 unfoldable pub no_member : List ℕ → List ℕ

@@ -1,5 +1,6 @@
 -- What may go wrong in an evaluation, and what is to be written so that it cannot. Source: own.
-use Rattle.std.specs.Prelude.{ℕ, zero, suc, ◌+◌, List, [], ◌∷◌, flat_map, codes, Bool, ◌||◌, Option, Some, None, is_some, if◌then◌else◌}
+use Rattle.std.specs.Prelude.{ℕ, zero, suc, ◌+◌, List, [], ◌∷◌, flat_map, codes, Bool, ◌||◌, Option, Some, None}
+use Rattle.std.specs.Prelude.{is_some, if◌then◌else◌}
 use Rattle.std.specs.Option.{option_and_then}
 use Rattle.color_values.specs.ColorOf.{color_of}
 use Rattle.decimal_json.specs.Accessors.{member}
@@ -11,7 +12,9 @@ use Rattle.prop_values.specs.Choices.{choice_holds, texts_of}
 use Rattle.prop_values.specs.declared.choice.Choice.{Choice}
 use Rattle.prop_values.specs.Faults.{holds}
 use Rattle.prop_values.specs.declared.fault.EvalFault.{EvalFault}
-use Rattle.prop_values.specs.declared.fault.EvalFault.TheVariants.{WrongType, NotColor, NotNumberText, IndexOutside, IndexNotWhole, DivideByZero, Overflow, ColorRange, NotOrdered, NotInEnum}
+use Rattle.prop_values.specs.declared.fault.EvalFault.TheVariants.{WrongType, NotColor, NotNumberText, IndexOutside}
+use Rattle.prop_values.specs.declared.fault.EvalFault.TheVariants.{IndexNotWhole, DivideByZero, Overflow, ColorRange}
+use Rattle.prop_values.specs.declared.fault.EvalFault.TheVariants.{NotOrdered, NotInEnum}
 use Rattle.prop_values.specs.declared.fault.FaultSet.{FaultSet}
 use Rattle.prop_values.specs.declared.kinds.Want.{Want}
 use Rattle.prop_values.specs.declared.kinds.Want.TheVariants as wants
@@ -54,11 +57,13 @@ abbrev pub in_elements : OperatorRow → (n m i k : ℕ) → List Search → Wan
 in_elements r n m i k [] want = None
 in_elements r n m i k (search ∷ searches) want =
     if is_argument (element_place r.layout n i)
-    then first_or (search (want_of (wanted r.wants m k) (handed_by r.layout want))) (in_elements r n m (i + 1) (k + 1) searches want)
+    then first_or (search (want_of (wanted r.wants m k) (handed_by r.layout want)))
+    (in_elements r n m (i + 1) (k + 1) searches want)
     else in_elements r n m (i + 1) k searches want
 
 abbrev pub in_node : Option Name → (n : ℕ) → List Search → Search
-in_node (Some name) n searches want = in_elements (row name) n (arguments_before (row name).layout n n) 0 0 searches want
+in_node (Some name) n searches want =
+    in_elements (row name) n (arguments_before (row name).layout n n) 0 0 searches want
 in_node None n searches want = None
 
 abbrev mutual
@@ -85,7 +90,8 @@ in_place (Some type) (Some place) name t = in_row (row_of type place name) t
 in_place _ _ name t = None
 
 abbrev pub in_layer : (key name : List ℕ) → Option Tree → Option (List ℕ)
-in_layer key name (Some layer) = in_place (layer_type layer) (place_named key) name (option_and_then (member name) (member key layer))
+in_layer key name (Some layer) =
+    in_place (layer_type layer) (place_named key) name (option_and_then (member name) (member key layer))
 in_layer key name None = None
 
 abbrev pub misspelled_at : Tree → List PathPart → Option (List ℕ)
@@ -103,7 +109,8 @@ fault_sentence IndexNotWhole = codes "an index may have a fraction: [\"floor\", 
 fault_sentence DivideByZero = codes "a divisor may be 0"
 fault_sentence Overflow = codes "a number may be past 100000000000000000000"
 fault_sentence ColorRange = codes "a part of a color may be out of its range"
-fault_sentence NotOrdered = codes "values that have no order may be compared: [\"number\", X, 0] or [\"string\", X, \"\"] has one"
+fault_sentence NotOrdered =
+    codes "values that have no order may be compared: [\"number\", X, 0] or [\"string\", X, \"\"] has one"
 fault_sentence NotInEnum = codes "a text may be none that the property takes: the outputs of a \"match\" are known"
 
 -- of each fault in the set, in order of number
@@ -120,4 +127,5 @@ opening_of texts document path = if texts then opening (misspelled_at document p
 
 abbrev pub may_sentence : Tree → List PathPart → FaultSet → List ℕ
 may_sentence document path faults =
-    words (opening_of (holds faults NotColor || holds faults NotInEnum) document path ∷ flat_map (fault_part faults) every_fault ∷ [])
+    words (opening_of (holds faults NotColor || holds faults NotInEnum) document path ∷
+    flat_map (fault_part faults) every_fault ∷ [])

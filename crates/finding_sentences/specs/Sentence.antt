@@ -1,6 +1,7 @@
--- The sentence of a finding, read off its place and its rule: what is wanted there, and what was found. The cause is found again from
--- the document. Source: own.
-use Rattle.std.specs.Prelude.{ℕ, List, [], ◌∷◌, codes, decimal, nat_eq, Bool, not, Option, Some, None, is_some, option_map, if◌then◌else◌}
+-- The sentence of a finding, read off its place and its rule: what is wanted there, and what was found. The cause is
+-- found again from the document. Source: own.
+use Rattle.std.specs.Prelude.{ℕ, List, [], ◌∷◌, codes, decimal, nat_eq, Bool, not, Option, Some, None, is_some}
+use Rattle.std.specs.Prelude.{option_map, if◌then◌else◌}
 use Rattle.std.specs.Option.{option_and_then}
 use Rattle.std.specs.Str.{bytes_eq}
 use Rattle.decimal_json.specs.Accessors.{fields_in, has, is_object, member, text_in}
@@ -18,12 +19,14 @@ use Rattle.style_parts.specs.Parts.{layer_at, layers_of, source_at}
 use Rattle.style_rules.specs.LayerContext.{source_types}
 use Rattle.style_rules.specs.Rules.{count_of, sources_of_type}
 use Rattle.value_forms.specs.LayerTypes.{layer_type, place_named}
-use Rattle.finding_sentences.specs.ExpressionSentence.{expression_sentence, in_node, input_sentence, node_at, zoom_sentence}
+use Rattle.finding_sentences.specs.ExpressionSentence.{expression_sentence, in_node, input_sentence, node_at}
+use Rattle.finding_sentences.specs.ExpressionSentence.{zoom_sentence}
 use Rattle.finding_sentences.specs.FilterSentence.{part_sentence}
 use Rattle.finding_sentences.specs.FunctionSentence.{function_input, function_sentence}
 use Rattle.finding_sentences.specs.LiteralSentence.{literal_sentence}
 use Rattle.finding_sentences.specs.Wanted.{texts_listed}
-use Rattle.finding_sentences.specs.Words.{breaks_rule, counted, found_text, lacks, member_unlike, past_bound, unlike, words}
+use Rattle.finding_sentences.specs.Words.{breaks_rule, counted, found_text, lacks, member_unlike, past_bound, unlike}
+use Rattle.finding_sentences.specs.Words.{words}
 
 -- ---- the root
 
@@ -64,7 +67,8 @@ type_or_lacks wanted (Some t) = member_unlike (codes "type") wanted t
 type_or_lacks wanted None = lacks (codes "type")
 
 abbrev pub source_sentence : Tree → List ℕ
-source_sentence t = if is_object t then type_or_lacks source_types_words (member (codes "type") t) else unlike (codes "an object") t
+source_sentence t =
+    if is_object t then type_or_lacks source_types_words (member (codes "type") t) else unlike (codes "an object") t
 
 abbrev pub global_sentence : Tree → List ℕ
 global_sentence t =
@@ -169,7 +173,8 @@ is_property type place name = is_some (row_of type place name)
 -- a name that no row has there
 abbrev pub unknown_sentence : LayerType → Place → (name : List ℕ) → List ℕ
 unknown_sentence type place name = words (
-    text_json name ∷ codes " is no property of the " ∷ place_name place ∷ codes " of a layer of type " ∷ type_name type ∷
+    text_json name ∷ codes " is no property of the " ∷ place_name place ∷ codes " of a layer of type " ∷
+    type_name type ∷
     other_hint (is_property type (other_place place) name) (other_place place) ∷ [])
 
 abbrev pub row_input : RowData → Tree → List PathPart → List ℕ
@@ -199,7 +204,8 @@ property_sentence rule type place name t more =
     if nat_eq rule 14 then unknown_sentence type place name else
     row_sentence rule (option_map (λ (found : ℕ × RowData). found.1) (row_of type place name)) t more
 
-abbrev pub placed_sentence : ℕ → Option LayerType → Option Place → (name : List ℕ) → Option Tree → List PathPart → List ℕ
+abbrev pub placed_sentence : ℕ → Option LayerType → Option Place → (name : List ℕ) → Option Tree →
+    List PathPart → List ℕ
 placed_sentence rule (Some type) (Some place) name (Some t) more = property_sentence rule type place name t more
 placed_sentence rule _ _ name _ more = breaks_rule
 
@@ -223,8 +229,10 @@ layer_part_sentence rule document (Index i ∷ more) layer = breaks_rule
 abbrev pub sentence : Tree → List PathPart → ℕ → List ℕ
 sentence document [] rule = root_sentence rule document
 sentence document (Key k ∷ []) rule = in_node (member k document) (member_sentence rule)
-sentence document (Key k ∷ Key name ∷ more) rule = in_node (option_and_then (member name) (member k document)) (named_sentence rule)
-sentence document (Key k ∷ Index i ∷ more) rule = in_node (layer_at i (layers_of document)) (layer_part_sentence rule document more)
+sentence document (Key k ∷ Key name ∷ more) rule =
+    in_node (option_and_then (member name) (member k document)) (named_sentence rule)
+sentence document (Key k ∷ Index i ∷ more) rule =
+    in_node (layer_at i (layers_of document)) (layer_part_sentence rule document more)
 sentence document (Index i ∷ more) rule = breaks_rule
 
 -- with the rule after it; of V16 the sentence has the code too

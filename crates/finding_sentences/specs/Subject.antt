@@ -1,4 +1,5 @@
--- What a line is about: the layer by its id, or by its place from 0 where it has none, and the property or member. Source: own.
+-- What a line is about: the layer by its id, or by its place from 0 where it has none, and the property or member.
+-- Source: own.
 use Rattle.std.specs.Prelude.{ℕ, List, [], ◌∷◌, codes, decimal, Option, Some, None}
 use Rattle.std.specs.Option.{option_and_then}
 use Rattle.decimal_json.specs.Accessors.{text_at}
@@ -14,7 +15,9 @@ id_or_place i (Some id) = shown_text id
 id_or_place i None = decimal i
 
 abbrev pub layer_words : Tree → ℕ → List ℕ
-layer_words document i = words (codes "layer " ∷ id_or_place i (option_and_then (text_at (codes "id")) (layer_at i (layers_of document))) ∷ [])
+layer_words document i =
+    words (codes "layer " ∷ id_or_place i
+    (option_and_then (text_at (codes "id")) (layer_at i (layers_of document))) ∷ [])
 
 -- of the members of a layer `layout` and `paint` are not named, but the property in them is
 abbrev pub member_words : List PathPart → List ℕ

@@ -1,4 +1,5 @@
--- Why bytes are no JSON text, by the kind of the fault and the bytes from its place on. Source: RFC 8259; the sentences own.
+-- Why bytes are no JSON text, by the kind of the fault and the bytes from its place on. Source: RFC 8259; the sentences
+-- own.
 use Rattle.std.specs.Prelude.{ℕ, List, [], ◌∷◌, codes, nat_eq, Bool, false, ◌&&◌, ◌||◌, if◌then◌else◌}
 use Rattle.json_tokens.specs.declared.kind.JsonKind.{JsonKind}
 use Rattle.json_tokens.specs.declared.kind.JsonKind.TheVariants as kinds
@@ -19,7 +20,8 @@ byte_sentence c =
 
 abbrev pub syntax_sentence : List ℕ → List ℕ
 syntax_sentence [] = codes "the text ends before the value does"
-syntax_sentence (c ∷ rest) = if has_mark (c ∷ rest) then codes "there is a byte order mark, which JSON does not have" else byte_sentence c
+syntax_sentence (c ∷ rest) =
+    if has_mark (c ∷ rest) then codes "there is a byte order mark, which JSON does not have" else byte_sentence c
 
 abbrev pub text_sentence : JsonKind → (rest : List ℕ) → List ℕ
 text_sentence kinds.Syntax rest = syntax_sentence rest

@@ -1,5 +1,6 @@
 -- What a property or an argument takes, in words. Source: own.
-use Rattle.std.specs.Prelude.{ℕ, ℤ, List, [], ◌∷◌, ◌++◌, codes, decimal, Bool, true, false, Option, Some, None, if◌then◌else◌}
+use Rattle.std.specs.Prelude.{ℕ, ℤ, List, [], ◌∷◌, ◌++◌, codes, decimal, Bool, true, false, Option, Some, None}
+use Rattle.std.specs.Prelude.{if◌then◌else◌}
 use Rattle.fixed_num.specs.NumberText.{number_text}
 use Rattle.decimal_json.specs.JsonText.{text_json}
 use Rattle.prop_values.specs.Choices.{texts_of}

@@ -1,5 +1,6 @@
 -- The words of which sentences are made. Source: own.
-use Rattle.std.specs.Prelude.{ℕ, List, [], ◌∷◌, ◌++◌, length, codes, decimal, nat_eq, nat_le, Bool, true, false, ◌&&◌, ◌||◌, if◌then◌else◌}
+use Rattle.std.specs.Prelude.{ℕ, List, [], ◌∷◌, ◌++◌, length, codes, decimal, nat_eq, nat_le, Bool, true, false, ◌&&◌}
+use Rattle.std.specs.Prelude.{◌||◌, if◌then◌else◌}
 use Rattle.std.specs.List.{list_all, list_any}
 use Rattle.std.specs.Str.{bytes_eq}
 use Rattle.decimal_json.specs.JsonText.{text_json}
@@ -15,14 +16,16 @@ words (w ∷ ws) = w ++ words ws
 abbrev pub is_one_of : List (List ℕ) → List ℕ → Bool
 is_one_of names name = list_any (bytes_eq name) names
 
--- A text as a JSON string, or its length where it is long: the id of a layer is on each of its lines, and the type of a source on those
--- of its layers.
+-- A text as a JSON string, or its length where it is long: the id of a layer is on each of its lines, and the type of a
+-- source on those of its layers.
 abbrev pub shown_text : List ℕ → List ℕ
-shown_text s = if nat_le (length s) 200 then text_json s else words (codes "a text of " ∷ decimal (length s) ∷ codes " bytes" ∷ [])
+shown_text s = if nat_le (length s) 200 then text_json s else
+    words (codes "a text of " ∷ decimal (length s) ∷ codes " bytes" ∷ [])
 
 -- a letter, a digit, `-` or `_`
 abbrev pub is_plain : ℕ → Bool
-is_plain c = (nat_le 97 c && nat_le c 122) || ((nat_le 65 c && nat_le c 90) || ((nat_le 48 c && nat_le c 57) || (nat_eq c 45 || nat_eq c 95)))
+is_plain c = (nat_le 97 c && nat_le c 122)
+    || ((nat_le 65 c && nat_le c 90) || ((nat_le 48 c && nat_le c 57) || (nat_eq c 45 || nat_eq c 95)))
 
 -- a name as it is where it has plain characters alone, and as a JSON string where it has others or none
 abbrev pub name_text : List ℕ → List ℕ

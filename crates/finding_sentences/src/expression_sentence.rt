@@ -4,7 +4,13 @@ ghost use Rattle.std.specs.Prelude.{◌≡◌, ◌++◌, option_map, OnOk, IfOk,
 ghost use Rattle.decimal_json.specs.View.{tree_at, tree_of, trees};
 ghost use Rattle.property_tables.specs.RowView.{row_seen};
 ghost use Rattle.expr_syntax.specs.ReadView.{row_view};
-ghost use Rattle.finding_sentences.specs.ExpressionSentence.{both_kinds, even_arguments, no_kinds, odd_arguments, arity_sentence, arity_words, compared_sentence, elements_of, expression_sentence, input_sentence, kind_alone, kind_sentence, layout_words, part_sentence, part_words, read_sentence, typed_sentence, zoom_sentence, between_words, check_sentence, compared_kinds, name_or_rule, node_at};
+ghost use Rattle.finding_sentences.specs.ExpressionSentence.{both_kinds, even_arguments, no_kinds, odd_arguments};
+ghost use Rattle.finding_sentences.specs.ExpressionSentence.{arity_sentence, arity_words, compared_sentence};
+ghost use Rattle.finding_sentences.specs.ExpressionSentence.{elements_of, expression_sentence, input_sentence};
+ghost use Rattle.finding_sentences.specs.ExpressionSentence.{kind_alone, kind_sentence, layout_words, part_sentence};
+ghost use Rattle.finding_sentences.specs.ExpressionSentence.{part_words, read_sentence, typed_sentence, zoom_sentence};
+ghost use Rattle.finding_sentences.specs.ExpressionSentence.{between_words, check_sentence, compared_kinds};
+ghost use Rattle.finding_sentences.specs.ExpressionSentence.{name_or_rule, node_at};
 ghost use Rattle.decimal_json.specs.Tree.{Tree};
 ghost use Rattle.expr_syntax.specs.Elements.{after_head, head_name, head_text, second, second_text};
 ghost use Rattle.expr_syntax.specs.TermView.{term_of};
@@ -42,7 +48,9 @@ pub(crate) fn write_expression(
     more: &[PathPart],
     out: &mut Vec<u8>,
 ) -> Result<(), AllocError>
-    ensures { OnOk result (out.new.items ≡ out.old.items ++ expression_sentence value.now.want.now (option_map (λ r. row_seen r.now) value.now.row) (tree_of value.now.json.now) more.now) }
+    ensures { OnOk result (out.new.items
+        ≡ out.old.items ++ expression_sentence value.now.want.now (option_map (λ r. row_seen r.now) value.now.row)
+        (tree_of value.now.json.now) more.now) }
 {
     let Some(node) = node_at(value.json, more) else {
         return out.extend_from_slice(BREAKS_RULE);
@@ -176,7 +184,8 @@ fn write_name_or_rule(
     after: &[u8],
     out: &mut Vec<u8>,
 ) -> Result<(), AllocError>
-    ensures { OnOk result (out.new.items ≡ out.old.items ++ name_or_rule before.now (option_map (λ name. name.now) name.entry) after.now) }
+    ensures { OnOk result (out.new.items
+        ≡ out.old.items ++ name_or_rule before.now (option_map (λ name. name.now) name.entry) after.now) }
 {
     let Some(name) = name else {
         return out.extend_from_slice(BREAKS_RULE);
@@ -318,7 +327,8 @@ fn write_typed(
     node: &Json,
     out: &mut Vec<u8>,
 ) -> Result<(), AllocError>
-    ensures { OnOk result (out.new.items ≡ out.old.items ++ typed_sentence code (option_map wanted_seen wanted) (tree_of node.now)) }
+    ensures { OnOk result (out.new.items
+        ≡ out.old.items ++ typed_sentence code (option_map wanted_seen wanted) (tree_of node.now)) }
 {
     match code {
         TypeCode::Kind => write_misfit(wanted, node, out),
@@ -335,7 +345,8 @@ fn write_misfit(
     node: &Json,
     out: &mut Vec<u8>,
 ) -> Result<(), AllocError>
-    ensures { OnOk result (out.new.items ≡ out.old.items ++ kind_sentence (option_map wanted_seen wanted) (kind_alone (tree_of node.now))) }
+    ensures { OnOk result (out.new.items
+        ≡ out.old.items ++ kind_sentence (option_map wanted_seen wanted) (kind_alone (tree_of node.now))) }
 {
     let Some(wanted) = wanted else {
         return out.extend_from_slice(BREAKS_RULE);
@@ -350,7 +361,8 @@ fn write_misfit(
 }
 
 fn write_compared(node: &Json, out: &mut Vec<u8>) -> Result<(), AllocError>
-    ensures { OnOk result (out.new.items ≡ out.old.items ++ compared_sentence (tree_of node.now) (elements_of (tree_of node.now))) }
+    ensures { OnOk result (out.new.items
+        ≡ out.old.items ++ compared_sentence (tree_of node.now) (elements_of (tree_of node.now))) }
 {
     let (first, second) = compared_kinds(*out.allocator(), elements_of(node))?;
     match (first, second) {
@@ -382,7 +394,8 @@ fn write_neither(node: &Json, out: &mut Vec<u8>) -> Result<(), AllocError>
 
 // The kinds of the two arguments, where there are two.
 fn compared_kinds(alloc: Global, items: &[Json]) -> Result<(Option<Kind>, Option<Kind>), AllocError>
-    ensures { IfOk result (λ kinds. (node : Tree) → compared_kinds node kinds.0 kinds.1 ≡ compared_sentence node (trees items.now)) }
+    ensures { IfOk result
+        (λ kinds. (node : Tree) → compared_kinds node kinds.0 kinds.1 ≡ compared_sentence node (trees items.now)) }
 {
     match pair_after(items) {
         Some((first, second)) => Ok((kind_alone(alloc, first)?, kind_alone(alloc, second)?)),
@@ -427,7 +440,8 @@ pub(crate) fn write_input(
     node: &Json,
     out: &mut Vec<u8>,
 ) -> Result<(), AllocError>
-    ensures { OnOk result (out.new.items ≡ out.old.items ++ input_sentence (option_map (λ r. row_seen r.now) row.entry) (tree_of node.now)) }
+    ensures { OnOk result (out.new.items
+        ≡ out.old.items ++ input_sentence (option_map (λ r. row_seen r.now) row.entry) (tree_of node.now)) }
 {
     out.extend_from_slice(b"may read ")?;
     out.extend_from_slice(allowed_words(row).as_bytes())?;

@@ -2,7 +2,11 @@
 
 ghost use Rattle.std.specs.Prelude.{◌≡◌, ◌++◌, Some, OnOk};
 ghost use Rattle.decimal_json.specs.View.{tree_at, tree_of, trees};
-ghost use Rattle.finding_sentences.specs.FilterSentence.{first_other, headed_sentence, is_group, is_key_test, is_list_test, is_named_shape, is_order, is_scalar, is_shape_key, is_value, is_value_test, keyed_sentence, no_filter, other_or_rule, named_sentence, part_sentence, takes_sentence, test_sentence, value_words};
+ghost use Rattle.finding_sentences.specs.FilterSentence.{first_other, headed_sentence, is_group, is_key_test};
+ghost use Rattle.finding_sentences.specs.FilterSentence.{is_list_test, is_named_shape, is_order, is_scalar};
+ghost use Rattle.finding_sentences.specs.FilterSentence.{is_shape_key, is_value, is_value_test, keyed_sentence};
+ghost use Rattle.finding_sentences.specs.FilterSentence.{no_filter, other_or_rule, named_sentence, part_sentence};
+ghost use Rattle.finding_sentences.specs.FilterSentence.{takes_sentence, test_sentence, value_words};
 ghost use Rattle.decimal_json.specs.Tree.{list};
 ghost use Rattle.expr_syntax.specs.Elements.{head_text};
 
@@ -24,7 +28,8 @@ pub(crate) fn write_filter_part(part: &Json, out: &mut Vec<u8>) -> Result<(), Al
 
 fn write_array_part(items: &[Json], part: &Json, out: &mut Vec<u8>) -> Result<(), AllocError>
     requires { tree_of part.now ≡ list (trees items.now) }
-    ensures { OnOk result (out.new.items ≡ out.old.items ++ headed_sentence (head_text (trees items.now)) (trees items.now)) }
+    ensures { OnOk result (out.new.items
+        ≡ out.old.items ++ headed_sentence (head_text (trees items.now)) (trees items.now)) }
 {
     match items {
         [Json::Text(name), elements @ ..] => write_named(name.as_str(), elements, out),

@@ -4,7 +4,9 @@ ghost use Rattle.std.specs.Prelude.{◌≡◌, ◌++◌, option_map, OnOk, IfOk,
 ghost use Rattle.decimal_json.specs.Tree.{fields_of, field_at};
 ghost use Rattle.decimal_json.specs.View.{fields, tree_of};
 ghost use Rattle.property_tables.specs.RowView.{row_seen};
-ghost use Rattle.finding_sentences.specs.FunctionSentence.{no_member, row_unlike, function_input, function_sentence, is_number, is_output, is_type, is_type_name, kind_sentence, known_sentence, other_member, member_names};
+ghost use Rattle.finding_sentences.specs.FunctionSentence.{no_member, row_unlike, function_input, function_sentence};
+ghost use Rattle.finding_sentences.specs.FunctionSentence.{is_number, is_output, is_type, is_type_name, kind_sentence};
+ghost use Rattle.finding_sentences.specs.FunctionSentence.{known_sentence, other_member, member_names};
 ghost use Rattle.finding_sentences.specs.Words.{is_one_of, unlike};
 ghost use Rattle.finding_sentences.specs.Wanted.{row_words};
 
@@ -23,7 +25,8 @@ pub(crate) fn write_function(
     function: &Members,
     out: &mut Vec<u8>,
 ) -> Result<(), AllocError>
-    ensures { OnOk result (out.new.items ≡ out.old.items ++ function_sentence (row_seen row.now) (fields_of function.now)) }
+    ensures { OnOk result (out.new.items
+        ≡ out.old.items ++ function_sentence (row_seen row.now) (fields_of function.now)) }
 {
     match other_member(function.as_slice()) {
         Some(key) => write_no_member(key, out),
@@ -65,7 +68,8 @@ const TYPES: &[u8] = b"one of \"exponential\", \"interval\", \"categorical\", \"
 
 // Of a function whose members have known names.
 fn write_known(row: &Row, function: &Members, out: &mut Vec<u8>) -> Result<(), AllocError>
-    ensures { OnOk result (out.new.items ≡ out.old.items ++ known_sentence (row_seen row.now) (fields_of function.now)) }
+    ensures { OnOk result (out.new.items
+        ≡ out.old.items ++ known_sentence (row_seen row.now) (fields_of function.now)) }
 {
     if let Some(name) = function.get("type") {
         if !is_type_name(name) {
@@ -179,7 +183,8 @@ pub(crate) fn write_function_input(
     function: &Members,
     out: &mut Vec<u8>,
 ) -> Result<(), AllocError>
-    ensures { OnOk result (out.new.items ≡ out.old.items ++ function_input (row_seen row.now) (fields_of function.now)) }
+    ensures { OnOk result (out.new.items
+        ≡ out.old.items ++ function_input (row_seen row.now) (fields_of function.now)) }
 {
     out.extend_from_slice(b"may read ")?;
     out.extend_from_slice(allowed_words(Some(row)).as_bytes())?;

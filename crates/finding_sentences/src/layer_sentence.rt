@@ -7,7 +7,10 @@ ghost use Rattle.style_rules.specs.Rules.{sources_of_type};
 ghost use Rattle.value_forms.specs.LayerTypes.{layer_type};
 ghost use Rattle.finding_sentences.specs.Wanted.{texts_listed};
 ghost use Rattle.finding_sentences.specs.Words.{member_unlike, words};
-ghost use Rattle.finding_sentences.specs.Sentence.{source_type, global_sentence, layer_count, no_source, sources_wanted, unsuited, used_id, layer_member_sentence, layer_sentence, layers_sentence, member_sentence, named_sentence, root_sentence, source_name_sentence, source_sentence, suit_sentence};
+ghost use Rattle.finding_sentences.specs.Sentence.{source_type, global_sentence, layer_count, no_source};
+ghost use Rattle.finding_sentences.specs.Sentence.{sources_wanted, unsuited, used_id, layer_member_sentence};
+ghost use Rattle.finding_sentences.specs.Sentence.{layer_sentence, layers_sentence, member_sentence, named_sentence};
+ghost use Rattle.finding_sentences.specs.Sentence.{root_sentence, source_name_sentence, source_sentence, suit_sentence};
 
 use crate::pairs::count_of;
 use crate::words::{
@@ -143,7 +146,8 @@ pub(crate) fn write_layer_member(
     json: &Json,
     out: &mut Vec<u8>,
 ) -> Result<(), AllocError>
-    ensures { OnOk result (out.new.items ≡ out.old.items ++ layer_member_sentence rule (tree_of document.now) (tree_of layer.now) (tree_of json.now)) }
+    ensures { OnOk result (out.new.items
+        ≡ out.old.items ++ layer_member_sentence rule (tree_of document.now) (tree_of layer.now) (tree_of json.now)) }
 {
     match rule {
         7 => write_unlike(b"a text", json, out),
@@ -202,7 +206,9 @@ fn write_suit(
     name: &Json,
     out: &mut Vec<u8>,
 ) -> Result<(), AllocError>
-    ensures { OnOk result (out.new.items ≡ out.old.items ++ suit_sentence (layer_type (tree_of layer.now)) (source_type (tree_of document.now) (text_in (tree_of name.now)))) }
+    ensures { OnOk result (out.new.items
+        ≡ out.old.items ++ suit_sentence (layer_type (tree_of layer.now))
+        (source_type (tree_of document.now) (text_in (tree_of name.now)))) }
 {
     let source = name
         .as_text()
@@ -226,7 +232,8 @@ fn write_unsuited(layer_type: LayerType, source: &Json, out: &mut Vec<u8>) -> Re
 }
 
 fn write_type_unlike(wanted: &[u8], json: &Json, out: &mut Vec<u8>) -> Result<(), AllocError>
-    ensures { OnOk result (out.new.items ≡ out.old.items ++ member_unlike (codes "type") wanted.now (tree_of json.now)) }
+    ensures { OnOk result (out.new.items
+        ≡ out.old.items ++ member_unlike (codes "type") wanted.now (tree_of json.now)) }
 {
     write_member_unlike("type", wanted, json, out)
 }

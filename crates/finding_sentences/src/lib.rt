@@ -6,11 +6,11 @@
 //! write_sentence(&document, &path, 16, &mut out)?;  // get takes 1 or 2 arguments, found 0
 //! ```
 //!
-//! What is promised: each call appends exactly the text that `specs/` defines. The cause of a finding is found again from the document
-//! and the path, so a sentence takes the time of its value once more.
+//! What is promised: each call appends exactly the text that `specs/` defines. The cause of a finding is found again
+//! from the document and the path, so a sentence takes the time of its value once more.
 //!
-//! The text to believe is in `specs/`: `Words`, `Pairs`, `Wanted`, `Subject`, `LiteralSentence`, `ExpressionSentence`, `FunctionSentence`,
-//! `FilterSentence`, `MaySentence`, `TextSentence`, `Sentence`.
+//! The text to believe is in `specs/`: `Words`, `Pairs`, `Wanted`, `Subject`, `LiteralSentence`, `ExpressionSentence`,
+//! `FunctionSentence`, `FilterSentence`, `MaySentence`, `TextSentence`, `Sentence`.
 #![tactic(auto)]
 
 mod broken_text;

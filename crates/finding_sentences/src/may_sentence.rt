@@ -30,7 +30,9 @@ fn write_opening(
     faults: FaultSet,
     out: &mut Vec<u8>,
 ) -> Result<(), AllocError>
-    ensures { OnOk result (out.new.items ≡ out.old.items ++ opening_of (holds faults EvalFault.NotColor || holds faults EvalFault.NotInEnum) (tree_of document.now) path.now) }
+    ensures { OnOk result (out.new.items
+        ≡ out.old.items ++ opening_of (holds faults EvalFault.NotColor || holds faults EvalFault.NotInEnum)
+        (tree_of document.now) path.now) }
 {
     if faults.holds(EvalFault::NotColor) || faults.holds(EvalFault::NotInEnum) {
         if let Some(misspelled) = misspelled_at(document, path.as_slice()) {

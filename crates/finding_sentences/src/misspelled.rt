@@ -2,7 +2,8 @@
 
 ghost use Rattle.std.specs.Prelude.{◌≡◌, ◌++◌, option_map, OnOk, Some, length};
 ghost use Rattle.decimal_json.specs.View.{tree_at, tree_of, trees};
-ghost use Rattle.finding_sentences.specs.MaySentence.{in_layer, none_of, misspelled, misspelled_at, text_fault, in_elements, misspelled_each};
+ghost use Rattle.finding_sentences.specs.MaySentence.{in_layer, none_of, misspelled, misspelled_at, text_fault};
+ghost use Rattle.finding_sentences.specs.MaySentence.{in_elements, misspelled_each};
 ghost use Rattle.finding_sentences.specs.ExpressionSentence.{arguments_before};
 ghost use Rattle.finding_sentences.specs.Views.{misspelled_text};
 ghost use Rattle.expr_syntax.specs.ReadView.{row_view};
@@ -137,7 +138,8 @@ fn misspelled_element<'x>(
     want: &Want,
 ) -> Option<Misspelled<'x>>
     ensures { option_map misspelled_text result
-        ≡ in_elements (row_view row.now) (length items.now) (arguments_before row.now.layout (length items.now) (length items.now)) 0 0
+        ≡ in_elements (row_view row.now) (length items.now)
+        (arguments_before row.now.layout (length items.now) (length items.now)) 0 0
         (misspelled_each (trees items.now)) want.now }
 {
     let arguments = arguments_before(row.layout, items.len(), items.len());

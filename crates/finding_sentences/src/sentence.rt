@@ -1,7 +1,10 @@
 ghost use Rattle.std.specs.Prelude.{◌≡◌, ◌++◌, option_map, OnOk, Some};
 ghost use Rattle.decimal_json.specs.View.{tree_at, tree_of};
 ghost use Rattle.property_tables.specs.RowView.{row_seen};
-ghost use Rattle.finding_sentences.specs.Sentence.{filter_sentence, in_layer_sentence, is_property, layer_part_sentence, other_hint, place_hint, placed_sentence, property_sentence, marked_sentence, sentence, unknown_sentence, value_sentence, other_place, place_name};
+ghost use Rattle.finding_sentences.specs.Sentence.{filter_sentence, in_layer_sentence, is_property};
+ghost use Rattle.finding_sentences.specs.Sentence.{layer_part_sentence, other_hint, place_hint, placed_sentence};
+ghost use Rattle.finding_sentences.specs.Sentence.{property_sentence, marked_sentence, sentence, unknown_sentence};
+ghost use Rattle.finding_sentences.specs.Sentence.{value_sentence, other_place, place_name};
 ghost use Rattle.finding_sentences.specs.ExpressionSentence.{in_node, input_sentence, node_at};
 ghost use Rattle.value_forms.specs.LayerTypes.{layer_type, place_named};
 ghost use Rattle.decimal_json.specs.Accessors.{member};
@@ -20,7 +23,8 @@ use prop_values::Want;
 use property_tables::{LayerType, Place, Row, row};
 use std::alloc::AllocError;
 
-/// Appends the sentence of a finding, which is what is wanted at its place by its rule and what was found, and then the rule.
+/// Appends the sentence of a finding, which is what is wanted at its place by its rule and what was found, and then the
+/// rule.
 pub fn write_sentence(
     document: &Json,
     path: &Path,
@@ -78,7 +82,8 @@ fn write_in_layer(
     parts: &[PathPart],
     out: &mut Vec<u8>,
 ) -> Result<(), AllocError>
-    ensures { OnOk result (out.new.items ≡ out.old.items ++ layer_part_sentence rule (tree_of document.now) parts.now (tree_of layer.now)) }
+    ensures { OnOk result (out.new.items
+        ≡ out.old.items ++ layer_part_sentence rule (tree_of document.now) parts.now (tree_of layer.now)) }
 {
     match parts {
         [] => write_layer(rule, layer, out),
@@ -114,7 +119,8 @@ fn write_below_member(
     out: &mut Vec<u8>,
 ) -> Result<(), AllocError>
     ensures { OnOk result (out.new.items ≡ out.old.items
-        ++ in_layer_sentence rule (tree_of document.now) (tree_of part.now.layer.now) part.now.key.now (tree_of part.now.json.now) more.now) }
+        ++ in_layer_sentence rule (tree_of document.now) (tree_of part.now.layer.now) part.now.key.now
+        (tree_of part.now.json.now) more.now) }
 {
     match more {
         [] if part.key == "filter" => write_filter(rule, part.json, more, out),
@@ -159,7 +165,8 @@ fn write_placed(
     out: &mut Vec<u8>,
 ) -> Result<(), AllocError>
     ensures { OnOk result (out.new.items ≡ out.old.items
-        ++ placed_sentence rule (layer_type (tree_of part.now.layer.now)) (place_named part.now.key.now) name.now (member name.now (tree_of part.now.json.now)) more.now) }
+        ++ placed_sentence rule (layer_type (tree_of part.now.layer.now)) (place_named part.now.key.now) name.now
+        (member name.now (tree_of part.now.json.now)) more.now) }
 {
     match (
         type_of(part.layer),
@@ -204,7 +211,8 @@ fn write_property(
     out: &mut Vec<u8>,
 ) -> Result<(), AllocError>
     ensures { OnOk result (out.new.items ≡ out.old.items
-        ++ property_sentence rule property.now.layer_type property.now.place property.now.name.now (tree_of json.now) more.now) }
+        ++ property_sentence rule property.now.layer_type property.now.place property.now.name.now (tree_of json.now)
+        more.now) }
 {
     if rule == 14 {
         return write_unknown(property, out);
@@ -218,7 +226,8 @@ fn write_property(
 
 // A name that no row has there.
 fn write_unknown(property: &NamedProperty<'_>, out: &mut Vec<u8>) -> Result<(), AllocError>
-    ensures { OnOk result (out.new.items ≡ out.old.items ++ unknown_sentence property.now.layer_type property.now.place property.now.name.now) }
+    ensures { OnOk result (out.new.items
+        ≡ out.old.items ++ unknown_sentence property.now.layer_type property.now.place property.now.name.now) }
 {
     write_text(property.name, out)?;
     out.extend_from_slice(b" is no property of the ")?;
@@ -231,7 +240,8 @@ fn write_unknown(property: &NamedProperty<'_>, out: &mut Vec<u8>) -> Result<(), 
 
 fn write_place_hint(property: &NamedProperty<'_>, out: &mut Vec<u8>) -> Result<(), AllocError>
     ensures { OnOk result (out.new.items ≡ out.old.items
-        ++ other_hint (is_property property.now.layer_type (other_place property.now.place) property.now.name.now) (other_place property.now.place)) }
+        ++ other_hint (is_property property.now.layer_type (other_place property.now.place) property.now.name.now)
+        (other_place property.now.place)) }
 {
     let other = other_place(property.place);
     let there = is_property(property.layer_type, other, property.name);
@@ -292,7 +302,8 @@ fn write_value(
     more: &[PathPart],
     out: &mut Vec<u8>,
 ) -> Result<(), AllocError>
-    ensures { OnOk result (out.new.items ≡ out.old.items ++ value_sentence rule (row_seen row.now) (tree_of json.now) more.now) }
+    ensures { OnOk result (out.new.items
+        ≡ out.old.items ++ value_sentence rule (row_seen row.now) (tree_of json.now) more.now) }
 {
     match (rule, json) {
         (15, _) => write_literal(row, json, out),
@@ -318,7 +329,8 @@ fn write_row_input(
     more: &[PathPart],
     out: &mut Vec<u8>,
 ) -> Result<(), AllocError>
-    ensures { OnOk result (out.new.items ≡ out.old.items ++ in_node (node_at more.now (tree_of json.now)) (input_sentence (Some (row_seen row.now)))) }
+    ensures { OnOk result (out.new.items
+        ≡ out.old.items ++ in_node (node_at more.now (tree_of json.now)) (input_sentence (Some (row_seen row.now)))) }
 {
     match node_at(json, more) {
         Some(node) => write_input(Some(row), node, out),

@@ -5,7 +5,10 @@ ghost use Rattle.decimal_json.specs.Tree.{fields_of, object};
 ghost use Rattle.decimal_json.specs.View.{fields, tree_at, tree_of, trees};
 ghost use Rattle.property_tables.specs.RowView.{row_seen};
 ghost use Rattle.finding_sentences.specs.Wanted.{row_words};
-ghost use Rattle.finding_sentences.specs.FunctionSentence.{no_stop, stop_part, fault_or_order, formed_sentence, has_some, has_two_members, has_zoom, is_empty, is_input, is_placed_input, is_stop, is_zoomed_by, pair_sentence, placed_words, stop_sentence, stops_fault, stops_sentence};
+ghost use Rattle.finding_sentences.specs.FunctionSentence.{no_stop, stop_part, fault_or_order, formed_sentence};
+ghost use Rattle.finding_sentences.specs.FunctionSentence.{has_some, has_two_members, has_zoom, is_empty, is_input};
+ghost use Rattle.finding_sentences.specs.FunctionSentence.{is_placed_input, is_stop, is_zoomed_by, pair_sentence};
+ghost use Rattle.finding_sentences.specs.FunctionSentence.{placed_words, stop_sentence, stops_fault, stops_sentence};
 
 use crate::function_sentence::{is_output, write_unlike_row};
 use crate::pairs::pair_in;
@@ -23,7 +26,8 @@ pub(crate) fn write_stops(
     stops: Option<&Json>,
     out: &mut Vec<u8>,
 ) -> Result<(), AllocError>
-    ensures { OnOk result (out.new.items ≡ out.old.items ++ stops_sentence (row_seen row.now) any has_property (tree_at stops.entry)) }
+    ensures { OnOk result (out.new.items
+        ≡ out.old.items ++ stops_sentence (row_seen row.now) any has_property (tree_at stops.entry)) }
 {
     match stops {
         None => write_lacks("stops", out),
@@ -38,7 +42,8 @@ fn write_given(
     stops: &Json,
     out: &mut Vec<u8>,
 ) -> Result<(), AllocError>
-    ensures { OnOk result (out.new.items ≡ out.old.items ++ stops_sentence (row_seen row.now) any has_property (Some (tree_of stops.now))) }
+    ensures { OnOk result (out.new.items
+        ≡ out.old.items ++ stops_sentence (row_seen row.now) any has_property (Some (tree_of stops.now))) }
 {
     match stops {
         Json::List(items) if has_items(items.as_slice()) => {
@@ -65,7 +70,9 @@ fn write_each(
     stops: &[Json],
     out: &mut Vec<u8>,
 ) -> Result<(), AllocError>
-    ensures { OnOk result (out.new.items ≡ out.old.items ++ fault_or_order (stops_fault (row_seen row.now) any 0 (trees stops.now)) (formed_sentence any has_property (trees stops.now))) }
+    ensures { OnOk result (out.new.items
+        ≡ out.old.items ++ fault_or_order (stops_fault (row_seen row.now) any 0 (trees stops.now))
+        (formed_sentence any has_property (trees stops.now))) }
 {
     for (place, stop) in stops.iter().enumerate() {
         if !is_stop(*out.allocator(), row, any, stop)? {
@@ -95,7 +102,8 @@ fn write_stop(
     stop: &Json,
     out: &mut Vec<u8>,
 ) -> Result<(), AllocError>
-    ensures { OnOk result (out.new.items ≡ out.old.items ++ stop_sentence (row_seen row.now) any place (tree_of stop.now)) }
+    ensures { OnOk result (out.new.items
+        ≡ out.old.items ++ stop_sentence (row_seen row.now) any place (tree_of stop.now)) }
 {
     match pair_in(stop) {
         Some((input, output)) => write_part(row, any, place, input, output, out),
@@ -139,7 +147,8 @@ fn write_output_part(
     output: &Json,
     out: &mut Vec<u8>,
 ) -> Result<(), AllocError>
-    ensures { OnOk result (out.new.items ≡ out.old.items ++ stop_part place (codes "output") (row_words (row_seen row.now)) (tree_of output.now)) }
+    ensures { OnOk result (out.new.items
+        ≡ out.old.items ++ stop_part place (codes "output") (row_words (row_seen row.now)) (tree_of output.now)) }
 {
     out.extend_from_slice(b"\"stops\": the output of stop ")?;
     write_count(place, out)?;
@@ -155,7 +164,8 @@ fn write_input_part(
     input: &Json,
     out: &mut Vec<u8>,
 ) -> Result<(), AllocError>
-    ensures { OnOk result (out.new.items ≡ out.old.items ++ stop_part place (codes "input") wanted.now (tree_of input.now)) }
+    ensures { OnOk result (out.new.items
+        ≡ out.old.items ++ stop_part place (codes "input") wanted.now (tree_of input.now)) }
 {
     out.extend_from_slice(b"\"stops\": the input of stop ")?;
     write_count(place, out)?;

@@ -40,7 +40,8 @@ fn write_layer(document: &Json, place: usize, out: &mut Vec<u8>) -> Result<(), A
 }
 
 fn id_at(document: &Json, place: usize) -> Option<&str>
-    ensures { option_map (λ id. id.now) result ≡ option_and_then (text_at (codes "id")) (layer_at place (layers_of (tree_of document.now))) }
+    ensures { option_map (λ id. id.now) result
+        ≡ option_and_then (text_at (codes "id")) (layer_at place (layers_of (tree_of document.now))) }
 {
     layer_at(document, place)
         .and_then(|layer| layer.get("id"))

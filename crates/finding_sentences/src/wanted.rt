@@ -4,7 +4,8 @@ ghost use Rattle.std.specs.Prelude.{◌≡◌, ◌++◌, option_map, OnOk, None,
 ghost use Rattle.fixed_num.specs.NumberText.{number_text};
 ghost use Rattle.prop_values.specs.Choices.{texts_of};
 ghost use Rattle.property_tables.specs.RowView.{row_seen};
-ghost use Rattle.finding_sentences.specs.Wanted.{allowed_words, item_words, kind_words, limit_words, reads_words, row_words, texts_listed, want_words};
+ghost use Rattle.finding_sentences.specs.Wanted.{allowed_words, item_words, kind_words, limit_words, reads_words};
+ghost use Rattle.finding_sentences.specs.Wanted.{row_words, texts_listed, want_words};
 ghost use Rattle.prop_values.specs.declared.kinds.Want.{Want};
 
 use crate::words::write_count;

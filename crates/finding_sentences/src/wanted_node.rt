@@ -3,7 +3,8 @@
 ghost use Rattle.std.specs.Prelude.{◌≡◌, ◌++◌, ◌<◌, ◌^◌, OnOk, Some, option_map, ◌≤◌};
 ghost use Rattle.decimal_json.specs.View.{tree_of, trees};
 ghost use Rattle.expr_syntax.specs.ReadView.{row_view};
-ghost use Rattle.finding_sentences.specs.ExpressionSentence.{arguments_before, element_want, wanted_at, wanted_child, wanted_element, wanted_words, fitted_to, handed_by};
+ghost use Rattle.finding_sentences.specs.ExpressionSentence.{arguments_before, element_want, wanted_at, wanted_child};
+ghost use Rattle.finding_sentences.specs.ExpressionSentence.{wanted_element, wanted_words, fitted_to, handed_by};
 ghost use Rattle.expr_syntax.specs.Elements.{option_named};
 ghost use Rattle.expr_syntax.specs.Operators.{role_want};
 ghost use Rattle.finding_sentences.specs.Views.{wanted_seen};

@@ -3,7 +3,8 @@
 ghost use Rattle.std.specs.Prelude.{◌≡◌, ◌++◌, decimal, OnOk};
 ghost use Rattle.std.specs.List.{list_all};
 ghost use Rattle.decimal_json.specs.View.{tree_of};
-ghost use Rattle.finding_sentences.specs.Words.{array_text, counted, found_text, is_plain, lacks, member_unlike, name_text, shown_text, unlike};
+ghost use Rattle.finding_sentences.specs.Words.{array_text, counted, found_text, is_plain, lacks, member_unlike};
+ghost use Rattle.finding_sentences.specs.Words.{name_text, shown_text, unlike};
 
 use decimal_json::{Json, write_text};
 use itoa::Buffer;

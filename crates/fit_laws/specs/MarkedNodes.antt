@@ -39,8 +39,8 @@ NamesAreOfTheirKinds _ _ = ⊥
 abbrev pub marks_of : List Placed → List Bool
 marks_of places = map (λ placed. placed.always) places
 
--- In names whose outcomes are of their kinds, in every world, each node that is marked and fits its own value gives under its want
--- what it gives where anything is wanted, unless a text is shown of it. So its test can be left out.
+-- In names whose outcomes are of their kinds, in every world, each node that is marked and fits its own value gives
+-- under its want what it gives where anything is wanted, unless a text is shown of it. So its test can be left out.
 abbrev pub MarkedNodesFit : Type 0
 MarkedNodesFit =
     (bound : List (List ℕ)) (t : Term) (is_sequence : Bool) (want : Want) (scope : KindScope) (path : List PathPart)
@@ -48,8 +48,8 @@ MarkedNodesFit =
     typed_as t is_sequence want scope path ≡ Ok found → NamesAreOfTheirKinds scope names →
     MarksHold t want (marks_of (places_of found)) names world
 
--- The same with no names around it, in the words of `Typed`: an expression that is refused has no places, so that none of its
--- nodes is marked.
+-- The same with no names around it, in the words of `Typed`: an expression that is refused has no places, so that none
+-- of its nodes is marked.
 abbrev pub CheckedNodesFit : Type 0
 CheckedNodesFit =
     (t : Term) (want : Want) (world : World) → IsRead [] t → MarksHold t want (marks_of (places_in (t, want))) [] world

@@ -7,11 +7,11 @@
 //! ["+",["length",["get","a"]],1]     // `length` is wanted as a number, gives no other value, and is marked
 //! ```
 //!
-//! What is promised, of an expression that was read and has a kind under a want: in every world, and in all names around
-//! it whose outcomes are of their kinds, each of its nodes that is marked and fits its own value gives under its want
-//! what it gives where anything is wanted, faults included (`marked_nodes_fit`). A value that is shown is made a text,
-//! which is no test; and `case`, `match`, `step`, `interpolate` and `let` have none, since they hand their want on. The
-//! same holds of an expression by itself with the places that its `Typed` gives up (`checked_nodes_fit`).
+//! What is promised, of an expression that was read and has a kind under a want: in every world, and in all names
+//! around it whose outcomes are of their kinds, each of its nodes that is marked and fits its own value gives under its
+//! want what it gives where anything is wanted, faults included (`marked_nodes_fit`). A value that is shown is made a
+//! text, which is no test; and `case`, `match`, `step`, `interpolate` and `let` have none, since they hand their want
+//! on. The same holds of an expression by itself with the places that its `Typed` gives up (`checked_nodes_fit`).
 //!
 //! `expr_resolving` leaves such tests out. `MarksHold` of `expr_nodes` is the form in which the law is stated.
 //!

@@ -8,7 +8,9 @@
 -- Each definition below reads one of these parts from the front of the bytes, and then the parts
 -- that follow it. `negative` says that the minus was there, `whole` and `fraction` are the digits
 -- of int and frac, `is_down` says that the exponent has a minus.
-use Rattle.std.specs.Prelude.{ℕ, ◌+◌, ◌-◌, ◌*◌, ◌^◌, ℤ, pos, neg_ℤ, List, [], ◌∷◌, ◌++◌, length, take, drop, slice_index, Bool, true, false, not, ◌&&◌, ◌||◌, nat_eq, nat_lt, nat_le, if◌then◌else◌, Result, Ok, Err}
+use Rattle.std.specs.Prelude.{ℕ, ◌+◌, ◌-◌, ◌*◌, ◌^◌, ℤ, pos, neg_ℤ, List, [], ◌∷◌, ◌++◌, length, take, drop}
+use Rattle.std.specs.Prelude.{slice_index, Bool, true, false, not, ◌&&◌, ◌||◌, nat_eq, nat_lt, nat_le, if◌then◌else◌}
+use Rattle.std.specs.Prelude.{Result, Ok, Err}
 use Rattle.std.specs.Char.{is_ascii_digit}
 use Rattle.std.specs.List.{prefix_len, list_all}
 use Rattle.fixed_num.specs.Rounding.{nearest}
@@ -66,7 +68,8 @@ read_exponent_sign negative whole fraction bs =
 unfoldable pub read_exponent : Bool → List ℕ → List ℕ → List ℕ → Result ℤ NumFault
 read_exponent negative whole fraction bs =
     if nat_eq (length bs) 0 then value_of negative whole fraction false [] else
-    (if nat_eq (slice_index bs 0) 101 || nat_eq (slice_index bs 0) 69 then read_exponent_sign negative whole fraction (drop 1 bs) else
+    (if nat_eq (slice_index bs 0) 101 || nat_eq (slice_index bs 0) 69
+    then read_exponent_sign negative whole fraction (drop 1 bs) else
     Err NotNumber)
 
 -- the digits of frac

@@ -1,7 +1,8 @@
 -- Numbers, and the arithmetic on them. A number is seen as its whole count of millionths.
 -- Each operation is the exact rational result, rounded once to the nearest millionth with halves
 -- away from zero, and then tested against the bound. Source: own.
-use Rattle.std.specs.Prelude.{ℕ, zero, suc, ◌+◌, ◌*◌, ◌/◌, ℤ, pos, negsuc, neg_ℤ, ◌+ℤ◌, ◌-ℤ◌, ◌*ℤ◌, int_div, nat_le, nat_eq, unsigned_abs, Result, Ok, Err, if◌then◌else◌}
+use Rattle.std.specs.Prelude.{ℕ, zero, suc, ◌+◌, ◌*◌, ◌/◌, ℤ, pos, negsuc, neg_ℤ, ◌+ℤ◌, ◌-ℤ◌, ◌*ℤ◌, int_div, nat_le}
+use Rattle.std.specs.Prelude.{nat_eq, unsigned_abs, Result, Ok, Err, if◌then◌else◌}
 use Rattle.fixed_num.specs.Rounding.{rounded}
 use Rattle.fixed_num.specs.declared.fixed.Arith.{Arith}
 use Rattle.fixed_num.specs.declared.fixed.Arith.TheVariants.{Overflow, DivideByZero}

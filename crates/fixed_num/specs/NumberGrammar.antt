@@ -44,7 +44,8 @@ abbrev pub IsExponent : List ℕ → Bool → List ℕ → Type 0
 IsExponent text is_down ds = ((text ≡ []) × (is_down ≡ false) × (ds ≡ [])) ⊎ IsPower text is_down ds
 
 -- number = [ minus ] int [ frac ] [ exp ]
-pub record IsNumberText (bs : List ℕ) (negative : Bool) (whole fraction : List ℕ) (is_down : Bool) (exponent : List ℕ) : Type 0 where
+pub record IsNumberText (bs : List ℕ) (negative : Bool) (whole fraction : List ℕ) (is_down : Bool)
+    (exponent : List ℕ) : Type 0 where
   pub frac : List ℕ
   pub exp : List ℕ
   pub all : bs ≡ minus_text negative ++ (whole ++ (frac ++ exp))
@@ -54,4 +55,6 @@ pub record IsNumberText (bs : List ℕ) (negative : Bool) (whole fraction : List
 
 -- a text of the grammar
 abbrev pub HasNumberParts : List ℕ → Type 0
-HasNumberParts bs = (negative : Bool) × (whole : List ℕ) × (fraction : List ℕ) × (is_down : Bool) × (exponent : List ℕ) × IsNumberText bs negative whole fraction is_down exponent
+HasNumberParts bs =
+    (negative : Bool) × (whole : List ℕ) × (fraction : List ℕ) × (is_down : Bool) × (exponent : List ℕ)
+    × IsNumberText bs negative whole fraction is_down exponent

@@ -1,6 +1,7 @@
 -- The text of a number: '-' where it is negative, the whole part without leading zeros, and where
 -- the fraction is not zero '.' and up to six digits without zeros at the end. Source: own.
-use Rattle.std.specs.Prelude.{ℕ, zero, suc, ◌+◌, ◌/◌, ◌%◌, ◌^◌, ℤ, pos, negsuc, List, [], ◌∷◌, ◌++◌, length, ◌&&◌, if◌then◌else◌, nat_eq, decimal}
+use Rattle.std.specs.Prelude.{ℕ, zero, suc, ◌+◌, ◌/◌, ◌%◌, ◌^◌, ℤ, pos, negsuc, List, [], ◌∷◌, ◌++◌, length, ◌&&◌}
+use Rattle.std.specs.Prelude.{if◌then◌else◌, nat_eq, decimal}
 
 -- the last k decimal digits of n, which has no more: '0' is 48
 unfoldable pub last_digits : ℕ → ℕ → List ℕ
@@ -10,7 +11,8 @@ last_digits (suc k) n = (48 + n / 10 ^ k) ∷ last_digits k (n % 10 ^ k)
 -- digits without the zeros at the end
 unfoldable pub without_end_zeros : List ℕ → List ℕ
 without_end_zeros [] = []
-without_end_zeros (c ∷ cs) = if nat_eq c 48 && nat_eq (length (without_end_zeros cs)) 0 then [] else c ∷ without_end_zeros cs
+without_end_zeros (c ∷ cs) =
+    if nat_eq c 48 && nat_eq (length (without_end_zeros cs)) 0 then [] else c ∷ without_end_zeros cs
 
 -- the fraction of n millionths, fewer than 10^6: '.' is 46
 unfoldable pub fraction_text : ℕ → List ℕ

@@ -1,7 +1,8 @@
 ghost use Rattle.std.specs.Prelude.{◌≡◌, ◌≤◌, ◌++◌, IsTrue};
 ghost use Rattle.std.specs.Char.{is_ascii_digit};
 ghost use Rattle.std.specs.List.{list_all};
-ghost use Rattle.fixed_num.specs.Decimal.{value_of, in_range, read_exponent_digits, read_exponent_sign, read_exponent, read_fraction_digits, read_fraction, read_whole, read_text};
+ghost use Rattle.fixed_num.specs.Decimal.{value_of, in_range, read_exponent_digits, read_exponent_sign, read_exponent};
+ghost use Rattle.fixed_num.specs.Decimal.{read_fraction_digits, read_fraction, read_whole, read_text};
 
 use crate::digits::{are_digits, begins_with, magnitude, split_digits};
 use crate::fixed::{Fixed, signed};

@@ -1,4 +1,5 @@
-ghost use Rattle.std.specs.Prelude.{IsAscii, ◌≡◌, ◌≤◌, ℤ, pos, neg_ℤ, if◌then◌else◌, unsigned_abs, IfSome, IsSome, IsTrue, ◌↔◌, take, length};
+ghost use Rattle.std.specs.Prelude.{IsAscii, ◌≡◌, ◌≤◌, ℤ, pos, neg_ℤ, if◌then◌else◌, unsigned_abs, IfSome, IsSome};
+ghost use Rattle.std.specs.Prelude.{IsTrue, ◌↔◌, take, length};
 ghost use Rattle.fixed_num.specs.Number.{bound, bounded};
 
 use crate::rounding::{divided, nearest};
@@ -53,7 +54,8 @@ pub(crate) fn signed(negative: bool, magnitude: u128) -> Result<Fixed, Arith>
 }
 
 impl Fixed {
-    ghost use Rattle.fixed_num.specs.Number.{sum, difference, product, quotient, remainder, absolute, floor_of, ceil_of, round_of};
+    ghost use Rattle.fixed_num.specs.Number.{sum, difference, product, quotient, remainder, absolute, floor_of};
+    ghost use Rattle.fixed_num.specs.Number.{ceil_of, round_of};
     ghost use Rattle.fixed_num.specs.NumberText.{number_text};
     ghost use Rattle.json_tokens.specs.Number.{is_number};
 

@@ -1,7 +1,8 @@
 //! Laws of the definitions that the contracts cite. Each is a function with an empty body, which is
 //! proved and never needs a call.
 
-ghost use Rattle.std.specs.Prelude.{◌≡◌, ◌≢◌, ◌≤◌, ◌<◌, ◌≤ℤ◌, ◌<ℤ◌, ◌+ℤ◌, ◌*ℤ◌, ℕ, ℤ, pos, List, Bool, Ok, Err, IsTrue, unsigned_abs};
+ghost use Rattle.std.specs.Prelude.{◌≡◌, ◌≢◌, ◌≤◌, ◌<◌, ◌≤ℤ◌, ◌<ℤ◌, ◌+ℤ◌, ◌*ℤ◌, ℕ, ℤ, pos, List, Bool, Ok, Err, IsTrue};
+ghost use Rattle.std.specs.Prelude.{unsigned_abs};
 ghost use Rattle.fixed_num.specs.Decimal.{read_text, value_of};
 ghost use Rattle.fixed_num.specs.Number.{bound, remainder, floor_of};
 ghost use Rattle.fixed_num.specs.NumberGrammar.{IsNumberText, HasNumberParts};

@@ -42,7 +42,8 @@ form_want (Filter f) = wants.Boolean
 
 -- It was read from a style: a function on a row of the table of properties.
 abbrev pub IsReadForm : LegacyForm → Type 0
-IsReadForm (Function f) = IsTableRow (row_of f) × ((t : Tree) × (functions.form (row_of f) t ≡ Some (Some (function_of f))))
+IsReadForm (Function f) =
+    IsTableRow (row_of f) × ((t : Tree) × (functions.form (row_of f) t ≡ Some (Some (function_of f))))
 IsReadForm (Tokens s want) = Unit {0}
 IsReadForm (Filter f) = (t : Tree) × (filters.reading t ≡ Ok (filter_of f))
 
@@ -52,7 +53,7 @@ sized_reading want (Ok (Some e)) = sized_term e want
 sized_reading want (Ok None) = ((λ world. Err WrongType), 0)
 sized_reading want (Err fault) = ((λ world. Err WrongType), 0)
 
--- What the expression of a form gives in each world, with how many nodes it has. It reads the same whatever the values of
--- the global state are.
+-- What the expression of a form gives in each world, with how many nodes it has. It reads the same whatever the values
+-- of the global state are.
 abbrev pub sized_form : LegacyForm → Sized
 sized_form form = sized_reading (form_want form) (reading_with (form_tree form) [])

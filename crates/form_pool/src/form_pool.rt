@@ -75,8 +75,8 @@ impl FormPool {
         Ok(slot)
     }
 
-    /// Adds a legacy form that was read after what is there, and gives its number. One beyond `u32::MAX` is refused as a
-    /// failed allocation is.
+    /// Adds a legacy form that was read after what is there, and gives its number. One beyond `u32::MAX` is refused as
+    /// a failed allocation is.
     pub fn put_legacy(&mut self, form: LegacyForm) -> Result<u32, AllocError>
         requires { IsReadForm form }
         ensures slot { IfOk result (λ slot. slot ≡ length (⟦<FormPool as CountedEvaluator>⟧.slots self.old)) }

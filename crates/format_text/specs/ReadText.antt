@@ -36,4 +36,5 @@ ReadsSections bytes None = (ss : List Section) → AreSections ss → bytes ≡ 
 
 -- No text represents two lists of sections.
 abbrev pub EachTextIsOfOneList : Type 0
-EachTextIsOfOneList = (ss ts : List Section) → AreSections ss → AreSections ts → sections_text ss ≡ sections_text ts → ss ≡ ts
+EachTextIsOfOneList =
+    (ss ts : List Section) → AreSections ss → AreSections ts → sections_text ss ≡ sections_text ts → ss ≡ ts

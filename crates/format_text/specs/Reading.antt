@@ -1,6 +1,7 @@
 -- What a value that was read from a text says as sections. The text of the sections is compared with that
 -- text, so that more than the texts of sections may say something here.
-use Rattle.std.specs.Prelude.{◌≡◌, ℕ, ◌+◌, ℤ, pos, List, [], ◌∷◌, ◌++◌, take, drop, Bool, ◌&&◌, nat_eq, int_le, codes, Option, Some, None, Result, Ok, Err, if◌then◌else◌}
+use Rattle.std.specs.Prelude.{◌≡◌, ℕ, ◌+◌, ℤ, pos, List, [], ◌∷◌, ◌++◌, take, drop, Bool, ◌&&◌, nat_eq, int_le, codes}
+use Rattle.std.specs.Prelude.{Option, Some, None, Result, Ok, Err, if◌then◌else◌}
 use Rattle.fixed_num.specs.Decimal.{read_text}
 use Rattle.fixed_num.specs.declared.color.Color.{Color}
 use Rattle.fixed_num.specs.declared.decimal.NumFault.{NumFault}
@@ -30,7 +31,8 @@ abbrev pub is_part : ℤ → ℤ → Bool
 is_part most part = int_le (pos 0) part && int_le part most
 
 abbrev pub are_parts : ℤ → ℤ → ℤ → ℤ → Bool
-are_parts r g b a = is_part (pos 255000000) r && (is_part (pos 255000000) g && (is_part (pos 255000000) b && is_part (pos 1000000) a))
+are_parts r g b a =
+    is_part (pos 255000000) r && (is_part (pos 255000000) g && (is_part (pos 255000000) b && is_part (pos 1000000) a))
 
 abbrev pub color_of : ℤ → ℤ → ℤ → ℤ → Option Color
 color_of r g b a = if are_parts r g b a then Some (record { r = r; g = g; b = b; a = a }) else None
@@ -45,7 +47,8 @@ color_parts bs =
     let green = behind 44 bs in
     let blue = behind 44 green in
     let opacity = behind 44 blue in
-    color_by (read_text (before 44 bs)) (read_text (before 44 green)) (read_text (before 44 blue)) (read_text (before 41 opacity))
+    color_by (read_text (before 44 bs)) (read_text (before 44 green)) (read_text (before 44 blue))
+    (read_text (before 41 opacity))
 
 -- after the five bytes of `rgba(`
 abbrev pub color_in : List ℕ → Option Color

@@ -19,7 +19,8 @@ with_option key None options = options
 abbrev pub options_map : Section → Pairs
 options_map s =
     with_option (codes "font-scale") (option_map number s.scale)
-    (with_option (codes "text-font") (option_map data_of s.font) (with_option (codes "text-color") (option_map color s.color) no_pairs))
+    (with_option (codes "text-font") (option_map data_of s.font)
+    (with_option (codes "text-color") (option_map color s.color) no_pairs))
 
 abbrev pub section_of : Section → Data
 section_of s = list (item (text s.content) (item (map (options_map s)) no_items))

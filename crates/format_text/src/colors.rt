@@ -1,7 +1,8 @@
 //! Reading the text of a color.
 
 ghost use Rattle.std.specs.Prelude.{◌≡◌, ◌≤◌, length, drop};
-ghost use Rattle.format_text.specs.Reading.{place_of, before, behind, is_part, are_parts, color_of, color_by, color_parts, color_in};
+ghost use Rattle.format_text.specs.Reading.{place_of, before, behind, is_part, are_parts, color_of, color_by};
+ghost use Rattle.format_text.specs.Reading.{color_parts, color_in};
 
 use fixed_num::{Color, Fixed, NumFault, read_decimal};
 use prop_values::PackedColor;

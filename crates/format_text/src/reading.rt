@@ -10,7 +10,8 @@ ghost use Rattle.prop_values.specs.ViewParts.{items};
 ghost use Rattle.format_text.specs.Sections.{section_of};
 ghost use Rattle.format_text.specs.SectionLists.{is_text, are_texts, is_font, sections_values, sections_text};
 ghost use Rattle.format_text.specs.ReadText.{ReadsSections};
-ghost use Rattle.format_text.specs.Reading.{SaysSections, scale_in, font_in, color_of_option, section_by, section_in, section_said, sections_in, sections_said, sections_of_json};
+ghost use Rattle.format_text.specs.Reading.{SaysSections, scale_in, font_in, color_of_option, section_by, section_in};
+ghost use Rattle.format_text.specs.Reading.{section_said, sections_in, sections_said, sections_of_json};
 
 use crate::colors::color_in;
 use crate::formatted::{Section, Sections};
@@ -136,7 +137,8 @@ fn section_of_two(
     content: &Value,
     options: &Value,
 ) -> Result<Option<Section>, AllocError>
-    ensures { IfOk result (λ said. said ≡ section_in (item (data_of content.now) (item (data_of options.now) no_items))) }
+    ensures { IfOk result
+        (λ said. said ≡ section_in (item (data_of content.now) (item (data_of options.now) no_items))) }
 {
     let Value::Text(content) = content else {
         return Ok(None);

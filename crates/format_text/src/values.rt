@@ -22,7 +22,9 @@ pub fn section(
     font: Option<Value>,
     color: Option<PackedColor>,
 ) -> Result<Value, AllocError>
-    ensures { IfOk result (λ value. data_of value ≡ section_of (record { content = content; scale = scale; font = font; color = color })) }
+    ensures { IfOk result
+        (λ value. data_of value ≡ section_of
+        (record { content = content; scale = scale; font = font; color = color })) }
 {
     let mut options = Entries::new(alloc);
     push_option(alloc, &mut options, "font-scale", number_value(scale))?;

@@ -14,7 +14,8 @@ abbrev pub lines_left : (features : ℕ) (scripts : List ℕ → Bool) (can_chan
     → Session → Counting → List (List ℕ) → Run
 lines_left features scripts can_change has_image session counting lines =
     counted_after features counting.lines counting.bytes
-    (lines_run (tiles_of session) scripts can_change counting.number (session_state session has_image) counting.any lines)
+    (lines_run (tiles_of session) scripts can_change counting.number (session_state session has_image)
+    counting.any lines)
 
 -- The run makes evaluations of so many steps, and then ends as the rest does.
 pub record EndsAfter (run rest : Run) (least most : ℕ) : Type 0 where

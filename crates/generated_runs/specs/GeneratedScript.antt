@@ -1,7 +1,8 @@
 -- The style and the script of the generator. Source: own.
 use Rattle.std.specs.Prelude.{ℕ, zero, suc, List, [], ◌∷◌, ◌++◌, codes, decimal}
 
--- circles whose size grows with the zoom by the rank, and whose opacity is a state's; of the features of a rank below 50
+-- circles whose size grows with the zoom by the rank, and whose opacity is a state's; of the features of a rank below
+-- 50
 abbrev pub generated_style : List ℕ
 generated_style = codes
     "{\"version\":8,\"sources\":{\"t\":{\"type\":\"vector\"}},\"layers\":[{\"id\":\"p\",\"type\":\"circle\",\"source\":\"t\",\"source-layer\":\"p\",\"filter\":[\"<\",[\"number\",[\"get\",\"r\"]],50],\"paint\":{\"circle-radius\":[\"interpolate\",[\"linear\"],[\"zoom\"],0,1,10,[\"number\",[\"get\",\"r\"]]],\"circle-opacity\":[\"number\",[\"feature-state\",\"o\"],1]}}]}"

@@ -9,7 +9,8 @@ use Rattle.generated_runs.specs.Ranks.{next, rank}
 
 -- a point of this id, with its rank as `r`
 abbrev pub ranked_point : ℕ → ℕ → Feature
-ranked_point id rank = record { id = Some id; shape = Point; properties = (codes "r", number (pos (rank * 1000000))) ∷ [] }
+ranked_point id rank =
+    record { id = Some id; shape = Point; properties = (codes "r", number (pos (rank * 1000000))) ∷ [] }
 
 -- so many points, their ids from this one on, by the number before that of the first
 abbrev pub ranked_points : (count id x : ℕ) → List Feature

@@ -1,6 +1,7 @@
 //! A script whose answers are counted and not kept.
 
-ghost use Rattle.std.specs.Prelude.{◌≡◌, ◌+◌, ◌≤◌, ◌⊎◌, ◌∷◌, ◌++◌, ℕ, List, [], false, decimal, ◌^◌, OnErr, OnOk, IfOk, Option};
+ghost use Rattle.std.specs.Prelude.{◌≡◌, ◌+◌, ◌≤◌, ◌⊎◌, ◌∷◌, ◌++◌, ℕ, List, [], false, decimal, ◌^◌, OnErr, OnOk, IfOk};
+ghost use Rattle.std.specs.Prelude.{Option};
 ghost use Rattle.edit_session.specs.View.{session_state, tiles_of, IsSoundSession};
 ghost use Rattle.program_runs.specs.Outcome.{said};
 ghost use Rattle.program_runs.specs.Progress.{outcome_of, IsAnswered};
@@ -51,7 +52,8 @@ pub fn answer_counted<L: Ledger>(
     ensures changes { changes images.new ≡ changes images.old }
     ensures count { OnOk result (GoesAlong (ImageReportsOfLine (changes images.old)) (generated_lines features)
         (tell_count images.old) (tell_count images.new)) }
-    ensures count_failed { OnErr result (GoesPartway (ImageReportsOfLine (changes images.old)) (generated_lines features)
+    ensures count_failed { OnErr result
+        (GoesPartway (ImageReportsOfLine (changes images.old)) (generated_lines features)
         (tell_count images.old) (tell_count images.new)) }
     ensures images { OnOk result (GoesAlong (ImagesOfLine (changes images.old)) (generated_lines features)
         (test images.old) (test images.new)) }
@@ -81,7 +83,8 @@ fn count_answers<L: Ledger>(
     ensures changes { changes images.new ≡ changes images.old }
     ensures count { OnOk result (GoesAlong (ImageReportsOfLine (changes images.old)) (generated_lines features)
         (tell_count images.old) (tell_count images.new)) }
-    ensures count_failed { OnErr result (GoesPartway (ImageReportsOfLine (changes images.old)) (generated_lines features)
+    ensures count_failed { OnErr result
+        (GoesPartway (ImageReportsOfLine (changes images.old)) (generated_lines features)
         (tell_count images.old) (tell_count images.new)) }
     ensures images { OnOk result (GoesAlong (ImagesOfLine (changes images.old)) (generated_lines features)
         (test images.old) (test images.new)) }
@@ -113,15 +116,18 @@ impl Counting {
         requires small { IsSmall self.old }
         requires first { self.old.number ≡ 1 }
         ensures on { OnOk result (EndsAs steps.old steps.new
-            (lines_left features (test scripts.now) (changes images.old) (test images.old) session.old self.old (generated_lines features))
+            (lines_left features (test scripts.now) (changes images.old) (test images.old) session.old self.old
+            (generated_lines features))
             (lines_left features (test scripts.now) (changes images.old) (test images.new) session.new self.new [])) }
         ensures due { (files : List ℕ → Option (List ℕ)) (asked : List (List ℕ)) → OnErr result (StepsAreDue files
-            (lines_left features (test scripts.now) (changes images.old) (test images.old) session.old self.old (generated_lines features))
+            (lines_left features (test scripts.now) (changes images.old) (test images.old) session.old self.old
+            (generated_lines features))
             asked asked steps.old steps.new) }
         ensures changes { changes images.new ≡ changes images.old }
         ensures count { OnOk result (GoesAlong (ImageReportsOfLine (changes images.old)) (generated_lines features)
             (tell_count images.old) (tell_count images.new)) }
-        ensures count_failed { OnErr result (GoesPartway (ImageReportsOfLine (changes images.old)) (generated_lines features)
+        ensures count_failed { OnErr result
+            (GoesPartway (ImageReportsOfLine (changes images.old)) (generated_lines features)
             (tell_count images.old) (tell_count images.new)) }
         ensures images { OnOk result (GoesAlong (ImagesOfLine (changes images.old)) (generated_lines features)
             (test images.old) (test images.new)) }
@@ -151,18 +157,21 @@ impl Counting {
         ensures next { OnOk result (self.new.number ≡ self.old.number + 1) }
         ensures small { OnOk result (self.new.number ≤ 2 ^ 33 → IsSmall self.new) }
         ensures changes { changes images.new ≡ changes images.old }
-        ensures count { OnOk result (ImageReportsOfLine (changes images.old) line.now (tell_count images.old) (tell_count images.new)) }
+        ensures count { OnOk result
+            (ImageReportsOfLine (changes images.old) line.now (tell_count images.old) (tell_count images.new)) }
         ensures count_failed { OnErr result ((tell_count images.new ≡ tell_count images.old)
             ⊎ ImageReportsOfLine (changes images.old) line.now (tell_count images.old) (tell_count images.new)) }
         ensures images { OnOk result (ImagesOfLine (changes images.old) line.now (test images.old) (test images.new)) }
         ensures images_failed { OnErr result ((test images.new ≡ test images.old)
             ⊎ ImagesOfLine (changes images.old) line.now (test images.old) (test images.new)) }
         ensures on { (features : ℕ) (rest : List (List ℕ)) → OnOk result (EndsAs steps.old steps.new
-            (lines_left features (test scripts.now) (changes images.old) (test images.old) session.old self.old (line.now ∷ rest))
+            (lines_left features (test scripts.now) (changes images.old) (test images.old) session.old self.old
+            (line.now ∷ rest))
             (lines_left features (test scripts.now) (changes images.old) (test images.new) session.new self.new rest)) }
         ensures due { (features : ℕ) (rest : List (List ℕ)) (files : List ℕ → Option (List ℕ)) (asked : List (List ℕ))
             → OnErr result (StepsAreDue files
-            (lines_left features (test scripts.now) (changes images.old) (test images.old) session.old self.old (line.now ∷ rest))
+            (lines_left features (test scripts.now) (changes images.old) (test images.old) session.old self.old
+            (line.now ∷ rest))
             asked asked steps.old steps.new) }
     {
         let line = ScriptLine {

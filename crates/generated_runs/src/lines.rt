@@ -27,7 +27,8 @@ pub(crate) fn line_count_of(features: u32) -> u64
 #[tactic(auto, using(crate::proofs::LineLaws::listed_at, crate::proofs::LineLaws::state_there))]
 pub(crate) fn put_line(features: u32, place: u64, line: &mut Vec<u8>) -> Result<(), AllocError>
     requires { place < length (generated_lines features) }
-    ensures { OnOk result (drop place (generated_lines features) ≡ line.new.items ∷ drop (place + 1) (generated_lines features)) }
+    ensures { OnOk result (drop place (generated_lines features)
+        ≡ line.new.items ∷ drop (place + 1) (generated_lines features)) }
 {
     if place == 1 {
         return put(ZOOM_LINE, line);

@@ -1,7 +1,8 @@
 -- The values of the global state decide what an expression gives, and never its form. Source: own.
 use Rattle.std.specs.Prelude.{◌≡◌, ℕ, List, [], codes, Bool, false, ◌||◌, Option, Some, None, Ok, Err}
 use Rattle.std.specs.Str.{bytes_eq}
-use Rattle.decimal_json.specs.Tree.{Tree, null, boolean, number, text, list, object, Trees, no_trees, tree, Fields, no_fields, field}
+use Rattle.decimal_json.specs.Tree.{Tree, null, boolean, number, text, list, object, Trees, no_trees, tree, Fields}
+use Rattle.decimal_json.specs.Tree.{no_fields, field}
 use Rattle.prop_values.specs.Data.{Data}
 use Rattle.prop_values.specs.declared.kinds.Want.{Want}
 use Rattle.property_tables.specs.Rows.{RowData}

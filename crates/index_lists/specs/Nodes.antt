@@ -1,6 +1,7 @@
 -- The nodes of the rounds that keep the lists: a slot is the node of its own number, and list l has the node
 -- 4294967295 - l.
-use Rattle.std.specs.Prelude.{◌≡◌, ℕ, ◌+◌, ◌-◌, ◌<◌, ◌≤◌, List, length, slice_index, nat_eq, nat_lt, nat_le, if◌then◌else◌}
+use Rattle.std.specs.Prelude.{◌≡◌, ℕ, ◌+◌, ◌-◌, ◌<◌, ◌≤◌, List, length, slice_index, nat_eq, nat_lt, nat_le}
+use Rattle.std.specs.Prelude.{if◌then◌else◌}
 use Rattle.index_lists.specs.declared.nodes.Nodes.{Nodes}
 
 -- a function with the value v at a
@@ -50,11 +51,14 @@ pub record KeepsLinks (old new : Nodes) : Type 0 where
   pub slots_after : (slot : ℕ) → slot < slot_count old → after new slot ≡ after old slot
   pub slots_before : (slot : ℕ) → slot < slot_count old → before new slot ≡ before old slot
   pub lists_after : (list : ℕ) → list < list_count old → after new (4294967295 - list) ≡ after old (4294967295 - list)
-  pub lists_before : (list : ℕ) → list < list_count old → before new (4294967295 - list) ≡ before old (4294967295 - list)
+  pub lists_before : (list : ℕ) → list < list_count old →
+      before new (4294967295 - list) ≡ before old (4294967295 - list)
 
 -- each new slot and each new list is a round of its own
 pub record AddsRounds (old new : Nodes) : Type 0 where
   pub slots_after : (slot : ℕ) → slot_count old ≤ slot → slot < slot_count new → after new slot ≡ slot
   pub slots_before : (slot : ℕ) → slot_count old ≤ slot → slot < slot_count new → before new slot ≡ slot
-  pub lists_after : (list : ℕ) → list_count old ≤ list → list < list_count new → after new (4294967295 - list) ≡ 4294967295 - list
-  pub lists_before : (list : ℕ) → list_count old ≤ list → list < list_count new → before new (4294967295 - list) ≡ 4294967295 - list
+  pub lists_after : (list : ℕ) → list_count old ≤ list → list < list_count new →
+      after new (4294967295 - list) ≡ 4294967295 - list
+  pub lists_before : (list : ℕ) → list_count old ≤ list → list < list_count new →
+      before new (4294967295 - list) ≡ 4294967295 - list

@@ -1,5 +1,6 @@
 -- What contracts see of `Links`: lists of slots, in which no slot occurs twice.
-use Rattle.std.specs.Prelude.{◌≡◌, ℕ, ◌+◌, ◌-◌, ◌<◌, ◌≤◌, not, List, [], ◌∷◌, ◌++◌, Option, None, length, map, filter, replicate, nat_eq, if◌then◌else◌, slice_get}
+use Rattle.std.specs.Prelude.{◌≡◌, ℕ, ◌+◌, ◌-◌, ◌<◌, ◌≤◌, not, List, [], ◌∷◌, ◌++◌, Option, None, length, map, filter}
+use Rattle.std.specs.Prelude.{replicate, nat_eq, if◌then◌else◌, slice_get}
 use Rattle.std.specs.List.{slice_index_or, slice_set}
 
 -- so many slots, numbered from 0, and the lists by their numbers

@@ -21,8 +21,8 @@
 //! - Only `new` and `grow` take memory. Each other call takes constant time: it reads and writes at most four
 //!   links.
 //!
-//! Which list a slot is in is a function too: `Holds` says that the lists have just what such a function gives, and laws
-//! say so after an edit (`proofs/Holding.antt`).
+//! Which list a slot is in is a function too: `Holds` says that the lists have just what such a function gives, and
+//! laws say so after an edit (`proofs/Holding.antt`).
 //!
 //! The text to believe is in `specs/`: `SlotLists`, `Holds`.
 #![tactic(auto)]

@@ -19,7 +19,8 @@ pub struct Nodes {
 
 impl Nodes {
     ghost use Rattle.std.specs.Prelude.{◌≡◌, ℕ, ◌+◌, ◌-◌, ◌<◌, ◌≤◌, ◌↔◌, IsTrue, OnOk, OnErr};
-    ghost use Rattle.index_lists.specs.Nodes.{put, slot_count, list_count, after as after_of, before as before_of, next_into, prev_into, next_out, prev_out, IsNode, KeepsLinks, AddsRounds};
+    ghost use Rattle.index_lists.specs.Nodes.{put, slot_count, list_count, after as after_of, before as before_of};
+    ghost use Rattle.index_lists.specs.Nodes.{next_into, prev_into, next_out, prev_out, IsNode, KeepsLinks, AddsRounds};
 
     /// No slots and no lists.
     pub fn new(alloc: Global) -> Nodes

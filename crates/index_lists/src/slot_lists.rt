@@ -1,5 +1,6 @@
 ghost use Rattle.std.specs.Prelude.{◌≡◌, ℕ, ◌<◌, ◌≤◌, [], length, replicate, slice_get, IfOk, IfSome, OnOk, OnErr};
-ghost use Rattle.index_lists.specs.SlotLists.{IsListed, IsFree, AreDisjoint, list_at, after_push, after_insert, after_unlink, after_move, after_grow, next_of};
+ghost use Rattle.index_lists.specs.SlotLists.{IsListed, IsFree, AreDisjoint, list_at, after_push, after_insert};
+ghost use Rattle.index_lists.specs.SlotLists.{after_unlink, after_move, after_grow, next_of};
 
 use crate::nodes::Nodes;
 use std::alloc::{AllocError, Global};

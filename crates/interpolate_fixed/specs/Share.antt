@@ -7,4 +7,5 @@ use Rattle.interpolate_fixed.specs.Linear.{farthest}
 
 -- way * part / whole, rounded
 unfoldable pub share_of : ℤ → ℕ → ℕ → Result ℤ Arith
-share_of way part whole = if nat_le (unsigned_abs way * part) farthest then Ok (rounded (way *ℤ pos part) whole) else Err Overflow
+share_of way part whole =
+    if nat_le (unsigned_abs way * part) farthest then Ok (rounded (way *ℤ pos part) whole) else Err Overflow

@@ -27,7 +27,9 @@ growth_of base x0 x = and_then (difference x x0) (λ way. and_then (power_of bas
 -- x0 + (x1 - x0) * (n / m), clamped to x0 and x1
 abbrev pub moved_by : ℤ → ℤ → ℤ → ℤ → Result ℤ Arith
 moved_by x0 x1 n m =
-    and_then (quotient n m) (λ share. and_then (difference x1 x0) (λ width. and_then (product width share) (λ step. and_then (sum x0 step) (λ z. Ok (held x0 x1 z)))))
+    and_then (quotient n m)
+    (λ share. and_then (difference x1 x0)
+    (λ width. and_then (product width share) (λ step. and_then (sum x0 step) (λ z. Ok (held x0 x1 z)))))
 
 -- x from x0 to below x1, with n = power(base, x - x0) - 1 and m = power(base, x1 - x0) - 1: x itself at x0
 -- and where m is 0

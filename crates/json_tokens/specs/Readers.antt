@@ -37,7 +37,8 @@ pub record IsFault {V : Type 0} (P : Production V) (kind : JsonKind) (front left
 -- number; and where what follows them begins as `left` does, no other text is there. Source: own.
 pub record IsTaken {V : Type 0} (P : Production V) (v : V) (used left : List ℕ) : Type 0 where
   pub spelled : (r : Rules) (q : List ℕ) → EndsNumber q → P r v (used ++ q) q
-  pub decided : (r : Rules) (w : V) (more q : List ℕ) → take 1 more ≡ take 1 left → P r w (used ++ more) q → (w ≡ v) × (q ≡ more)
+  pub decided : (r : Rules) (w : V) (more q : List ℕ) → take 1 more ≡ take 1 left → P r w (used ++ more) q →
+      (w ≡ v) × (q ≡ more)
 
 -- The bytes begin with a text of the value, which is taken.
 abbrev pub Takes : {V : Type 0} → Production V → V → List ℕ → List ℕ → Type 0
@@ -66,7 +67,8 @@ GivesSurely P view b (Err kind) left = Fails P kind b left
 -- others, each of the value that `made` makes. Source: own.
 pub record Leads {V W : Type 0} (P : Production V) (Q : Production W) (made : W → V) (used left : List ℕ) : Type 0 where
   pub there : (r : Rules) (w : W) (b q : List ℕ) → Q r w b q → P r (made w) (used ++ b) q
-  pub back : (r : Rules) (v : V) (b q : List ℕ) → take 1 b ≡ take 1 left → P r v (used ++ b) q → (w : W) × (v ≡ made w) × Q r w b q
+  pub back : (r : Rules) (v : V) (b q : List ℕ) → take 1 b ≡ take 1 left → P r v (used ++ b) q →
+      (w : W) × (v ≡ made w) × Q r w b q
 
 -- From these bytes the reader has come to those that are left, and now reads Q for P. Source: own.
 abbrev pub Reaches : {V W : Type 0} → Production V → Production W → (W → V) → List ℕ → List ℕ → Type 0

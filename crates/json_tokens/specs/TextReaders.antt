@@ -19,6 +19,9 @@ SpellsLong least r s b q = SpellsText r s b q × ((least ≤ length s) ⊎ (IsUt
 -- it is the text there. Source: own.
 abbrev pub GivesText : {A : Type 0} → (A → List ℕ) → List ℕ → Result A (Halt JsonKind) → List ℕ → Type 0
 GivesText view b (Ok s) left =
-    (front : List ℕ) × (b ≡ front ++ 34 ∷ left) × ((next : List ℕ) → IsTaken SpellsText (view s) (front ++ 34 ∷ []) next) × ((least : ℕ) (r : Rules) → CanEnd (SpellsLong least) r front)
-GivesText view b (Err (Fault kind)) left = (front : List ℕ) × (b ≡ front ++ left) × ((least : ℕ) → IsFault (SpellsLong least) kind front left)
+    (front : List ℕ) × (b ≡ front ++ 34 ∷ left)
+    × ((next : List ℕ) → IsTaken SpellsText (view s) (front ++ 34 ∷ []) next)
+    × ((least : ℕ) (r : Rules) → CanEnd (SpellsLong least) r front)
+GivesText view b (Err (Fault kind)) left =
+    (front : List ℕ) × (b ≡ front ++ left) × ((least : ℕ) → IsFault (SpellsLong least) kind front left)
 GivesText view b (Err NoMemory) left = Unit {0}

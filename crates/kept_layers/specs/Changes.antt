@@ -1,5 +1,6 @@
 -- What each change of a style or of what it is shown by makes of its kept cells. Source: own.
-use Rattle.std.specs.Prelude.{◌≡◌, ◌<◌, ◌≤◌, ◌+◌, ℕ, ℤ, List, length, map, insert, remove, slice_index_or, slice_set, Bool, false, Result, IfOk}
+use Rattle.std.specs.Prelude.{◌≡◌, ◌<◌, ◌≤◌, ◌+◌, ℕ, ℤ, List, length, map, insert, remove, slice_index_or, slice_set}
+use Rattle.std.specs.Prelude.{Bool, false, Result, IfOk}
 use Rattle.decimal_json.specs.Tree.{Tree}
 use Rattle.decimal_json.specs.View.{tree_of}
 use Rattle.prop_values.specs.Data.{Data}

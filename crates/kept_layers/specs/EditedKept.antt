@@ -1,5 +1,6 @@
 -- What an edit of layers makes of what is kept of them. Source: own.
-use Rattle.std.specs.Prelude.{ℕ, List, length, insert, remove, slice_index_or, Option, Some, None, unwrap_or, if◌then◌else◌}
+use Rattle.std.specs.Prelude.{ℕ, List, length, insert, remove, slice_index_or, Option, Some, None, unwrap_or}
+use Rattle.std.specs.Prelude.{if◌then◌else◌}
 use Rattle.decimal_json.specs.Tree.{Tree, null}
 use Rattle.edit_script.specs.Edit as edits
 use Rattle.edit_script.specs.Edit.{Edit}

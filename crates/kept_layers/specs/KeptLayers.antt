@@ -1,5 +1,6 @@
 -- Which cells of the layers of a style are kept, what drops them, and what a listing makes of them. Source: own.
-use Rattle.std.specs.Prelude.{ℕ, ℤ, ◌+◌, List, [], ◌∷◌, map, slice_index_or, slice_set, Bool, false, not, ◌||◌, ◌&&◌, Option, Some, None, unwrap_or, if◌then◌else◌}
+use Rattle.std.specs.Prelude.{ℕ, ℤ, ◌+◌, List, [], ◌∷◌, map, slice_index_or, slice_set, Bool, false, not, ◌||◌, ◌&&◌}
+use Rattle.std.specs.Prelude.{Option, Some, None, unwrap_or, if◌then◌else◌}
 use Rattle.std.specs.List.{slice_get}
 use Rattle.std.specs.Option.{option_and_then}
 use Rattle.std.specs.Ordering.{int_eq}

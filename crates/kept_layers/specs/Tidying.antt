@@ -21,7 +21,8 @@ module _ {E : Type 0} (slots : E → List Sized) (globals : List (List ℕ × Da
       → HasExpressions slots (slice_index_or ns p 0) (layer_expressions globals (slice_index_or ts p null)) new
 
 -- Each layer has its expressions, and what is kept stays.
-pub record Tidies (slots : FormPool → List Sized) (tiles : List SourceTile) (globals : List (List ℕ × Data)) (ts : List Tree)
+pub record Tidies (slots : FormPool → List Sized) (tiles : List SourceTile) (globals : List (List ℕ × Data))
+    (ts : List Tree)
     (old new : KeptLayers) : Type 0 where
   pub numbered : AreNumbered new
   pub kept : kept_seen new ≡ kept_seen old

@@ -1,4 +1,5 @@
--- What is made of the items of one layer where the values of the global state are others, or a feature's state is. Source: own.
+-- What is made of the items of one layer where the values of the global state are others, or a feature's state is.
+-- Source: own.
 use Rattle.std.specs.Prelude.{◌≡◌, ℕ, List, Bool, false, Option, Some, None, if◌then◌else◌}
 use Rattle.feature_index.specs.Ids.{is_among}
 use Rattle.operator_values.specs.Evaluated.{Evaluated}

@@ -17,7 +17,8 @@ ghost use Rattle.kept_layers.specs.Changes.{ChangesLayer, Drops, IsOneLayer, Tur
 ghost use Rattle.kept_layers.specs.Holding.{Still};
 ghost use Rattle.kept_layers.specs.KeptLayers.{id_at, is_stale_image, is_stale_state, is_stale_zoom, type_of};
 ghost use Rattle.kept_layers.specs.Turning.{is_listed};
-ghost use Rattle.kept_layers.specs.View.{AreNumbered, HoldsLayers, IsPrepared, globals_in, kept_seen, tiles_in, trees_in};
+ghost use Rattle.kept_layers.specs.View.{AreNumbered, HoldsLayers, IsPrepared, globals_in, kept_seen, tiles_in};
+ghost use Rattle.kept_layers.specs.View.{trees_in};
 
 use crate::kept_layers::KeptLayers;
 use crate::style_layers::{OneLayer, StyleLayers};
@@ -44,7 +45,8 @@ impl KeptLayers {
         requires layer { IsOneLayer one.now }
         requires within { place < length self.old.numbers.items }
         requires item { IsItemOf (type_of (tree_of one.now.layer.now)) item }
-        ensures { OnOk result (ChangesLayer ⟦<FormPool as CountedEvaluator>⟧.slots place item one.now self.old self.new) }
+        ensures { OnOk result
+            (ChangesLayer ⟦<FormPool as CountedEvaluator>⟧.slots place item one.now self.old self.new) }
     {
         let number = self.numbers[place];
         let values = one.values();
@@ -86,8 +88,8 @@ impl KeptLayers {
     }
 
     /// The state of the features of a source, a source layer and an id is another. Takes time linear in the layers of
-    /// which an expression reads a state and in the source layers that were noted, and for each layer that shows this source
-    /// layer in the features that have the id; until the source layer is indexed, in all its features.
+    /// which an expression reads a state and in the source layers that were noted, and for each layer that shows this
+    /// source layer in the features that have the id; until the source layer is indexed, in all its features.
     pub fn turn_state(
         &mut self,
         source: &str,

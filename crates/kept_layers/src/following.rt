@@ -6,7 +6,8 @@ ghost use Rattle.edit_script.specs.View.{command_seen};
 ghost use Rattle.style_edits.specs.ByPlace.{place_moved_to};
 ghost use Rattle.style_edits.specs.Needs.{takes_memory};
 ghost use Rattle.kept_layers.specs.EditedKept.{edited_kept, item_named};
-ghost use Rattle.kept_layers.specs.Following.{AddsBefore, ChangesAt, HasFollowed, IsEditOf, IsEdited, IsPlaceIn, MovesAt, RemovesAt};
+ghost use Rattle.kept_layers.specs.Following.{AddsBefore, ChangesAt, HasFollowed, IsEditOf, IsEdited, IsPlaceIn};
+ghost use Rattle.kept_layers.specs.Following.{MovesAt, RemovesAt};
 ghost use Rattle.kept_layers.specs.View.{AreNumbered, IsPrepared, kept_seen, trees_in};
 
 use crate::kept_layers::KeptLayers;
@@ -20,11 +21,11 @@ use property_tables::{Place, row};
 use std::alloc::{AllocError, Global};
 use style_edits::{EditPlaces, place_moved_to};
 
-/// Follows an edit of a style: what is kept is of its layers before the edit, where those that the edit names were
-/// at these places, and `style` is as it is after the edit. The expression of an edited item is read anew, and so are
+/// Follows an edit of a style: what is kept is of its layers before the edit, where those that the edit names were at
+/// these places, and `style` is as it is after the edit. The expression of an edited item is read anew, and so are
 /// those of an added layer. Takes time linear in the item or the layer that is edited, in its kept cells and in the
-/// number of layers; and in the style where the evaluator has twice as many expressions as when all were of items. An edit
-/// that puts nothing into the style takes no memory.
+/// number of layers; and in the style where the evaluator has twice as many expressions as when all were of items. An
+/// edit that puts nothing into the style takes no memory.
 pub fn follow(
     alloc: Global,
     kept: &mut KeptLayers,

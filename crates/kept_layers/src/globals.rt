@@ -32,9 +32,11 @@ impl KeptLayers {
         requires numbered { AreNumbered self.old }
         requires prepared { IsPrepared style.now }
         requires holds { (before : List (List ℕ × Data))
-            × HoldsLayers ⟦<FormPool as CountedEvaluator>⟧.slots (tiles_in style.now) before (trees_in style.now) self.old }
+            × HoldsLayers ⟦<FormPool as CountedEvaluator>⟧.slots (tiles_in style.now) before (trees_in style.now)
+            self.old }
         ensures { (before : List (List ℕ × Data))
-            → HoldsLayers ⟦<FormPool as CountedEvaluator>⟧.slots (tiles_in style.now) before (trees_in style.now) self.old
+            → HoldsLayers ⟦<FormPool as CountedEvaluator>⟧.slots (tiles_in style.now) before
+            (trees_in style.now) self.old
             → OnOk result (TurnsGlobals ⟦<FormPool as CountedEvaluator>⟧.slots (tiles_in style.now)
             before (globals_in style.now) (trees_in style.now) self.old self.new) }
     {
@@ -48,7 +50,8 @@ impl KeptLayers {
         requires prepared { IsPrepared style.now }
         requires counted { length self.old.numbers.items ≡ length (trees_in style.now) }
         ensures { (before : List (List ℕ × Data))
-            → HoldsLayers ⟦<FormPool as CountedEvaluator>⟧.slots (tiles_in style.now) before (trees_in style.now) self.old
+            → HoldsLayers ⟦<FormPool as CountedEvaluator>⟧.slots (tiles_in style.now) before
+            (trees_in style.now) self.old
             → OnOk result (TurnsGlobals ⟦<FormPool as CountedEvaluator>⟧.slots (tiles_in style.now)
             before (globals_in style.now) (trees_in style.now) self.old self.new) }
     {

@@ -4,7 +4,8 @@ ghost use Rattle.std.specs.Prelude.{◌≡◌, ◌<◌, ◌≤◌, None, length,
 ghost use Rattle.layer_buckets.specs.Seen.{features_of};
 ghost use Rattle.style_layout.specs.Forms.{Scene};
 ghost use Rattle.kept_layers.specs.Changes.{AddsLayer, IsOneLayer, MovesLayer, RemovesLayer, nothing_kept};
-ghost use Rattle.kept_layers.specs.View.{AreNumbered, HoldsLayers, IsPrepared, IsRightIn, globals_in, kept_seen, tiles_in, trees_in};
+ghost use Rattle.kept_layers.specs.View.{AreNumbered, HoldsLayers, IsPrepared, IsRightIn, globals_in, kept_seen};
+ghost use Rattle.kept_layers.specs.View.{tiles_in, trees_in};
 
 use crate::style_layers::{OneLayer, StyleLayers};
 use asked_cells::ViewCells;

@@ -11,7 +11,8 @@ ghost use Rattle.asked_cells.specs.SeenCells.{layer_at, scene_at};
 ghost use Rattle.kept_layers.specs.Changes.{Counts, HaveListed};
 ghost use Rattle.kept_layers.specs.KeptLayers.{prepared_layers};
 ghost use Rattle.kept_layers.specs.LayerListing.{IsKeptLayer};
-ghost use Rattle.kept_layers.specs.View.{AreNumbered, HoldsLayers, IsPrepared, IsRightIn, globals_in, kept_seen, tiles_in, trees_in};
+ghost use Rattle.kept_layers.specs.View.{AreNumbered, HoldsLayers, IsPrepared, IsRightIn, globals_in, kept_seen};
+ghost use Rattle.kept_layers.specs.View.{tiles_in, trees_in};
 ghost use Rattle.text_pieces.specs.Adding.{Adds};
 
 use crate::kept_layers::KeptLayers;
@@ -63,8 +64,9 @@ impl KeptLayers {
         Ok(number)
     }
 
-    /// As `list`, where nothing is listed afterwards: where nothing is kept, each cell is evaluated where it is listed, and
-    /// none is kept. The listing is added to a text that is written out piece by piece, and at the end all that waits is.
+    /// As `list`, where nothing is listed afterwards: where nothing is kept, each cell is evaluated where it is listed,
+    /// and none is kept. The listing is added to a text that is written out piece by piece, and at the end all that
+    /// waits is.
     #[tactic(auto, unfolding(listing_text::specs::Listing::listing, style_layout::specs::CodeView::scene_seen))]
     pub fn list_last<'a, V: TextTests, L: Ledger, O: Sink>(
         &mut self,

@@ -22,9 +22,9 @@ use std::alloc::{AllocError, Global};
 const FEW: usize = 256;
 
 impl KeptLayers {
-    /// Puts the expressions of all items into an empty evaluator, where it has become more than twice as large as when it had
-    /// no others, and has more of them than the style has layers. What is kept stays. Takes time linear in the style then,
-    /// after as many new expressions as there were and 130 at least; and else constant time.
+    /// Puts the expressions of all items into an empty evaluator, where it has become more than twice as large as when
+    /// it had no others, and has more of them than the style has layers. What is kept stays. Takes time linear in the
+    /// style then, after as many new expressions as there were and 130 at least; and else constant time.
     pub(crate) fn tidy(&mut self, alloc: Global, style: &StyleLayers<'_>) -> Result<(), AllocError>
         requires numbered { AreNumbered self.old }
         requires prepared { IsPrepared style.now }
@@ -81,7 +81,8 @@ impl KeptLayers {
         ensures others { KeepsNumbers ⟦<FormPool as CountedEvaluator>⟧.slots number
             self.old.cells.buckets self.new.cells.buckets }
         ensures renewed { OnOk result (
-            HasSources number (layer_expressions (globals_of one.now) (tree_of one.now.layer.now)) self.old.cells.buckets
+            HasSources number (layer_expressions (globals_of one.now) (tree_of one.now.layer.now))
+            self.old.cells.buckets
             → HasExpressions ⟦<FormPool as CountedEvaluator>⟧.slots number
             (layer_expressions (globals_of one.now) (tree_of one.now.layer.now)) self.new.cells.buckets) }
     {

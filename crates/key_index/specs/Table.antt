@@ -1,5 +1,6 @@
 -- A table of places, and the keys that it represents.
-use Rattle.std.specs.Prelude.{◌≡◌, ℕ, zero, suc, ◌%◌, ◌<◌, List, [], ◌∷◌, length, drop, Bool, ◌&&◌, not, nat_eq, Option, Some, None, if◌then◌else◌}
+use Rattle.std.specs.Prelude.{◌≡◌, ℕ, zero, suc, ◌%◌, ◌<◌, List, [], ◌∷◌, length, drop, Bool, ◌&&◌, not, nat_eq, Option}
+use Rattle.std.specs.Prelude.{Some, None, if◌then◌else◌}
 use Rattle.std.specs.Option.{option_or}
 use Rattle.key_index.specs.Keys.{place_from, is_at}
 use Rattle.key_index.specs.Hash.{hash_of}
@@ -25,7 +26,9 @@ slots_at (b ∷ bs) (suc home) = slots_at bs home
 
 -- Where a table finds a key: in the bucket of its hash, else in the ordered map.
 abbrev pub later_place : Table → List (List ℕ) → List ℕ → Option ℕ
-later_place t keys key = option_or (slot_place (hash_of key) key keys (slots_at t.buckets.items (hash_of key % length t.buckets.items))) (noted t.crowded key)
+later_place t keys key =
+    option_or (slot_place (hash_of key) key keys (slots_at t.buckets.items (hash_of key % length t.buckets.items)))
+    (noted t.crowded key)
 
 -- Each slot has a place below n.
 abbrev pub AreBelow : ℕ → List Slot → Type 0

@@ -11,7 +11,8 @@ const LONGEST: usize = 64;
 
 /// Whether a key that is not long comes after the last of these, if there is one, in the order of bytes.
 pub(crate) fn is_above<T: Keyed>(entries: &[T], key: &str) -> bool
-    ensures { result ≡ true → IsAscending (map T.key entries.now) → IsAscending (map T.key entries.now ++ key.now ∷ []) }
+    ensures { result ≡ true → IsAscending (map T.key entries.now)
+        → IsAscending (map T.key entries.now ++ key.now ∷ []) }
 {
     if key.len() > LONGEST {
         return false;

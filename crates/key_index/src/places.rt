@@ -1,4 +1,5 @@
-ghost use Rattle.std.specs.Prelude.{◌≡◌, ℕ, ◌<◌, ◌++◌, ◌∷◌, [], List, length, map, OnOk, OnErr, IfOk, Some, None, if◌then◌else◌};
+ghost use Rattle.std.specs.Prelude.{◌≡◌, ℕ, ◌<◌, ◌++◌, ◌∷◌, [], List, length, map, OnOk, OnErr, IfOk, Some, None};
+ghost use Rattle.std.specs.Prelude.{if◌then◌else◌};
 ghost use Rattle.std.specs.Str.{bytes_eq};
 ghost use Rattle.key_index.specs.Keys.{LacksKey, HasDistinctKeys, taken_out};
 ghost use Rattle.key_index.specs.Places.{ArePlacesOf, noted};
@@ -29,7 +30,8 @@ pub(crate) fn note_place(
     key: &str,
     place: usize,
 ) -> Result<(), AllocError>
-    ensures ok { OnOk result ((q : List ℕ) → noted places.new q ≡ (if bytes_eq key.now q then Some place else noted places.old q)) }
+    ensures ok { OnOk result ((q : List ℕ)
+        → noted places.new q ≡ (if bytes_eq key.now q then Some place else noted places.old q)) }
     ensures err { OnErr result ((q : List ℕ) → noted places.new q ≡ noted places.old q) }
 {
     let name = String::from_str(alloc, key)?;

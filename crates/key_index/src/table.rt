@@ -1,4 +1,5 @@
-ghost use Rattle.std.specs.Prelude.{◌≡◌, ℕ, ◌<◌, ◌≤◌, ◌++◌, ◌∷◌, [], List, length, map, slice_set, slice_index_or, OnOk, OnErr, IfOk, IfSome};
+ghost use Rattle.std.specs.Prelude.{◌≡◌, ℕ, ◌<◌, ◌≤◌, ◌++◌, ◌∷◌, [], List, length, map, slice_set, slice_index_or};
+ghost use Rattle.std.specs.Prelude.{OnOk, OnErr, IfOk, IfSome};
 ghost use Rattle.key_index.specs.Keys.{LacksKey, HasDistinctKeys, place_from};
 ghost use Rattle.key_index.specs.Table.{IsFree, IsTable, later_place, slot_place};
 
@@ -77,7 +78,8 @@ impl Table {
     /// Notes a key that is not there, at the place after the others.
     pub(crate) fn note(&mut self, alloc: Global, key: &str, place: usize) -> Result<(), AllocError>
         requires { 0 < length self.old.buckets.items }
-        ensures ok { OnOk result ((keys : List (List ℕ)) → IsTable self.old keys → LacksKey key.now keys → length keys ≡ place → IsTable self.new (keys ++ key.now ∷ [])) }
+        ensures ok { OnOk result ((keys : List (List ℕ)) → IsTable self.old keys → LacksKey key.now keys
+            → length keys ≡ place → IsTable self.new (keys ++ key.now ∷ [])) }
         ensures err { OnErr result ((keys : List (List ℕ)) → IsTable self.old keys → IsTable self.new keys) }
     {
         let Ok(short) = u32::try_from(place) else {
@@ -137,7 +139,9 @@ fn free_slot(bucket: &Bucket) -> Option<usize>
 fn put_slot(buckets: &mut Vec<Bucket>, home: usize, i: usize, slot: Slot)
     requires home { home < length buckets.old.items }
     requires within { i < SLOTS }
-    ensures { (b : Bucket) → buckets.new.items ≡ slice_set buckets.old.items home (record { slots = slice_set (slice_index_or buckets.old.items home b).slots i slot }) }
+    ensures { (b : Bucket) → buckets.new.items
+        ≡ slice_set buckets.old.items home
+        (record { slots = slice_set (slice_index_or buckets.old.items home b).slots i slot }) }
 {
     buckets[home].slots[i] = slot;
 }

@@ -1,9 +1,11 @@
 -- Kept cells by their places, and that the lists have just these.
-use Rattle.std.specs.Prelude.{◌≡◌, ℕ, ◌+◌, ◌-◌, ◌<◌, ◌≤◌, List, length, Bool, true, false, Option, Some, None, is_some, nat_eq, nat_le, vec_capacity, if◌then◌else◌}
+use Rattle.std.specs.Prelude.{◌≡◌, ℕ, ◌+◌, ◌-◌, ◌<◌, ◌≤◌, List, length, Bool, true, false, Option, Some, None, is_some}
+use Rattle.std.specs.Prelude.{nat_eq, nat_le, vec_capacity, if◌then◌else◌}
 use Rattle.index_lists.specs.SlotLists.{times_in}
 use Rattle.index_lists.specs.Holds.{one_of}
 use Rattle.operator_values.specs.Evaluated.{Evaluated}
-use Rattle.layer_buckets.specs.KeptSlots.{Kept, SeenColumn, kept_of, place_in, full_count, column_at, slot_of, outcome_at}
+use Rattle.layer_buckets.specs.KeptSlots.{Kept, SeenColumn, kept_of, place_in, full_count, column_at, slot_of}
+use Rattle.layer_buckets.specs.KeptSlots.{outcome_at}
 use Rattle.layer_buckets.specs.Listing.{no_lists, AreThere, HoldAll, HaveSlots, AreCounted}
 use Rattle.layer_buckets.specs.declared.cell.Source.{Source}
 use Rattle.layer_buckets.specs.declared.columns.Column.{Column}

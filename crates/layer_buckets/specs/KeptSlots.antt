@@ -1,5 +1,6 @@
 -- What slots keep, and where.
-use Rattle.std.specs.Prelude.{ℕ, ◌+◌, List, [], ◌∷◌, Bool, false, ◌&&◌, Option, Some, None, Ok, Err, is_some, nat_eq, length, if◌then◌else◌}
+use Rattle.std.specs.Prelude.{ℕ, ◌+◌, List, [], ◌∷◌, Bool, false, ◌&&◌, Option, Some, None, Ok, Err, is_some, nat_eq}
+use Rattle.std.specs.Prelude.{length, if◌then◌else◌}
 use Rattle.std.specs.List.{slice_get}
 use Rattle.prop_values.specs.View.{data_of}
 use Rattle.prop_values.specs.declared.value.Value.{Value}

@@ -5,7 +5,8 @@ use Rattle.operator_values.specs.Evaluated.{Evaluated}
 use Rattle.eval_face.specs.World.{World}
 use Rattle.expr_nodes.specs.Evaluators.{Sized}
 use Rattle.layer_buckets.specs.Cells.{names}
-use Rattle.layer_buckets.specs.LaidOut.{IsCellTable, feature_count, features_in_table, kept_in_table, row_of, source_in_table}
+use Rattle.layer_buckets.specs.LaidOut.{IsCellTable, feature_count, features_in_table, kept_in_table, row_of}
+use Rattle.layer_buckets.specs.LaidOut.{source_in_table}
 use Rattle.layer_buckets.specs.declared.buckets.Buckets.{Buckets}
 use Rattle.layer_buckets.specs.declared.cell.Cell.{Cell}
 use Rattle.layer_buckets.specs.declared.cell.CellItem.{CellItem}

@@ -3,7 +3,8 @@ use Rattle.std.specs.Prelude.{◌≡◌, ℕ, ◌<◌, ◌≤◌, List, Bool, fa
 use Rattle.std.specs.List.{slice_get}
 use Rattle.layer_buckets.specs.Cells.{is_item}
 use Rattle.layer_buckets.specs.KeptSlots.{SeenColumn, column_at}
-use Rattle.layer_buckets.specs.LaidOut.{column_of, feature_count, features_in, features_in_table, first_state_in, item_number, kept_in_table, source_in_table, states_in}
+use Rattle.layer_buckets.specs.LaidOut.{column_of, feature_count, features_in, features_in_table, first_state_in}
+use Rattle.layer_buckets.specs.LaidOut.{item_number, kept_in_table, source_in_table, states_in}
 use Rattle.layer_buckets.specs.declared.cell.Cell.{Cell}
 use Rattle.layer_buckets.specs.declared.cell.CellItem.{CellItem}
 use Rattle.layer_buckets.specs.declared.cell.Source.{Source}

@@ -1,12 +1,14 @@
 //! Kept values of cells over an evaluator.
 
-ghost use Rattle.std.specs.Prelude.{◌≡◌, ℕ, ◌+◌, ◌<◌, ◌≤◌, length, if◌then◌else◌, Option, Some, None, is_some, true, IfOk, IfSome, OnOk, OnErr, nat_eq};
+ghost use Rattle.std.specs.Prelude.{◌≡◌, ℕ, ◌+◌, ◌<◌, ◌≤◌, length, if◌then◌else◌, Option, Some, None, is_some, true};
+ghost use Rattle.std.specs.Prelude.{IfOk, IfSome, OnOk, OnErr, nat_eq};
 ghost use Rattle.std.specs.Borrow.{sem};
 ghost use Rattle.expr_nodes.specs.Evaluators.{nodes_at};
 ghost use Rattle.layer_buckets.specs.Cells.{cell_eq, is_item};
 ghost use Rattle.layer_buckets.specs.Lending.{LendsEvaluator};
 ghost use Rattle.layer_buckets.specs.Outcomes.{outcome_owned, seen_outcome};
-ghost use Rattle.layer_buckets.specs.Seen.{HasFeature, IsSound, evaluator_of, features_of, given_at, kept_at, names_cell, refreshed, slot_in_source, source_of};
+ghost use Rattle.layer_buckets.specs.Seen.{HasFeature, IsSound, evaluator_of, features_of, given_at, kept_at};
+ghost use Rattle.layer_buckets.specs.Seen.{names_cell, refreshed, slot_in_source, source_of};
 ghost use Rattle.layer_buckets.specs.Slotted.{slotted_at};
 ghost use Rattle.layer_buckets.specs.declared.cell.Cell.{Cell};
 ghost use Rattle.layer_buckets.specs.declared.cell.CellItem.{CellItem};
@@ -212,8 +214,8 @@ impl<E: CountedEvaluator + Drop> Buckets<E> {
         Ok(1)
     }
 
-    /// The value of an item of a layer in a world, or its fault, which is not kept. The workspace is the memory of an evaluation, and
-    /// any serves.
+    /// The value of an item of a layer in a world, or its fault, which is not kept. The workspace is the memory of an
+    /// evaluation, and any serves.
     pub fn evaluate<W: WorldView, L: Ledger>(
         &self,
         workspace: &mut Workspace,
@@ -222,7 +224,9 @@ impl<E: CountedEvaluator + Drop> Buckets<E> {
         steps: &mut Steps<L>,
     ) -> Result<Result<Value, EvalFault>, AllocError>
         requires { source.now.slot < length (E.slots (evaluator_of self.now)) }
-        ensures given { IfOk result (λ outcome. given_at (E.slots (evaluator_of self.now)) source.now.slot (W.world world.now) ≡ Some (outcome_owned outcome)) }
+        ensures given { IfOk result
+            (λ outcome. given_at (E.slots (evaluator_of self.now)) source.now.slot (W.world world.now)
+            ≡ Some (outcome_owned outcome)) }
         ensures least { steps.old < steps.new }
         ensures most { steps.new ≤ steps.old + nodes_at (E.slots (evaluator_of self.now)) source.now.slot }
     {

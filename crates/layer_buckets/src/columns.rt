@@ -1,6 +1,7 @@
 //! Columns: the cells of one item.
 
-ghost use Rattle.std.specs.Prelude.{◌≡◌, ◌≢◌, ℕ, ◌+◌, ◌-◌, ◌<◌, ◌++◌, [], Some, None, length, is_ok, is_some, max, nat_eq, replicate, true, if◌then◌else◌, slice_set, vec_capacity, OnOk};
+ghost use Rattle.std.specs.Prelude.{◌≡◌, ◌≢◌, ℕ, ◌+◌, ◌-◌, ◌<◌, ◌++◌, [], Some, None, length, is_ok, is_some, max};
+ghost use Rattle.std.specs.Prelude.{nat_eq, replicate, true, if◌then◌else◌, slice_set, vec_capacity, OnOk};
 ghost use Rattle.std.specs.List.{slice_get};
 ghost use Rattle.layer_buckets.specs.Growing.{HasRows};
 ghost use Rattle.layer_buckets.specs.Keeping.{image_list, lists_in_column, state_list, zoom_list};
@@ -211,7 +212,8 @@ pub fn set_source(columns: &mut Vec<Column>, column: u32, source: Option<Source>
 pub fn set_number(columns: &mut Vec<Column>, column: u32, number: u32)
     requires { column < length columns.old.items }
     ensures seen { (n : ℕ) → column_at columns.new.items n
-        ≡ (if nat_eq n column then column_slotted number (column_at columns.old.items n) else column_at columns.old.items n) }
+        ≡ (if nat_eq n column then column_slotted number (column_at columns.old.items n)
+        else column_at columns.old.items n) }
     ensures slot_named { (p : CellPlace) → slot_of columns.new.items p ≡ slot_of columns.old.items p }
     ensures count { length columns.new.items ≡ length columns.old.items }
 {

@@ -1,9 +1,12 @@
 //! Kept cells by their places, each in a list of each cause for which it may be dropped.
 
-ghost use Rattle.std.specs.Prelude.{◌≡◌, ◌≢◌, ℕ, ◌+◌, ◌<◌, ◌≤◌, ◌&&◌, ◌++◌, ◌∷◌, [], length, vec_capacity, slice_set, if◌then◌else◌, Option, Some, None, is_some, true, IfOk, IfSome, IfNone, OnErr, OnOk, nat_eq};
+ghost use Rattle.std.specs.Prelude.{◌≡◌, ◌≢◌, ℕ, ◌+◌, ◌<◌, ◌≤◌, ◌&&◌, ◌++◌, ◌∷◌, [], length, vec_capacity, slice_set};
+ghost use Rattle.std.specs.Prelude.{if◌then◌else◌, Option, Some, None, is_some, true, IfOk, IfSome, IfNone, OnErr};
+ghost use Rattle.std.specs.Prelude.{OnOk, nat_eq};
 ghost use Rattle.layer_buckets.specs.Growing.{HasRoom, HasRows, StaySeen};
 ghost use Rattle.layer_buckets.specs.LaidOut.{source_seen};
-ghost use Rattle.layer_buckets.specs.KeptSlots.{SeenColumn, column_at, full_count, is_place, kept_of, place_in, same_place};
+ghost use Rattle.layer_buckets.specs.KeptSlots.{SeenColumn, column_at, full_count, is_place, kept_of, place_in};
+ghost use Rattle.layer_buckets.specs.KeptSlots.{same_place};
 ghost use Rattle.layer_buckets.specs.Keeping.{IsKeeping, kept_outcome, lists_at, lists_of, slot_named};
 ghost use Rattle.layer_buckets.specs.Listing.{AreAlike, AreThere, IsThere, is_in};
 ghost use Rattle.layer_buckets.specs.Outcomes.{outcome_owned, seen_outcome};

@@ -1,11 +1,13 @@
 //! Layers by their numbers.
 
-ghost use Rattle.std.specs.Prelude.{◌≡◌, ℕ, ◌+◌, ◌<◌, ◌≤◌, [], Some, None, IfSome, IfNone, OnOk, OnErr, length, nat_eq, if◌then◌else◌};
+ghost use Rattle.std.specs.Prelude.{◌≡◌, ℕ, ◌+◌, ◌<◌, ◌≤◌, [], Some, None, IfSome, IfNone, OnOk, OnErr, length, nat_eq};
+ghost use Rattle.std.specs.Prelude.{if◌then◌else◌};
 ghost use Rattle.std.specs.List.{slice_get};
 ghost use Rattle.layer_buckets.specs.Cells.{is_item, item_eq};
 ghost use Rattle.layer_buckets.specs.Sources.{StayLayers};
 ghost use Rattle.layer_buckets.specs.declared.cell.CellItem.{CellItem};
-ghost use Rattle.layer_buckets.specs.LaidOut.{column_of, feature_count, features_in, first_state_in, flat, item_number, item_of, items_in, row_of, state_of_feature, states_in};
+ghost use Rattle.layer_buckets.specs.LaidOut.{column_of, feature_count, features_in, first_state_in, flat, item_number};
+ghost use Rattle.layer_buckets.specs.LaidOut.{item_of, items_in, row_of, state_of_feature, states_in};
 
 use crate::cell::CellItem;
 use std::alloc::{AllocError, Global};

@@ -1,9 +1,12 @@
 //! The lists in which slots are, one of each kind, by what their values may be dropped for.
 
-ghost use Rattle.std.specs.Prelude.{◌≡◌, ◌+◌, ◌<◌, ◌≤◌, ◌&&◌, ℕ, Option, None, length, is_some, true, IfOk, IfSome, OnErr, OnOk, false, slice_get};
+ghost use Rattle.std.specs.Prelude.{◌≡◌, ◌+◌, ◌<◌, ◌≤◌, ◌&&◌, ℕ, Option, None, length, is_some, true, IfOk, IfSome};
+ghost use Rattle.std.specs.Prelude.{OnErr, OnOk, false, slice_get};
 ghost use Rattle.index_lists.specs.SlotLists.{IsFree, IsListed};
 ghost use Rattle.index_lists.specs.Holds.{Holds, MovesSlot};
-ghost use Rattle.layer_buckets.specs.Listing.{Alike, AreAlike, AreCounted, AreGrown, AreThere, AreWider, Grows, HaveSlots, HoldAll, IsListedIn, IsThere, IsUnlisted, MovesNumbers, Widens, list_named, no_lists};
+ghost use Rattle.layer_buckets.specs.Listing.{Alike, AreAlike, AreCounted, AreGrown, AreThere, AreWider, Grows};
+ghost use Rattle.layer_buckets.specs.Listing.{HaveSlots, HoldAll, IsListedIn, IsThere, IsUnlisted, MovesNumbers};
+ghost use Rattle.layer_buckets.specs.Listing.{Widens, list_named, no_lists};
 ghost use Rattle.layer_buckets.specs.declared.lists.ListNumbers.{ListNumbers};
 
 use index_lists::Links;

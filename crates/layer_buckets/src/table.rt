@@ -1,6 +1,7 @@
 //! The cells of layers, by the columns of their items.
 
-ghost use Rattle.std.specs.Prelude.{◌≡◌, ℕ, ◌+◌, ◌<◌, ◌≤◌, Some, None, IfOk, OnOk, OnErr, is_some, length, nat_eq, true, if◌then◌else◌};
+ghost use Rattle.std.specs.Prelude.{◌≡◌, ℕ, ◌+◌, ◌<◌, ◌≤◌, Some, None, IfOk, OnOk, OnErr, is_some, length, nat_eq};
+ghost use Rattle.std.specs.Prelude.{true, if◌then◌else◌};
 ghost use Rattle.std.specs.List.{slice_get};
 ghost use Rattle.layer_buckets.specs.Cells.{cell_eq, is_item};
 ghost use Rattle.layer_buckets.specs.Drops.{AreKept, Drops, DropsList};
@@ -13,7 +14,9 @@ ghost use Rattle.layer_buckets.specs.Sources.{HasSource, HasStates, IsCleared, S
 ghost use Rattle.layer_buckets.specs.declared.cell.Cell.{Cell};
 ghost use Rattle.layer_buckets.specs.declared.cell.CellItem.{CellItem};
 ghost use Rattle.layer_buckets.specs.Outcomes.{outcome_owned, seen_outcome};
-ghost use Rattle.layer_buckets.specs.LaidOut.{IsCellTable, column_of, feature_count, features_in, features_in_table, item_of, items_in, kept_in_table, row_of, source_in_table, state_of_feature, states_in};
+ghost use Rattle.layer_buckets.specs.LaidOut.{IsCellTable, column_of, feature_count, features_in, features_in_table};
+ghost use Rattle.layer_buckets.specs.LaidOut.{item_of, items_in, kept_in_table, row_of, source_in_table};
+ghost use Rattle.layer_buckets.specs.LaidOut.{state_of_feature, states_in};
 ghost use Rattle.layer_buckets.specs.declared.cell.Stale.TheVariants.{Globals, Images, Item, Layer, State, Zoom};
 
 use crate::cell::{Cell, CellItem, Source, Stale};
@@ -40,7 +43,8 @@ impl CellTable {
         ensures table { IfOk result IsCellTable }
         ensures kept { IfOk result (λ table. (cell : Cell) → kept_in_table table cell ≡ None) }
         ensures features { IfOk result (λ table. (layer : ℕ) → features_in_table table layer ≡ None) }
-        ensures sources { IfOk result (λ table. (layer : ℕ) (item : CellItem) → source_in_table table layer item ≡ None) }
+        ensures sources { IfOk result
+            (λ table. (layer : ℕ) (item : CellItem) → source_in_table table layer item ≡ None) }
     {
         Ok(CellTable {
             layers: Vec::new(alloc),

@@ -3,7 +3,8 @@ use Rattle.std.specs.Prelude.{Bool, true, false, ◌||◌}
 use Rattle.legacy_filters.specs.declared.filter.Key.{Key}
 use Rattle.legacy_filters.specs.declared.filter.Key.TheVariants.{Shape, Id, Property}
 use Rattle.legacy_filters.specs.declared.filter.Test.{Test}
-use Rattle.legacy_filters.specs.declared.filter.Test.TheVariants.{Has, HasNot, Equal, NotEqual, Ordered, Among, NotAmong}
+use Rattle.legacy_filters.specs.declared.filter.Test.TheVariants.{Has, HasNot, Equal, NotEqual, Ordered, Among}
+use Rattle.legacy_filters.specs.declared.filter.Test.TheVariants.{NotAmong}
 use Rattle.legacy_filters.specs.declared.scalars.Scalar.{Scalar}
 use Rattle.legacy_filters.specs.declared.scalars.Scalar.TheVariants.{Flag, Number, Text}
 use Rattle.legacy_filters.specs.Filter.{Filter, flag, test, group, Filters, no_filters, filter}

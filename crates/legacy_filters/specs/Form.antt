@@ -1,5 +1,6 @@
 -- Which trees are legacy filters, and which part of another tree is ill-formed. Source: own.
-use Rattle.std.specs.Prelude.{ℕ, ◌+◌, ℤ, List, [], ◌∷◌, ◌++◌, nat_lt, codes, Option, Some, None, option_map, Result, Ok, Err, if◌then◌else◌}
+use Rattle.std.specs.Prelude.{ℕ, ◌+◌, ℤ, List, [], ◌∷◌, ◌++◌, nat_lt, codes, Option, Some, None, option_map, Result, Ok}
+use Rattle.std.specs.Prelude.{Err, if◌then◌else◌}
 use Rattle.std.specs.Str.{bytes_eq}
 use Rattle.fixed_num.specs.Decimal.{read_text}
 use Rattle.fixed_num.specs.declared.decimal.NumFault.{NumFault}
@@ -15,7 +16,8 @@ use Rattle.legacy_filters.specs.declared.filter.Order.TheVariants.{Below, AtMost
 use Rattle.legacy_filters.specs.declared.scalars.Scalar.{Scalar}
 use Rattle.legacy_filters.specs.declared.scalars.Scalar.TheVariants as scalars
 use Rattle.legacy_filters.specs.declared.filter.Test.{Test}
-use Rattle.legacy_filters.specs.declared.filter.Test.TheVariants.{Has, HasNot, Equal, NotEqual, Ordered, Among, NotAmong}
+use Rattle.legacy_filters.specs.declared.filter.Test.TheVariants.{Has, HasNot, Equal, NotEqual, Ordered, Among}
+use Rattle.legacy_filters.specs.declared.filter.Test.TheVariants.{NotAmong}
 use Rattle.legacy_filters.specs.Split.{is_named}
 use Rattle.legacy_filters.specs.Filter.{Filter, flag, test, group, Filters, no_filters, filter}
 
@@ -141,7 +143,8 @@ most_open = 24
 
 -- a group with 24 open around it is ill-formed, whatever its parts are
 abbrev pub group_form : Group → List FilterReader → FilterReader
-group_form g rs count path = if nat_lt count most_open then grouped g (parts_form 1 rs (count + 1) path) else ill_formed path
+group_form g rs count path =
+    if nat_lt count most_open then grouped g (parts_form 1 rs (count + 1) path) else ill_formed path
 
 -- an array that begins with a name, by the elements after it and what these read as
 abbrev pub unless_group : Option Group → List ℕ → Trees → List FilterReader → FilterReader

@@ -1,5 +1,6 @@
 -- Which features pass a legacy filter, by cases on the filter itself. Source: own.
-use Rattle.std.specs.Prelude.{ℕ, ◌*◌, pos, List, [], ◌∷◌, Bool, true, false, not, Option, Some, None, is_some, option_map}
+use Rattle.std.specs.Prelude.{ℕ, ◌*◌, pos, List, [], ◌∷◌, Bool, true, false, not, Option, Some, None, is_some}
+use Rattle.std.specs.Prelude.{option_map}
 use Rattle.std.specs.List.{list_all, list_any}
 use Rattle.std.specs.declared.cmp.Ordering.{Ordering}
 use Rattle.std.specs.declared.cmp.Ordering.TheVariants.{Less, Equal as Same, Greater}
@@ -16,7 +17,8 @@ use Rattle.legacy_filters.specs.declared.filter.Order.{Order}
 use Rattle.legacy_filters.specs.declared.filter.Order.TheVariants.{Below, AtMost, Above, AtLeast}
 use Rattle.legacy_filters.specs.declared.scalars.Scalar.{Scalar}
 use Rattle.legacy_filters.specs.declared.filter.Test.{Test}
-use Rattle.legacy_filters.specs.declared.filter.Test.TheVariants.{Has, HasNot, Equal, NotEqual, Ordered, Among, NotAmong}
+use Rattle.legacy_filters.specs.declared.filter.Test.TheVariants.{Has, HasNot, Equal, NotEqual, Ordered, Among}
+use Rattle.legacy_filters.specs.declared.filter.Test.TheVariants.{NotAmong}
 use Rattle.legacy_filters.specs.Filter.{Filter, flag, test, group, Filters, no_filters, filter}
 use Rattle.legacy_filters.specs.Scalars.{scalar_data, is_equal, is_one_of}
 

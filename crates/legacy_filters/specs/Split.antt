@@ -39,7 +39,8 @@ named_is_legacy name ts any_legacy =
     if bytes_eq name (codes "has") then has_is_legacy ts else
     if bytes_eq name (codes "in") then in_is_legacy ts else
     if is_named name (codes "!in" ∷ codes "!has" ∷ codes "none" ∷ []) then true else
-    if is_named name (codes "==" ∷ codes "!=" ∷ codes "<" ∷ codes "<=" ∷ codes ">" ∷ codes ">=" ∷ []) then comparison_is_legacy ts else
+    if is_named name (codes "==" ∷ codes "!=" ∷ codes "<" ∷ codes "<=" ∷ codes ">" ∷ codes ">=" ∷ [])
+    then comparison_is_legacy ts else
     if is_named name (codes "all" ∷ codes "any" ∷ []) then any_legacy else
     false
 

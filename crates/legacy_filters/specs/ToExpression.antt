@@ -10,7 +10,8 @@ use Rattle.legacy_filters.specs.declared.filter.Order.TheVariants.{Below, AtMost
 use Rattle.legacy_filters.specs.declared.scalars.Scalar.{Scalar}
 use Rattle.legacy_filters.specs.declared.scalars.Scalar.TheVariants as scalars
 use Rattle.legacy_filters.specs.declared.filter.Test.{Test}
-use Rattle.legacy_filters.specs.declared.filter.Test.TheVariants.{Has, HasNot, Equal, NotEqual, Ordered, Among, NotAmong}
+use Rattle.legacy_filters.specs.declared.filter.Test.TheVariants.{Has, HasNot, Equal, NotEqual, Ordered, Among}
+use Rattle.legacy_filters.specs.declared.filter.Test.TheVariants.{NotAmong}
 use Rattle.legacy_filters.specs.Filter.{Filter, flag, test, group, Filters, no_filters, filter}
 
 -- an array of a name and elements
@@ -54,7 +55,8 @@ kind_and_order order kind value v =
 -- nothing is ordered with a boolean
 abbrev pub order_expression : Order → Key → Scalar → Tree
 order_expression order key (scalars.Flag b) = boolean false
-order_expression order key (scalars.Number n z) = kind_and_order order (codes "number") (value_expression key) (number n)
+order_expression order key (scalars.Number n z) =
+    kind_and_order order (codes "number") (value_expression key) (number n)
 order_expression order key (scalars.Text s) = kind_and_order order (codes "string") (value_expression key) (text s)
 
 abbrev pub among_expression : Key → List Scalar → Tree

@@ -1,7 +1,8 @@
 //! Whether a filter asks for the feature.
 
 ghost use Rattle.std.specs.Prelude.{◌≡◌};
-ghost use Rattle.legacy_filters.specs.AskedParts.{asks_feature, is_order_of, may_be_missing, some_asks_feature, test_asks_feature};
+ghost use Rattle.legacy_filters.specs.AskedParts.{asks_feature, is_order_of, may_be_missing, some_asks_feature};
+ghost use Rattle.legacy_filters.specs.AskedParts.{test_asks_feature};
 ghost use Rattle.legacy_filters.specs.View.{filter_of, part_filter, part_filters};
 
 use crate::filter::{Key, LegacyFilter, Part, Test};

@@ -3,7 +3,9 @@
 ghost use Rattle.std.specs.Prelude.{◌≡◌, [], ◌∷◌, map, IfOk};
 ghost use Rattle.decimal_json.specs.Tree.{text, list, trees_of, null};
 ghost use Rattle.decimal_json.specs.View.{tree_of, items_view};
-ghost use Rattle.legacy_filters.specs.ToExpression.{call, negation, value_expression, scalar_tree, has_expression, order_name, kind_and_order, order_expression, among_expression, test_expression, group_expression, expression, expressions};
+ghost use Rattle.legacy_filters.specs.ToExpression.{call, negation, value_expression, scalar_tree, has_expression};
+ghost use Rattle.legacy_filters.specs.ToExpression.{order_name, kind_and_order, order_expression, among_expression};
+ghost use Rattle.legacy_filters.specs.ToExpression.{test_expression, group_expression, expression, expressions};
 ghost use Rattle.legacy_filters.specs.View.{filter_of, part_filter, part_filters};
 
 use crate::filter::{Group, Key, LegacyFilter, Order, Part, Test};
@@ -143,7 +145,8 @@ fn scalar_json(scalar: &Scalar) -> Result<Json, AllocError>
 }
 
 fn comparison(alloc: Global, name: &str, key: &Key, scalar: &Scalar) -> Result<Json, AllocError>
-    ensures { IfOk result (λ made. tree_of made ≡ call name.now (value_expression key.now ∷ scalar_tree scalar.now ∷ [])) }
+    ensures { IfOk result
+        (λ made. tree_of made ≡ call name.now (value_expression key.now ∷ scalar_tree scalar.now ∷ [])) }
 {
     let value = value_expression(alloc, key)?;
     let scalar = scalar_json(scalar)?;
@@ -172,7 +175,8 @@ fn kind_and_order(
     key: &Key,
     scalar: &Scalar,
 ) -> Result<Json, AllocError>
-    ensures { IfOk result (λ made. tree_of made ≡ kind_and_order order kind.now (value_expression key.now) (scalar_tree scalar.now)) }
+    ensures { IfOk result
+        (λ made. tree_of made ≡ kind_and_order order kind.now (value_expression key.now) (scalar_tree scalar.now)) }
 {
     let value = value_expression(alloc, key)?;
     let found = call_one(alloc, "typeof", value)?;

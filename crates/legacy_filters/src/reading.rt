@@ -3,7 +3,10 @@
 ghost use Rattle.std.specs.Prelude.{◌≡◌, Ok, Err, IfOk, option_map};
 ghost use Rattle.decimal_json.specs.View.{path_of, tree_of, trees};
 ghost use Rattle.legacy_filters.specs.declared.filter.Test.TheVariants as tests;
-ghost use Rattle.legacy_filters.specs.Form.{key_named, shape_scalar, plain_scalar, number_scalar, scalar_form, one_scalar, ordered_scalar, scalars_form, alone, test_form, keyed_form, or_ill_formed, group_named, group_form, named_form, array_form, form, forms, ill_formed, reading};
+ghost use Rattle.legacy_filters.specs.Form.{key_named, shape_scalar, plain_scalar, number_scalar, scalar_form};
+ghost use Rattle.legacy_filters.specs.Form.{one_scalar, ordered_scalar, scalars_form, alone, test_form, keyed_form};
+ghost use Rattle.legacy_filters.specs.Form.{or_ill_formed, group_named, group_form, named_form, array_form, form};
+ghost use Rattle.legacy_filters.specs.Form.{forms, ill_formed, reading};
 ghost use Rattle.legacy_filters.specs.View.{part_filter, part_read, read_of};
 
 use crate::filter::{FilterFault, Group, Key, LegacyFilter, Order, Part, Test};
@@ -71,7 +74,9 @@ fn read_named(
     count: u32,
     here: &Here<'_>,
 ) -> Result<Result<Part, FilterFault>, AllocError>
-    ensures { IfOk result (λ read. part_read read ≡ named_form name.now (trees elements.now) (forms (trees elements.now)) count (path_of here.now)) }
+    ensures { IfOk result
+        (λ read. part_read read ≡ named_form name.now (trees elements.now) (forms (trees elements.now)) count
+        (path_of here.now)) }
 {
     match group_named(name) {
         Some(group) => read_group(alloc, group, elements, count, here),
@@ -91,7 +96,8 @@ fn read_group(
     count: u32,
     here: &Here<'_>,
 ) -> Result<Result<Part, FilterFault>, AllocError>
-    ensures { IfOk result (λ read. part_read read ≡ group_form group (forms (trees elements.now)) count (path_of here.now)) }
+    ensures { IfOk result
+        (λ read. part_read read ≡ group_form group (forms (trees elements.now)) count (path_of here.now)) }
 {
     if count >= MOST_OPEN {
         return refused(alloc, here);
@@ -210,7 +216,8 @@ fn has_not_form(elements: &[Json]) -> Option<Test>
 }
 
 fn ordered_form(order: Order, key: &Key, elements: &[Json]) -> Result<Option<Test>, AllocError>
-    ensures { IfOk result (λ test. test ≡ option_map (tests.Ordered order) (ordered_scalar key.now (trees elements.now))) }
+    ensures { IfOk result
+        (λ test. test ≡ option_map (tests.Ordered order) (ordered_scalar key.now (trees elements.now))) }
 {
     if matches!(key, Key::Shape) {
         return Ok(None);

@@ -113,14 +113,16 @@ fn note(index: &mut ScalarIndex, scalar: &Scalar) -> Result<(), AllocError>
 }
 
 fn note_number(numbers: &mut BTreeSet<i128>, number: i128) -> Result<(), AllocError>
-    ensures { OnOk result ((z : ℤ) → contains int_cmp numbers.new z ≡ (int_eq number z || contains int_cmp numbers.old z)) }
+    ensures { OnOk result ((z : ℤ) → contains int_cmp numbers.new z
+        ≡ (int_eq number z || contains int_cmp numbers.old z)) }
 {
     numbers.insert(number)?;
     Ok(())
 }
 
 fn note_text(texts: &mut Entries, text: &Text) -> Result<(), AllocError>
-    ensures { OnOk result ((s : List ℕ) → is_some (at_key s (pairs_of texts.new)) ≡ (same_text text.now s || is_some (at_key s (pairs_of texts.old)))) }
+    ensures { OnOk result ((s : List ℕ)
+        → is_some (at_key s (pairs_of texts.new)) ≡ (same_text text.now s || is_some (at_key s (pairs_of texts.old)))) }
 {
     texts.set(text.share()?, Value::Null)
 }

@@ -1,6 +1,8 @@
 ghost use Rattle.std.specs.Prelude.{◌≡◌};
 ghost use Rattle.decimal_json.specs.View.{tree_of, trees};
-ghost use Rattle.legacy_filters.specs.Split.{is_array, is_special_key, has_is_legacy, in_is_legacy, comparison_is_legacy, named_is_legacy, is_legacy, array_is_legacy, some_legacy};
+ghost use Rattle.legacy_filters.specs.Split.{is_array, is_special_key, has_is_legacy, in_is_legacy};
+ghost use Rattle.legacy_filters.specs.Split.{comparison_is_legacy, named_is_legacy, is_legacy, array_is_legacy};
+ghost use Rattle.legacy_filters.specs.Split.{some_legacy};
 
 use decimal_json::Json;
 

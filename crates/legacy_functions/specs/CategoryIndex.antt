@@ -40,10 +40,12 @@ value_place index _ = None
 
 -- An index as it was and as it is with one input more: that one has its place, each other what it had.
 abbrev pub NotesInput : Input → ℕ → CategoryIndex → CategoryIndex → Type 0
-NotesInput input place old new = (i : Input) → place_at new i ≡ (if same_input input i then Some place else place_at old i)
+NotesInput input place old new =
+    (i : Input) → place_at new i ≡ (if same_input input i then Some place else place_at old i)
 
 abbrev pub NotesText : List ℕ → ℕ → Texts → Texts → Type 0
-NotesText name place old new = (s : List ℕ) → text_place new s ≡ (if same_text name s then Some place else text_place old s)
+NotesText name place old new =
+    (s : List ℕ) → text_place new s ≡ (if same_text name s then Some place else text_place old s)
 
 abbrev pub NotesNumber : ℤ → ℕ → BTreeMap ℤ ℕ → BTreeMap ℤ ℕ → Type 0
 NotesNumber y place old new = (z : ℤ) → get int_cmp new z ≡ (if int_eq y z then Some place else get int_cmp old z)

@@ -1,5 +1,7 @@
 -- Which objects are legacy functions of a row, and which of these are outside. Source: own.
-use Rattle.std.specs.Prelude.{ℕ, ℤ, pos, List, [], ◌∷◌, Bool, true, false, not, ◌&&◌, ◌||◌, codes, Option, Some, None, is_some, is_none, option_map, option_and_then, int_le, int_lt, Result, Ok, Err, if◌then◌else◌}
+use Rattle.std.specs.Prelude.{ℕ, ℤ, pos, List, [], ◌∷◌, Bool, true, false, not, ◌&&◌, ◌||◌, codes, Option, Some, None}
+use Rattle.std.specs.Prelude.{is_some, is_none, option_map, option_and_then, int_le, int_lt, Result, Ok, Err}
+use Rattle.std.specs.Prelude.{if◌then◌else◌}
 use Rattle.std.specs.List.{list_any}
 use Rattle.std.specs.Ordering.{int_eq}
 use Rattle.std.specs.Str.{bytes_eq}
@@ -12,10 +14,13 @@ use Rattle.prop_values.specs.Data.{Data}
 use Rattle.prop_values.specs.Equality.{same_flag, same_text}
 use Rattle.property_tables.specs.Literals.{literal_of}
 use Rattle.property_tables.specs.Rows.{RowData}
-use Rattle.legacy_functions.specs.Function.{Spelled, Input, flag, number, word, Output, literal, tokens, Way, even, curved, stepped, PropertyRule, numeric, categorical, Body, plain, zoomed, identity, Function}
+use Rattle.legacy_functions.specs.Function.{Spelled, Input, flag, number, word, Output, literal, tokens, Way, even}
+use Rattle.legacy_functions.specs.Function.{curved, stepped, PropertyRule, numeric, categorical, Body, plain, zoomed}
+use Rattle.legacy_functions.specs.Function.{identity, Function}
 use Rattle.legacy_functions.specs.Tokens.{has_tokens}
 use Rattle.legacy_functions.specs.declared.function.FunctionType.{FunctionType}
-use Rattle.legacy_functions.specs.declared.function.FunctionType.TheVariants.{Exponential, Interval, Categorical, Identity}
+use Rattle.legacy_functions.specs.declared.function.FunctionType.TheVariants.{Exponential, Interval, Categorical}
+use Rattle.legacy_functions.specs.declared.function.FunctionType.TheVariants.{Identity}
 
 -- nothing unless a test holds
 abbrev pub where_true : {A : Type 0} → Bool → Option A → Option A
@@ -40,7 +45,8 @@ is_named name names = list_any (bytes_eq name) names
 abbrev pub has_known_members : Fields → Bool
 has_known_members no_fields = true
 has_known_members (field k t fs) =
-    is_named k (codes "stops" ∷ codes "property" ∷ codes "base" ∷ codes "type" ∷ codes "default" ∷ codes "colorSpace" ∷ []) && has_known_members fs
+    is_named k (codes "stops" ∷ codes "property" ∷ codes "base" ∷ codes "type" ∷ codes "default" ∷ codes "colorSpace" ∷
+    []) && has_known_members fs
 
 -- what a member may be, where it is there: else it is nothing
 abbrev pub member_form : {A : Type 0} → (Tree → Option A) → Option Tree → Option (Option A)
@@ -117,11 +123,13 @@ has_two_fields (field k t (field l u no_fields)) = true
 has_two_fields _ = false
 
 abbrev pub zoomed_input : Bool → Option Tree → Option Tree → Option PlacedInput
-zoomed_input any (Some zoom) (Some value) = option_and_then (λ z. option_map (λ i. (Some z, i)) (input_form any value)) (number_form zoom)
+zoomed_input any (Some zoom) (Some value) =
+    option_and_then (λ z. option_map (λ i. (Some z, i)) (input_form any value)) (number_form zoom)
 zoomed_input any _ _ = None
 
 abbrev pub object_input : Bool → Fields → Option PlacedInput
-object_input any fs = where_true (has_two_fields fs) (zoomed_input any (field_at (codes "zoom") fs) (field_at (codes "value") fs))
+object_input any fs =
+    where_true (has_two_fields fs) (zoomed_input any (field_at (codes "zoom") fs) (field_at (codes "value") fs))
 
 abbrev pub placed_input : Bool → Tree → Option PlacedInput
 placed_input any (json.object fs) = object_input any fs
@@ -133,7 +141,8 @@ abbrev pub PlacedStop : Type 0
 PlacedStop = PlacedInput × Output
 
 abbrev pub stop_form : RowData → Bool → Tree → Option PlacedStop
-stop_form row any (json.list (tree i (tree o no_trees))) = option_and_then (λ p. option_map (λ out. (p, out)) (output_form row o)) (placed_input any i)
+stop_form row any (json.list (tree i (tree o no_trees))) =
+    option_and_then (λ p. option_map (λ out. (p, out)) (output_form row o)) (placed_input any i)
 stop_form row any _ = None
 
 abbrev pub each_stop : RowData → Bool → Trees → Option (List PlacedStop)
@@ -249,7 +258,8 @@ begins_with_zoom (s ∷ ss) = is_some s.0.0
 -- with a property the inputs may have zooms
 abbrev pub body_of : Option Way → Bool → List PlacedStop → Option Body
 body_of way has_property ss =
-    if has_property && begins_with_zoom ss then option_and_then (zoomed_form way) (zoomed_stops ss) else plain_form way ss
+    if has_property && begins_with_zoom ss then option_and_then (zoomed_form way) (zoomed_stops ss) else
+    plain_form way ss
 
 -- ---- the members together
 

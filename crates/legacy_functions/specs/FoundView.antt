@@ -1,8 +1,10 @@
 -- What clauses see of the members that were found.
-use Rattle.std.specs.Prelude.{Bool, true, false, codes, Option, Some, None, option_map, is_some, unwrap_or, if◌then◌else◌}
+use Rattle.std.specs.Prelude.{Bool, true, false, codes, Option, Some, None, option_map, is_some, unwrap_or}
+use Rattle.std.specs.Prelude.{if◌then◌else◌}
 use Rattle.decimal_json.specs.Tree.{Fields, field_at}
 use Rattle.legacy_functions.specs.declared.function.FunctionType.{FunctionType}
-use Rattle.legacy_functions.specs.declared.function.FunctionType.TheVariants.{Exponential, Interval, Categorical, Identity}
+use Rattle.legacy_functions.specs.declared.function.FunctionType.TheVariants.{Exponential, Interval, Categorical}
+use Rattle.legacy_functions.specs.declared.function.FunctionType.TheVariants.{Identity}
 use Rattle.legacy_functions.specs.declared.members.FoundMembers.{FoundMembers}
 use Rattle.legacy_functions.specs.Function.{Spelled, Way, stepped}
 use Rattle.legacy_functions.specs.Form.{FunctionMembers, way_by, is_outside_way}
@@ -37,4 +39,5 @@ is_over_numbers Identity = false
 
 -- the way of a function that is inside
 abbrev pub way_inside : FunctionType → Option Spelled → Bool → Option Way
-way_inside kind base over_zooms = if is_outside_way (way_by kind base) over_zooms then None else Some (way_kept kind base)
+way_inside kind base over_zooms =
+    if is_outside_way (way_by kind base) over_zooms then None else Some (way_kept kind base)

@@ -30,7 +30,8 @@ results_in f feature stops = stop_results (row_of f).want feature (map stop_seen
 
 -- what the rules of zooms give on a feature
 abbrev pub zoom_results_in : FunctionValue → Feature → List ZoomRule → List Evaluated
-zoom_results_in f feature rules = rule_results (row_of f) (default_on f feature) feature (property_at f.property feature) (rules_in f rules)
+zoom_results_in f feature rules =
+    rule_results (row_of f) (default_on f feature) feature (property_at f.property feature) (rules_in f rules)
 
 -- expressions of the default, of the property, and of stops
 abbrev pub default_tree : FunctionValue → Tree

@@ -1,5 +1,6 @@
 -- The value of a legacy function: by its stops, and by no expression. Source: own.
-use Rattle.std.specs.Prelude.{ℕ, ◌+◌, ◌-◌, ℤ, List, [], ◌∷◌, length, map, Bool, true, false, not, Option, Some, None, option_map, unwrap_or, Ok, Err, if◌then◌else◌}
+use Rattle.std.specs.Prelude.{ℕ, ◌+◌, ◌-◌, ℤ, List, [], ◌∷◌, length, map, Bool, true, false, not, Option, Some, None}
+use Rattle.std.specs.Prelude.{option_map, unwrap_or, Ok, Err, if◌then◌else◌}
 use Rattle.std.specs.List.{slice_get}
 use Rattle.std.specs.Ordering.{int_eq}
 use Rattle.prop_values.specs.Data.{Data, null, boolean, number as number_data, text, list, pairs_of}
@@ -21,7 +22,9 @@ use Rattle.tile_reader.specs.declared.tile.Feature.{Feature}
 use Rattle.operator_values.specs.Arithmetic.{then_number}
 use Rattle.operator_values.specs.Evaluated.{Evaluated, then_value}
 use Rattle.operator_values.specs.Ramps.{between_of}
-use Rattle.legacy_functions.specs.Function.{Spelled, Input, flag, number, word, Output, literal, tokens, Way, even, curved, stepped, PropertyRule, numeric, categorical, Body, plain, zoomed, identity, Function}
+use Rattle.legacy_functions.specs.Function.{Spelled, Input, flag, number, word, Output, literal, tokens, Way, even}
+use Rattle.legacy_functions.specs.Function.{curved, stepped, PropertyRule, numeric, categorical, Body, plain, zoomed}
+use Rattle.legacy_functions.specs.Function.{identity, Function}
 use Rattle.legacy_functions.specs.Tokens.{token_text}
 
 -- ---- outputs, and the output where there is no stop
@@ -58,7 +61,8 @@ ramp_result inputs results x (Between i) =
 
 -- the input is first moved by the curve
 abbrev pub curve_result : Curve → List ℤ → List Evaluated → ℤ → Evaluated
-curve_result curve inputs results v = then_number (warp_of curve inputs v) (λ x. ramp_result inputs results x (place_of inputs x))
+curve_result curve inputs results v =
+    then_number (warp_of curve inputs v) (λ x. ramp_result inputs results x (place_of inputs x))
 
 abbrev pub way_result : Way → List ℤ → List Evaluated → ℤ → Evaluated
 way_result even inputs results v = curve_result Linear inputs results v
@@ -99,8 +103,10 @@ numeric_at row way stops default feature None = Ok default
 
 -- the result of a rule by a property, fitted to the row
 abbrev pub rule_result : RowData → Data → Feature → Option Data → PropertyRule → Evaluated
-rule_result row default feature found (numeric way stops) = then_value (numeric_at row way stops default feature found) (fit row.want)
-rule_result row default feature found (categorical stops) = fit row.want (category_data default feature (unwrap_or found null) stops)
+rule_result row default feature found (numeric way stops) =
+    then_value (numeric_at row way stops default feature found) (fit row.want)
+rule_result row default feature found (categorical stops) =
+    fit row.want (category_data default feature (unwrap_or found null) stops)
 
 -- ---- identity: the property, where it is of the row's form, else the default
 
@@ -144,7 +150,8 @@ zoom_rule row default zoom feature (numeric way stops) = numeric_result row way 
 zoom_rule row default zoom feature (categorical stops) = Ok default
 
 abbrev pub plain_by : Option (List ℕ) → RowData → Data → ℤ → Feature → PropertyRule → Evaluated
-plain_by (Some name) row default zoom feature rule = rule_result row default feature (at_key name (pairs_of feature.properties)) rule
+plain_by (Some name) row default zoom feature rule =
+    rule_result row default feature (at_key name (pairs_of feature.properties)) rule
 plain_by None row default zoom feature rule = zoom_rule row default zoom feature rule
 
 -- between zooms the results go linearly where the row ramps, else by interval
@@ -155,14 +162,17 @@ abbrev pub rule_zooms : List (Spelled × PropertyRule) → List ℤ
 rule_zooms rules = map (λ (r : Spelled × PropertyRule). r.0.value) rules
 
 abbrev pub rule_results : RowData → Data → Feature → Option Data → List (Spelled × PropertyRule) → List Evaluated
-rule_results row default feature found rules = map (λ (r : Spelled × PropertyRule). rule_result row default feature found r.1) rules
+rule_results row default feature found rules =
+    map (λ (r : Spelled × PropertyRule). rule_result row default feature found r.1) rules
 
 abbrev pub body_result : RowData → Data → Function → ℤ → Feature → Body → Evaluated
 body_result row default f zoom feature (plain rule) = plain_by f.property row default zoom feature rule
 body_result row default f zoom feature (zoomed rules) =
-    way_result (zoom_way row) (rule_zooms rules) (rule_results row default feature (property_at f.property feature) rules) zoom
+    way_result (zoom_way row) (rule_zooms rules)
+    (rule_results row default feature (property_at f.property feature) rules) zoom
 body_result row default f zoom feature identity = Ok (identity_data row.want default (property_at f.property feature))
 
 -- The value of a function of a row, at a zoom in millionths, fitted to the row; or its fault.
 abbrev pub value_of : RowData → Function → ℤ → Feature → Evaluated
-value_of row f zoom feature = then_value (body_result row (default_data row f feature) f zoom feature f.body) (fit row.want)
+value_of row f zoom feature =
+    then_value (body_result row (default_data row f feature) f zoom feature f.body) (fit row.want)

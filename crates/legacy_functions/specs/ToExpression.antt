@@ -5,8 +5,11 @@ use Rattle.decimal_json.specs.Tree as json
 use Rattle.decimal_json.specs.Tree.{Tree, trees_of}
 use Rattle.prop_values.specs.declared.kinds.Want.{Want}
 use Rattle.prop_values.specs.declared.kinds.Want.TheVariants as wants
-use Rattle.property_tables.specs.Rows.{RowData, Default, absent, flag as flag_default, amount, word as word_default, zeros, fonts}
-use Rattle.legacy_functions.specs.Function.{Spelled, Input, flag, number, word, Output, literal, tokens, Way, even, curved, stepped, PropertyRule, numeric, categorical, Body, plain, zoomed, identity, Function}
+use Rattle.property_tables.specs.Rows.{RowData, Default, absent, flag as flag_default, amount, word as word_default}
+use Rattle.property_tables.specs.Rows.{zeros, fonts}
+use Rattle.legacy_functions.specs.Function.{Spelled, Input, flag, number, word, Output, literal, tokens, Way, even}
+use Rattle.legacy_functions.specs.Function.{curved, stepped, PropertyRule, numeric, categorical, Body, plain, zoomed}
+use Rattle.legacy_functions.specs.Function.{identity, Function}
 use Rattle.legacy_functions.specs.Meaning.{zoom_way}
 use Rattle.legacy_functions.specs.Tokens.{call, property_expression, token_expression}
 
@@ -26,7 +29,8 @@ written_tree (flag_default b) = json.boolean b
 written_tree (amount z) = json.number (number_text z)
 written_tree (word_default s) = json.text s
 written_tree (zeros n) = json.list (trees_of (replicate n (json.number (codes "0"))))
-written_tree fonts = json.list (trees_of (json.text (codes "Open Sans Regular") ∷ json.text (codes "Arial Unicode MS Regular") ∷ []))
+written_tree fonts =
+    json.list (trees_of (json.text (codes "Open Sans Regular") ∷ json.text (codes "Arial Unicode MS Regular") ∷ []))
 
 abbrev pub default_by : Option Output → RowData → Tree
 default_by (Some o) row = output_expression o
@@ -64,7 +68,8 @@ stop_branches (s ∷ ss) = (s.0, output_expression s.1) ∷ stop_branches ss
 -- a value that is of this kind, else the default
 abbrev pub kind_case : List ℕ → Tree → Tree → Tree → Tree
 kind_case kind property e default =
-    call (codes "case") (call (codes "==") (call (codes "typeof") (property ∷ []) ∷ json.text kind ∷ []) ∷ e ∷ default ∷ [])
+    call (codes "case")
+    (call (codes "==") (call (codes "typeof") (property ∷ []) ∷ json.text kind ∷ []) ∷ e ∷ default ∷ [])
 
 abbrev pub input_tree : Input → Tree
 input_tree (flag b) = json.boolean b
@@ -72,12 +77,16 @@ input_tree (number n) = json.number n.spelled
 input_tree (word s) = json.text s
 
 abbrev pub category_elements : Tree → List (Input × Output) → List Tree
-category_elements property stops = flat_map (λ (s : Input × Output). call (codes "==") (property ∷ input_tree s.0 ∷ []) ∷ output_expression s.1 ∷ []) stops
+category_elements property stops =
+    flat_map (λ (s : Input × Output). call (codes "==") (property ∷ input_tree s.0 ∷ []) ∷ output_expression s.1 ∷ [])
+    stops
 
 -- a rule by a property
 abbrev pub rule_expression : Tree → Tree → PropertyRule → Tree
-rule_expression property default (numeric way stops) = kind_case (codes "number") property (way_expression way property (stop_branches stops)) default
-rule_expression property default (categorical stops) = call (codes "case") (category_elements property stops ++ default ∷ [])
+rule_expression property default (numeric way stops) =
+    kind_case (codes "number") property (way_expression way property (stop_branches stops)) default
+rule_expression property default (categorical stops) =
+    call (codes "case") (category_elements property stops ++ default ∷ [])
 
 abbrev pub zoom_expression : Tree
 zoom_expression = call (codes "zoom") []
@@ -89,7 +98,8 @@ zoom_rule_expression default (categorical stops) = default
 
 abbrev pub rule_branches : Tree → Tree → List (Spelled × PropertyRule) → Branches
 rule_branches property default [] = []
-rule_branches property default (r ∷ rs) = (r.0, rule_expression property default r.1) ∷ rule_branches property default rs
+rule_branches property default (r ∷ rs) =
+    (r.0, rule_expression property default r.1) ∷ rule_branches property default rs
 
 -- what `typeof` says of a value that is of the row's form
 abbrev pub form_name : Want → List ℕ
@@ -113,7 +123,8 @@ plain_expression None default rule = zoom_rule_expression default rule
 
 abbrev pub body_expression : RowData → Tree → Option (List ℕ) → Body → Tree
 body_expression row default property (plain rule) = plain_expression property default rule
-body_expression row default property (zoomed rules) = way_expression (zoom_way row) zoom_expression (rule_branches (named_property property) default rules)
+body_expression row default property (zoomed rules) =
+    way_expression (zoom_way row) zoom_expression (rule_branches (named_property property) default rules)
 body_expression row default property identity = identity_expression row.want (named_property property) default
 
 -- The expression of a function of a row.

@@ -1,5 +1,6 @@
 -- Token texts, whose tokens represent properties. Source: own.
-use Rattle.std.specs.Prelude.{ℕ, ◌+◌, ◌-◌, List, [], ◌∷◌, length, drop, flat_map, map, Bool, true, false, ◌||◌, nat_eq, codes, Option, Some, None, option_map, unwrap_or, if◌then◌else◌}
+use Rattle.std.specs.Prelude.{ℕ, ◌+◌, ◌-◌, List, [], ◌∷◌, length, drop, flat_map, map, Bool, true, false, ◌||◌, nat_eq}
+use Rattle.std.specs.Prelude.{codes, Option, Some, None, option_map, unwrap_or, if◌then◌else◌}
 use Rattle.std.specs.List.{list_any}
 use Rattle.decimal_json.specs.Tree.{Tree, text, list, tree, trees_of}
 use Rattle.prop_values.specs.Data.{pairs_of}
@@ -55,7 +56,8 @@ rest_of_token None = 0
 abbrev pub pieces_behind : ℕ → List ℕ → List TokenPiece
 pieces_behind k [] = []
 pieces_behind k (b ∷ bs) =
-    if nat_eq k 0 then with_piece b (token_at b bs) (pieces_behind (rest_of_token (token_at b bs)) bs) else pieces_behind (k - 1) bs
+    if nat_eq k 0 then with_piece b (token_at b bs) (pieces_behind (rest_of_token (token_at b bs)) bs) else
+    pieces_behind (k - 1) bs
 
 abbrev pub pieces : List ℕ → List TokenPiece
 pieces s = pieces_behind 0 s

@@ -13,7 +13,8 @@ use Rattle.legacy_functions.specs.declared.function.PropertyRule.TheVariants as 
 use Rattle.legacy_functions.specs.declared.function.Way.{Way as WayValue}
 use Rattle.legacy_functions.specs.declared.function.Way.TheVariants as ways
 use Rattle.legacy_functions.specs.declared.function.ZoomRule.{ZoomRule}
-use Rattle.legacy_functions.specs.Function.{Spelled, Way, even, curved, stepped, PropertyRule, numeric, categorical, Body, plain, zoomed, identity, Function}
+use Rattle.legacy_functions.specs.Function.{Spelled, Way, even, curved, stepped, PropertyRule, numeric, categorical}
+use Rattle.legacy_functions.specs.Function.{Body, plain, zoomed, identity, Function}
 use Rattle.legacy_functions.specs.Parts.{spelled_seen, output_seen, stop_seen, category_seen}
 
 abbrev pub way_seen : WayValue → Way

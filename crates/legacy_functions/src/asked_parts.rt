@@ -1,7 +1,8 @@
 //! Which parts of the world a function asks for.
 
 ghost use Rattle.std.specs.Prelude.{◌≡◌, map};
-ghost use Rattle.legacy_functions.specs.AskedParts.{asks_feature, asks_input, asks_zoom, output_asks_feature, outputs_ask_feature, stops_ask_feature};
+ghost use Rattle.legacy_functions.specs.AskedParts.{asks_feature, asks_input, asks_zoom, output_asks_feature};
+ghost use Rattle.legacy_functions.specs.AskedParts.{outputs_ask_feature, stops_ask_feature};
 ghost use Rattle.legacy_functions.specs.Parts.{output_seen, stop_seen};
 ghost use Rattle.legacy_functions.specs.View.{body_seen, function_of, row_of, way_seen};
 

@@ -6,7 +6,8 @@ ghost use Rattle.std.specs.Ordering.{int_cmp};
 ghost use Rattle.prop_values.specs.View.{data_of};
 ghost use Rattle.legacy_functions.specs.Function.{Input as InputData};
 ghost use Rattle.legacy_functions.specs.Parts.{input_seen, category_seen};
-ghost use Rattle.legacy_functions.specs.CategoryIndex.{text_place, flag_place, place_at, value_place, IsIndexOrNone, NotesInput, NotesText, NotesNumber};
+ghost use Rattle.legacy_functions.specs.CategoryIndex.{text_place, flag_place, place_at, value_place, IsIndexOrNone};
+ghost use Rattle.legacy_functions.specs.CategoryIndex.{NotesInput, NotesText, NotesNumber};
 
 use crate::function::{Category, Input, Output};
 use fixed_num::Fixed;
@@ -78,7 +79,8 @@ impl Categories {
 
     /// The output of the input that is equal to a value.
     pub(crate) fn output_of(&self, value: &Value) -> Option<&Output>
-        ensures { option_map (λ o. output_seen o.now) result ≡ chosen_output (data_of value.now) (map category_seen self.now) }
+        ensures { option_map (λ o. output_seen o.now) result
+            ≡ chosen_output (data_of value.now) (map category_seen self.now) }
     {
         let stops = self.stops.as_slice();
         match value_place(&self.index, value) {

@@ -11,7 +11,11 @@ ghost use Rattle.legacy_functions.specs.Function.{even};
 ghost use Rattle.legacy_functions.specs.FunctionView.{default_tree, property_tree, rule_in, rules_in, branches_in};
 ghost use Rattle.legacy_functions.specs.Meaning.{zoom_way};
 ghost use Rattle.legacy_functions.specs.Parts.{input_seen, output_seen, category_seen};
-ghost use Rattle.legacy_functions.specs.ToExpression.{function_expression, as_literal, output_expression, written_tree, branch_elements, step_expression, way_expression, kind_case, input_tree, category_elements, rule_expression, zoom_expression, zoom_rule_expression, rule_branches, form_name, identity_expression};
+ghost use Rattle.legacy_functions.specs.ToExpression.{function_expression, as_literal, output_expression, written_tree};
+ghost use Rattle.legacy_functions.specs.ToExpression.{branch_elements, step_expression, way_expression, kind_case};
+ghost use Rattle.legacy_functions.specs.ToExpression.{input_tree, category_elements, rule_expression, zoom_expression};
+ghost use Rattle.legacy_functions.specs.ToExpression.{zoom_rule_expression, rule_branches, form_name};
+ghost use Rattle.legacy_functions.specs.ToExpression.{identity_expression};
 ghost use Rattle.legacy_functions.specs.Tokens.{call};
 ghost use Rattle.legacy_functions.specs.View.{function_of, row_of, way_seen};
 
@@ -204,7 +208,8 @@ fn way_expression(
     input: Json,
     stops: &NumberStops,
 ) -> Result<Json, AllocError>
-    ensures { IfOk result (λ made. tree_of made ≡ way_expression (way_seen way.now) (tree_of input) (branches_in stops.now)) }
+    ensures { IfOk result
+        (λ made. tree_of made ≡ way_expression (way_seen way.now) (tree_of input) (branches_in stops.now)) }
 {
     match way {
         Way::Stepped => step_expression(alloc, input, stops.as_slice()),
@@ -344,7 +349,8 @@ fn categories_expression(
     stops: &[Category],
 ) -> Result<Json, AllocError>
     ensures { IfOk result (λ made. tree_of made ≡ call (codes "case")
-        (category_elements (property_tree function.now) (map category_seen stops.now) ++ default_tree function.now ∷ [])) }
+        (category_elements (property_tree function.now) (map category_seen stops.now)
+        ++ default_tree function.now ∷ [])) }
 {
     let room = stops.len().saturating_mul(2).saturating_add(1);
     let mut items = call(alloc, "case", room)?;
@@ -394,7 +400,8 @@ fn zoom_rule_expression(
     function: &Function,
     rule: &PropertyRule,
 ) -> Result<Json, AllocError>
-    ensures { IfOk result (λ made. tree_of made ≡ zoom_rule_expression (default_tree function.now) (rule_in function.now rule.now)) }
+    ensures { IfOk result
+        (λ made. tree_of made ≡ zoom_rule_expression (default_tree function.now) (rule_in function.now rule.now)) }
 {
     match rule {
         PropertyRule::Numeric(stops) => {

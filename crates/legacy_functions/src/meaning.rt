@@ -12,7 +12,10 @@ ghost use Rattle.interpolate_fixed.specs.Warp.{warp_of};
 ghost use Rattle.property_tables.specs.Fitting.{fit};
 ghost use Rattle.tile_reader.specs.declared.tile.Feature.{Feature};
 ghost use Rattle.operator_values.specs.Evaluated.{GivesValue, or_fault, then_value};
-ghost use Rattle.legacy_functions.specs.Meaning.{value_of, plain_by, property_at, output_data, chosen_output, category_data, numeric_at, numeric_result, rule_result, zoom_rule, step_result, ramp_result, result_at, way_result, zoom_way, rule_zooms, identity_data, is_of_form};
+ghost use Rattle.legacy_functions.specs.Meaning.{value_of, plain_by, property_at, output_data, chosen_output};
+ghost use Rattle.legacy_functions.specs.Meaning.{category_data, numeric_at, numeric_result, rule_result, zoom_rule};
+ghost use Rattle.legacy_functions.specs.Meaning.{step_result, ramp_result, result_at, way_result, zoom_way, rule_zooms};
+ghost use Rattle.legacy_functions.specs.Meaning.{identity_data, is_of_form};
 ghost use Rattle.legacy_functions.specs.FunctionView.{default_on, rule_in, rules_in, results_in, zoom_results_in};
 ghost use Rattle.legacy_functions.specs.Parts.{stop_seen, category_seen, output_seen};
 ghost use Rattle.legacy_functions.specs.Stops.{inputs_in};
@@ -40,7 +43,8 @@ impl Function {
         zoom: Fixed,
         feature: &Feature,
     ) -> Result<Result<Value, EvalFault>, AllocError>
-        ensures { IfOk result (λ found. evaluated_of found ≡ value_of (row_of self.now) (function_of self.now) zoom feature.now) }
+        ensures { IfOk result
+            (λ found. evaluated_of found ≡ value_of (row_of self.now) (function_of self.now) zoom feature.now) }
     {
         match fitted_value(alloc, self, zoom, feature) {
             Ok(value) => Ok(Ok(value)),
@@ -229,7 +233,8 @@ fn category_value(
 
 fn chosen_output<'a>(stops: &'a Categories, found: Option<&Value>) -> Option<&'a Output>
     ensures { option_map (λ o. output_seen o.now) result
-        ≡ chosen_output (unwrap_or (option_map (λ v. data_of v.now) found.entry) null_data) (map category_seen stops.now) }
+        ≡ chosen_output (unwrap_or (option_map (λ v. data_of v.now) found.entry) null_data)
+        (map category_seen stops.now) }
 {
     match found {
         Some(value) => stops.output_of(value),
@@ -248,7 +253,8 @@ fn numeric_value(
     input: Fixed,
     feature: &Feature,
 ) -> Result<Value, Halt<EvalFault>>
-    ensures { GivesValue result (numeric_result (row_of function.now) (way_seen function.now.way) (map stop_seen stops.now)
+    ensures { GivesValue result
+        (numeric_result (row_of function.now) (way_seen function.now.way) (map stop_seen stops.now)
         feature.now input) }
 {
     match &function.way {
@@ -276,7 +282,8 @@ fn step_value(
     input: Fixed,
     feature: &Feature,
 ) -> Result<Value, Halt<EvalFault>>
-    ensures { GivesValue result (step_result (inputs_in stops.now) (results_in function.now feature.now stops.now) input) }
+    ensures { GivesValue result
+        (step_result (inputs_in stops.now) (results_in function.now feature.now stops.now) input) }
 {
     let place = place_in_force(stops.inputs(), input);
     stop_value(alloc, function, stops, place, feature)
@@ -322,7 +329,8 @@ fn value_between_stops(
     feature: &Feature,
 ) -> Result<Value, Halt<EvalFault>>
     requires { IsBetween (inputs_in stops.now) x i }
-    ensures { GivesValue result (ramp_result (inputs_in stops.now) (results_in function.now feature.now stops.now) x (Between i)) }
+    ensures { GivesValue result
+        (ramp_result (inputs_in stops.now) (results_in function.now feature.now stops.now) x (Between i)) }
 {
     let inputs = stops.inputs();
     if let Some(lower) = literal_result(function, stops, i) {
@@ -380,7 +388,8 @@ fn zoomed_value(
     zoom: Fixed,
     feature: &Feature,
 ) -> Result<Value, Halt<EvalFault>>
-    ensures { GivesValue result (way_result (zoom_way (row_of function.now)) (rule_zooms (rules_in function.now rules.now))
+    ensures { GivesValue result
+        (way_result (zoom_way (row_of function.now)) (rule_zooms (rules_in function.now rules.now))
         (zoom_results_in function.now feature.now rules.now) zoom) }
 {
     if function.row.ramps {
@@ -399,7 +408,8 @@ fn zoom_ramp_value(
     zoom: Fixed,
     feature: &Feature,
 ) -> Result<Value, Halt<EvalFault>>
-    ensures { GivesValue result (ramp_result (zooms_seen rules.now) (zoom_results_in function.now feature.now rules.now) zoom
+    ensures { GivesValue result
+        (ramp_result (zooms_seen rules.now) (zoom_results_in function.now feature.now rules.now) zoom
         (place_of (zooms_seen rules.now) zoom)) }
 {
     let zooms = rules.zooms();
@@ -420,7 +430,8 @@ fn value_between_zooms(
     feature: &Feature,
 ) -> Result<Value, Halt<EvalFault>>
     requires { IsBetween (zooms_seen rules.now) zoom i }
-    ensures { GivesValue result (ramp_result (zooms_seen rules.now) (zoom_results_in function.now feature.now rules.now) zoom
+    ensures { GivesValue result
+        (ramp_result (zooms_seen rules.now) (zoom_results_in function.now feature.now rules.now) zoom
         (Between i)) }
 {
     let zooms = rules.zooms();

@@ -5,7 +5,8 @@ ghost use Rattle.decimal_json.specs.Accessors.{text_in};
 ghost use Rattle.decimal_json.specs.Tree.{fields_of};
 ghost use Rattle.decimal_json.specs.View.{tree_of};
 ghost use Rattle.property_tables.specs.RowView.{row_seen};
-ghost use Rattle.legacy_functions.specs.Form.{members_form, has_known_members, kind_form, member_form, number_form, output_form};
+ghost use Rattle.legacy_functions.specs.Form.{members_form, has_known_members, kind_form, member_form, number_form};
+ghost use Rattle.legacy_functions.specs.Form.{output_form};
 ghost use Rattle.legacy_functions.specs.FoundView.{members_seen};
 ghost use Rattle.legacy_functions.specs.Parts.{spelled_seen, output_seen};
 

@@ -4,7 +4,8 @@ ghost use Rattle.std.specs.Prelude.{◌≡◌, map, codes, option_map, IfOk};
 ghost use Rattle.decimal_json.specs.Tree.{field_at, fields_of, list, tree, no_trees};
 ghost use Rattle.decimal_json.specs.View.{tree_of, trees};
 ghost use Rattle.property_tables.specs.RowView.{row_seen};
-ghost use Rattle.legacy_functions.specs.Form.{has_two_fields, zoomed_input, object_input, placed_input, stop_form, each_stop, stops_form};
+ghost use Rattle.legacy_functions.specs.Form.{has_two_fields, zoomed_input, object_input, placed_input, stop_form};
+ghost use Rattle.legacy_functions.specs.Form.{each_stop, stops_form};
 ghost use Rattle.legacy_functions.specs.PlacedView.{placed_input_seen, placed_stop_seen};
 
 use crate::function::{Category, Input, Spelled};

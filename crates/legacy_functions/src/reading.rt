@@ -4,7 +4,8 @@ ghost use Rattle.std.specs.Prelude.{◌≡◌, Some, map, is_some, option_map, I
 ghost use Rattle.decimal_json.specs.Tree.{fields_of};
 ghost use Rattle.decimal_json.specs.View.{tree_of};
 ghost use Rattle.property_tables.specs.RowView.{row_seen};
-ghost use Rattle.legacy_functions.specs.Form.{form, kind_body, stops_body, body_of, begins_with_zoom, plain_form, inside, is_zoomed};
+ghost use Rattle.legacy_functions.specs.Form.{form, kind_body, stops_body, body_of, begins_with_zoom, plain_form};
+ghost use Rattle.legacy_functions.specs.Form.{inside, is_zoomed};
 ghost use Rattle.legacy_functions.specs.declared.function.FunctionType.TheVariants.{Exponential};
 ghost use Rattle.legacy_functions.specs.FoundView.{members_seen, way_read, way_seen_for, way_inside, way_kept};
 ghost use Rattle.legacy_functions.specs.Function.{Way as WayData};

@@ -1,7 +1,8 @@
 //! Rules of stops.
 
 ghost use Rattle.std.specs.Prelude.{◌≡◌, ◌++◌, None, true, map, option_map, List, ◌∷◌, IfOk};
-ghost use Rattle.legacy_functions.specs.Form.{Stop, some_of, rule_form, plain_stops, never_descend, number_stops, without_repeated, equals_before};
+ghost use Rattle.legacy_functions.specs.Form.{Stop, some_of, rule_form, plain_stops, never_descend, number_stops};
+ghost use Rattle.legacy_functions.specs.Form.{without_repeated, equals_before};
 ghost use Rattle.legacy_functions.specs.FoundView.{way_read, way_seen_for, is_over_numbers};
 ghost use Rattle.legacy_functions.specs.Function.{Spelled as SpelledData, Output as OutputData};
 ghost use Rattle.legacy_functions.specs.Parts.{category_seen, stop_seen};

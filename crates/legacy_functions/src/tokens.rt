@@ -8,7 +8,8 @@ ghost use Rattle.prop_values.specs.ValueText.{shown_text};
 ghost use Rattle.prop_values.specs.View.{data_of};
 ghost use Rattle.shared_text.specs.Ranges.{IsRest};
 ghost use Rattle.legacy_functions.specs.TokenSize.{token_size, plain_size, size_of, begins_token, any_token};
-ghost use Rattle.legacy_functions.specs.Tokens.{before_brace, token_name, has_tokens, pieces, property_text, piece_expression, property_expression, token_text, token_expression};
+ghost use Rattle.legacy_functions.specs.Tokens.{before_brace, token_name, has_tokens, pieces, property_text};
+ghost use Rattle.legacy_functions.specs.Tokens.{piece_expression, property_expression, token_text, token_expression};
 
 use crate::expression::{ascii_text, call};
 use decimal_json::{Items, Json, Text};

@@ -1,9 +1,11 @@
 //! What the definitions mean, each law on a function that does nothing.
-ghost use Rattle.legacy_laws.specs.LegacyFilterLaw.{ExpressionsMeanTheirFilters, MigratedFiltersAreTyped, MigratedFiltersStay};
+ghost use Rattle.legacy_laws.specs.LegacyFilterLaw.{ExpressionsMeanTheirFilters, MigratedFiltersAreTyped};
+ghost use Rattle.legacy_laws.specs.LegacyFilterLaw.{MigratedFiltersStay};
 ghost use Rattle.legacy_laws.specs.LegacyFilterLaw.{MigratedFiltersMentionTheFeature, MigratedFiltersUseNoGlobals};
 ghost use Rattle.legacy_laws.specs.LegacyFunctionLaw.{ExpressionsMeanTheirFunctions, TokenExpressionsMeanTheirTexts};
 ghost use Rattle.legacy_laws.specs.LegacyFunctionLaw.{MigratedFunctionsAreTyped, MigratedTokenTextsAreTyped};
-ghost use Rattle.legacy_laws.specs.LegacyFunctionLaw.{MigratedFunctionsMentionTheSame, MigratedTokenTextsMentionTheFeature};
+ghost use Rattle.legacy_laws.specs.LegacyFunctionLaw.{MigratedFunctionsMentionTheSame};
+ghost use Rattle.legacy_laws.specs.LegacyFunctionLaw.{MigratedTokenTextsMentionTheFeature};
 ghost use Rattle.legacy_laws.specs.LegacyFunctionLaw.{MigratedFunctionsUseNoGlobals, MigratedTokenTextsUseNoGlobals};
 
 use legacy_filters::expressions_are_not_legacy;

@@ -1,10 +1,12 @@
 -- The run of `lint`: the lines of each style in the order of the words, then how many of them are errors and how many
 -- are warnings. Source: own.
-use Rattle.std.specs.Prelude.{ℕ, ◌+◌, ◌-◌, min, nat_lt, List, [], ◌∷◌, ◌++◌, length, codes, decimal, nat_eq, Option, Some, None, Result, Ok, Err, if◌then◌else◌}
+use Rattle.std.specs.Prelude.{ℕ, ◌+◌, ◌-◌, min, nat_lt, List, [], ◌∷◌, ◌++◌, length, codes, decimal, nat_eq, Option}
+use Rattle.std.specs.Prelude.{Some, None, Result, Ok, Err, if◌then◌else◌}
 use Rattle.decimal_json.specs.Tree.{Tree}
 use Rattle.decimal_json.specs.declared.fault.JsonFault.{JsonFault}
 use Rattle.lint_texts.specs.BrokenText.{style_limit}
-use Rattle.lint_texts.specs.LintedStyle.{LintedStyle, linted_broken_text, linted_document, linted_file_error, linted_long_file}
+use Rattle.lint_texts.specs.LintedStyle.{LintedStyle, linted_broken_text, linted_document, linted_file_error}
+use Rattle.lint_texts.specs.LintedStyle.{linted_long_file}
 use Rattle.lint_texts.specs.declared.form.LintForm.{LintForm}
 use Rattle.program_runs.specs.declared.status.Ending.{Ending}
 use Rattle.program_runs.specs.declared.status.Ending.TheVariants.{Fine, Found}
@@ -35,13 +37,15 @@ too_much_message = codes "styles: must have at most 33554432 bytes together [Too
 
 -- a file that is longer than a style may be, or than what is left for it
 abbrev pub linted_too_long : LintForm → (left : ℕ) → (file : List ℕ) → LintedStyle
-linted_too_long form left file = if nat_lt left style_limit then linted_file_error form file too_much_message else linted_long_file form file
+linted_too_long form left file =
+    if nat_lt left style_limit then linted_file_error form file too_much_message else linted_long_file form file
 
 -- a file by its bytes, or of which there are too many
 abbrev pub bytes_part : LintForm → (left : ℕ) → (file : List ℕ) → Option (List ℕ) → (LintedStyles → Run) → Run
 bytes_part form left file None after = after (record { linted = linted_too_long form left file; left = left })
 bytes_part form left file (Some bytes) after =
-    explains bytes (λ parsed. after (record { linted = linted_parsed form file bytes parsed; left = left - length bytes }))
+    explains bytes
+    (λ parsed. after (record { linted = linted_parsed form file bytes parsed; left = left - length bytes }))
 
 abbrev pub lint_part : LintForm → (left : ℕ) → (file : List ℕ) → (LintedStyles → Run) → Run
 lint_part form left file after = may_read file (most_bytes left) (λ bytes. bytes_part form left file bytes after)

@@ -14,8 +14,8 @@ use outside_io::Files;
 use program_runs::{Ending, RunHalt, RunOutput, answer_out};
 use std::alloc::{AllocError, Global};
 
-/// The lines of the styles in these files, in their order, and then a line with their counts. It ends in `Found` where there is an error.
-/// Source: own.
+/// The lines of the styles in these files, in their order, and then a line with their counts. It ends in `Found` where
+/// there is an error. Source: own.
 pub fn answer_lint<'a, F: Files>(
     alloc: Global,
     form: LintForm,
@@ -24,11 +24,13 @@ pub fn answer_lint<'a, F: Files>(
 ) -> Result<RunOutput, RunHalt<'a>>
     ensures told { F.told files.new ≡ F.told files.old }
     ensures fileless { IsFileless (lint_run form (map string_bytes names.now)) → files.new ≡ files.old }
-    ensures failed { OnOk result (NoneFailed (F.faults files.old) (F.faults files.new) (F.failed files.old) (F.failed files.new)) }
+    ensures failed { OnOk result
+        (NoneFailed (F.faults files.old) (F.faults files.new) (F.failed files.old) (F.failed files.new)) }
     ensures answer { IfOk result (λ answer. HasOutcome (F.told files.old) (lint_run form (map string_bytes names.now))
         (F.asked files.old) (F.asked files.new) (outcome_of answer)) }
     ensures halt { IfErr result (λ halt. HaltsAt (F.told files.old) (lint_run form (map string_bytes names.now))
-        (F.faults files.old) (F.faults files.new) (F.failed files.old) (F.failed files.new) (F.asked files.old) (F.asked files.new) halt) }
+        (F.faults files.old) (F.faults files.new) (F.failed files.old) (F.failed files.new) (F.asked files.old)
+        (F.asked files.new) halt) }
 {
     let styles = lint_styles(alloc, form, names, files)?;
     Ok(answer_linted(alloc, styles.linted, names.len())?)

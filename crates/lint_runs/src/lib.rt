@@ -6,9 +6,10 @@
 //! // 1 errors, 0 warnings in 2 styles
 //! ```
 //!
-//! What is promised: the answer is the outcome of `lint_run` of `specs/LintRun.antt`, which reads the styles in the order of the words, each
-//! once. A style that is too long or is no JSON text has one line, which is an error, and the next one is read. A file that cannot be read
-//! halts the run. Of the styles one is held at a time, beside the text of the lines.
+//! What is promised: the answer is the outcome of `lint_run` of `specs/LintRun.antt`, which reads the styles in the
+//! order of the words, each once. A style that is too long or is no JSON text has one line, which is an error, and the
+//! next one is read. A file that cannot be read halts the run. Of the styles one is held at a time, beside the text of
+//! the lines.
 //!
 //! The text to believe is in `specs/`: `LintRun`.
 #![tactic(auto)]

@@ -24,7 +24,8 @@ pub(crate) struct LintedStyles {
     pub(crate) left: usize,
 }
 
-/// What is written of the style in a file. `left` is how many bytes it may have at most, as far as the styles before it go.
+/// What is written of the style in a file. `left` is how many bytes it may have at most, as far as the styles before it
+/// go.
 pub(crate) fn lint_one<'a, F: Files>(
     alloc: Global,
     form: LintForm,
@@ -33,12 +34,14 @@ pub(crate) fn lint_one<'a, F: Files>(
     files: &mut F,
 ) -> Result<LintedStyles, RunHalt<'a>>
     ensures told { F.told files.new ≡ F.told files.old }
-    ensures failed { OnOk result (NoneFailed (F.faults files.old) (F.faults files.new) (F.failed files.old) (F.failed files.new)) }
+    ensures failed { OnOk result
+        (NoneFailed (F.faults files.old) (F.faults files.new) (F.failed files.old) (F.failed files.new)) }
     ensures lines { IfOk result (λ one. HasLines (linted_seen one.linted)) }
     ensures on { IfOk result (λ one. GoesOn (F.told files.old) (lint_part form left name.now)
         (F.asked files.old) (F.asked files.new) (styles_seen one)) }
     ensures halt { IfErr result (λ halt. Halts (F.told files.old) (lint_part form left name.now)
-        (F.faults files.old) (F.faults files.new) (F.failed files.old) (F.failed files.new) (F.asked files.old) (F.asked files.new) halt) }
+        (F.faults files.old) (F.faults files.new) (F.failed files.old) (F.failed files.new) (F.asked files.old)
+        (F.asked files.new) halt) }
 {
     let bytes = read_style(alloc, left, name, files)?;
     Ok(lint_read(alloc, form, left, name, bytes)?)
@@ -52,11 +55,13 @@ fn read_style<'a, F: Files>(
     files: &mut F,
 ) -> Result<Option<Vec<u8>>, RunHalt<'a>>
     ensures told { F.told files.new ≡ F.told files.old }
-    ensures failed { OnOk result (NoneFailed (F.faults files.old) (F.faults files.new) (F.failed files.old) (F.failed files.new)) }
+    ensures failed { OnOk result
+        (NoneFailed (F.faults files.old) (F.faults files.new) (F.failed files.old) (F.failed files.new)) }
     ensures on { IfOk result (λ bytes. GoesOn (F.told files.old) (may_read name.now (most_bytes left))
         (F.asked files.old) (F.asked files.new) (option_map (λ read. read.items) bytes)) }
     ensures halt { IfErr result (λ halt. Halts (F.told files.old) (may_read name.now (most_bytes left))
-        (F.faults files.old) (F.faults files.new) (F.failed files.old) (F.failed files.new) (F.asked files.old) (F.asked files.new) halt) }
+        (F.faults files.old) (F.faults files.new) (F.failed files.old) (F.failed files.new) (F.asked files.old)
+        (F.asked files.new) halt) }
 {
     may_read_file(alloc, name, most_bytes(left), files)
 }

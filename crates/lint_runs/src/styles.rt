@@ -28,11 +28,15 @@ pub(crate) fn lint_styles<'a, F: Files>(
 ) -> Result<LintedStyles, RunHalt<'a>>
     ensures told { F.told files.new ≡ F.told files.old }
     ensures none { names.now ≡ [] → files.new ≡ files.old }
-    ensures failed { OnOk result (NoneFailed (F.faults files.old) (F.faults files.new) (F.failed files.old) (F.failed files.new)) }
-    ensures on { IfOk result (λ all. GoesOn (F.told files.old) (lint_parts form none_linted (map string_bytes names.now))
+    ensures failed { OnOk result
+        (NoneFailed (F.faults files.old) (F.faults files.new) (F.failed files.old) (F.failed files.new)) }
+    ensures on { IfOk result
+        (λ all. GoesOn (F.told files.old) (lint_parts form none_linted (map string_bytes names.now))
         (F.asked files.old) (F.asked files.new) (styles_seen all)) }
-    ensures halt { IfErr result (λ halt. Halts (F.told files.old) (lint_parts form none_linted (map string_bytes names.now))
-        (F.faults files.old) (F.faults files.new) (F.failed files.old) (F.failed files.new) (F.asked files.old) (F.asked files.new) halt) }
+    ensures halt { IfErr result
+        (λ halt. Halts (F.told files.old) (lint_parts form none_linted (map string_bytes names.now))
+        (F.faults files.old) (F.faults files.new) (F.failed files.old) (F.failed files.new) (F.asked files.old)
+        (F.asked files.new) halt) }
 {
     let mut all = LintedStyles {
         linted: Linted {
@@ -58,13 +62,17 @@ fn lint_next<'a, F: Files>(
 ) -> Result<(), RunHalt<'a>>
     requires { HasLines (linted_seen all.old.linted) }
     ensures told { F.told files.new ≡ F.told files.old }
-    ensures failed { OnOk result (NoneFailed (F.faults files.old) (F.faults files.new) (F.failed files.old) (F.failed files.new)) }
+    ensures failed { OnOk result
+        (NoneFailed (F.faults files.old) (F.faults files.new) (F.failed files.old) (F.failed files.new)) }
     ensures lines { OnOk result (HasLines (linted_seen all.new.linted)) }
     ensures on { OnOk result ((names : List (List ℕ)) (after : runs.LintedStyles → Run) → ComesTo (F.told files.old)
-        (lint_parts form (styles_seen all.old) (name.now ∷ names) after) (lint_parts form (styles_seen all.new) names after)
+        (lint_parts form (styles_seen all.old) (name.now ∷ names) after)
+        (lint_parts form (styles_seen all.new) names after)
         (F.asked files.old) (F.asked files.new)) }
-    ensures halt { (names : List (List ℕ)) → IfErr result (λ halt. Halts (F.told files.old) (lint_parts form (styles_seen all.old) (name.now ∷ names))
-        (F.faults files.old) (F.faults files.new) (F.failed files.old) (F.failed files.new) (F.asked files.old) (F.asked files.new) halt) }
+    ensures halt { (names : List (List ℕ))
+        → IfErr result (λ halt. Halts (F.told files.old) (lint_parts form (styles_seen all.old) (name.now ∷ names))
+        (F.faults files.old) (F.faults files.new) (F.failed files.old) (F.failed files.new) (F.asked files.old)
+        (F.asked files.new) halt) }
 {
     let one = lint_one(alloc, form, all.left, name, files)?;
     Ok(add_styles(&one, all)?)

@@ -1,8 +1,9 @@
--- The line of a file that is no JSON text, and of one that is no style for another cause, as one that is longer than a style may
--- be. Source: own.
+-- The line of a file that is no JSON text, and of one that is no style for another cause, as one that is longer than a
+-- style may be. Source: own.
 use Rattle.std.specs.Prelude.{ℕ, List, [], ◌∷◌, codes, drop, take}
 use Rattle.json_tokens.specs.declared.kind.JsonKind.{JsonKind}
-use Rattle.json_tokens.specs.declared.kind.JsonKind.TheVariants.{Syntax, Utf8, DuplicateKey, Depth, NumberLength, LoneSurrogate}
+use Rattle.json_tokens.specs.declared.kind.JsonKind.TheVariants.{Syntax, Utf8, DuplicateKey, Depth, NumberLength}
+use Rattle.json_tokens.specs.declared.kind.JsonKind.TheVariants.{LoneSurrogate}
 use Rattle.finding_sentences.specs.TextSentence.{text_sentence}
 use Rattle.finding_sentences.specs.Words.{words}
 use Rattle.text_places.specs.LineColumn.{after_bytes, first_place}

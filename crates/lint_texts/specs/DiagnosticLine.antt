@@ -1,5 +1,5 @@
--- The line of a diagnostic of a style: what it is about, then its sentence. A finding is an error; a value that is outside of
--- what is evaluated has a note; a value whose evaluation may fault has a warning. Source: own.
+-- The line of a diagnostic of a style: what it is about, then its sentence. A finding is an error; a value that is
+-- outside of what is evaluated has a note; a value whose evaluation may fault has a warning. Source: own.
 use Rattle.std.specs.Prelude.{ℕ, List, [], ◌∷◌, ◌++◌, codes, if◌then◌else◌}
 use Rattle.decimal_json.specs.Tree.{Tree}
 use Rattle.decimal_json.specs.declared.paths.PathPart.{PathPart}

@@ -1,5 +1,5 @@
--- What `validate` has a line for, in the order of its lines: the findings of a style; of a style without findings the notes,
--- and then the may lines. Source: own.
+-- What `validate` has a line for, in the order of its lines: the findings of a style; of a style without findings the
+-- notes, and then the may lines. Source: own.
 use Rattle.std.specs.Prelude.{ℕ, List, [], ◌∷◌, ◌++◌, map}
 use Rattle.decimal_json.specs.Tree.{Tree}
 use Rattle.decimal_json.specs.declared.paths.PathPart.{PathPart}

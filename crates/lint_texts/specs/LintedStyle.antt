@@ -54,7 +54,8 @@ linted_long_file form file = linted_file_error form file long_file_message
 
 -- they spell a style
 abbrev pub IsLintedDocument : LintForm → (file bytes : List ℕ) → LintedStyle → Type 0
-IsLintedDocument form file bytes linted = (t : Tree) × Spells all_rules bytes t × (linted ≡ linted_document form file bytes t)
+IsLintedDocument form file bytes linted =
+    (t : Tree) × Spells all_rules bytes t × (linted ≡ linted_document form file bytes t)
 
 -- they are no JSON text: they have one fault
 abbrev pub IsLintedBrokenText : LintForm → (file bytes : List ℕ) → LintedStyle → Type 0
@@ -66,4 +67,5 @@ IsLintedBrokenText form file bytes linted =
 abbrev pub IsLinted : LintForm → (file bytes : List ℕ) → LintedStyle → Type 0
 IsLinted form file bytes linted =
     ((style_limit < length bytes) × (linted ≡ linted_long_file form file))
-    ⊎ ((length bytes ≤ style_limit) × (IsLintedDocument form file bytes linted ⊎ IsLintedBrokenText form file bytes linted))
+    ⊎ ((length bytes ≤ style_limit)
+    × (IsLintedDocument form file bytes linted ⊎ IsLintedBrokenText form file bytes linted))

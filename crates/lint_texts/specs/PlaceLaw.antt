@@ -13,9 +13,10 @@ use Rattle.lint_texts.specs.Diagnostics.{StyleDiagnostic}
 abbrev pub IsRest : (text : List ℕ) → TextPlace → (rest : List ℕ) → Type 0
 IsRest text place rest = (front : List ℕ) × (text ≡ front ++ rest) × (place ≡ after_bytes first_place front)
 
--- Where the text of a file spells a style, and a line is about the value at a path, the text from the place of the line on begins
--- with the text of the value, and with its name before it where it is a member.
+-- Where the text of a file spells a style, and a line is about the value at a path, the text from the place of the line
+-- on begins with the text of the value, and with its name before it where it is a member.
 abbrev pub LinesSpellTheirValues : Type 0
 LinesSpellTheirValues =
-    (text : List ℕ) (t v : Tree) (d : StyleDiagnostic) → Spells all_rules text t → value_at (diagnostic_path d) t ≡ Some v
+    (text : List ℕ) (t v : Tree) (d : StyleDiagnostic) → Spells all_rules text t →
+    value_at (diagnostic_path d) t ≡ Some v
     → (rest : List ℕ) × IsRest text (diagnostic_line text t d).place rest × BeginsWith (diagnostic_path d) v rest

@@ -3,7 +3,8 @@
 ghost use Rattle.std.specs.Prelude.{◌≡◌, ◌++◌, ◌≤◌, [], ◌∷◌, codes, length, IfOk, OnOk};
 ghost use Rattle.text_places.specs.LineColumn.{first_place};
 ghost use Rattle.lint_texts.specs.BrokenText.{broken_line, broken_message, kind_name};
-ghost use Rattle.lint_texts.specs.LintedStyle.{linted_broken_text, linted_file_error, linted_lines, linted_long_file, linted_seen};
+ghost use Rattle.lint_texts.specs.LintedStyle.{linted_broken_text, linted_file_error, linted_lines, linted_long_file};
+ghost use Rattle.lint_texts.specs.LintedStyle.{linted_seen};
 ghost use Rattle.lint_texts.specs.Views.{line_seen};
 
 use crate::form::LintForm;

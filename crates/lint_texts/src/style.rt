@@ -23,8 +23,8 @@ use text_places::{TextPlace, text_places};
 /// The longest style, in bytes.
 pub const STYLE_LIMIT: usize = 4_194_304;
 
-/// The lines of a file of these bytes: of a style all that `validate` reports of it; of bytes that are too many or no JSON text
-/// one line. Source: own.
+/// The lines of a file of these bytes: of a style all that `validate` reports of it; of bytes that are too many or no
+/// JSON text one line. Source: own.
 pub fn lint_style(
     alloc: Global,
     form: LintForm,

@@ -1,7 +1,8 @@
 //! Lines in their forms.
 
 ghost use Rattle.std.specs.Prelude.{◌≡◌, ◌++◌, decimal, flat_map, OnOk};
-ghost use Rattle.lint_texts.specs.LineText.{annotation_place, annotation_severity, annotation_text, line_text, message_byte, plain_place, plain_severity, plain_text, property_byte};
+ghost use Rattle.lint_texts.specs.LineText.{annotation_place, annotation_severity, annotation_text, line_text};
+ghost use Rattle.lint_texts.specs.LineText.{message_byte, plain_place, plain_severity, plain_text, property_byte};
 ghost use Rattle.lint_texts.specs.Views.{line_seen};
 
 use crate::form::LintForm;

@@ -74,7 +74,8 @@ id_text (Some id) = codes " id " ++ decimal id
 
 -- The line of a feature: its place in the layer of the tile, its shape and its id.
 abbrev pub feature_line : ℕ → Shape → Option ℕ → List ℕ
-feature_line number shape id = line (codes "  feature " ∷ decimal number ∷ codes " " ∷ shape_name shape ∷ id_text id ∷ [])
+feature_line number shape id =
+    line (codes "  feature " ∷ decimal number ∷ codes " " ∷ shape_name shape ∷ id_text id ∷ [])
 
 -- A feature and its properties.
 abbrev pub feature_lines : FeatureOut → List ℕ
@@ -90,7 +91,8 @@ below_layer OutsideFilter values features = value_lines layer_margin values
 
 -- A layer and what is below it.
 abbrev pub layer_lines : LayerOut → List ℕ
-layer_lines layer = layer_line layer.id layer.layer_type layer.show ++ below_layer layer.show layer.values layer.features
+layer_lines layer =
+    layer_line layer.id layer.layer_type layer.show ++ below_layer layer.show layer.values layer.features
 
 -- The zoom, each layer in order, and the end.
 unfoldable pub listing : Layout → List ℕ

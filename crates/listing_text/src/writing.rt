@@ -5,7 +5,8 @@ ghost use Rattle.prop_values.specs.ColorText.{color_text};
 ghost use Rattle.prop_values.specs.ValueText.{listed_text};
 ghost use Rattle.prop_values.specs.View.{data_of};
 ghost use Rattle.prop_values.specs.declared.outcome.Outcome.TheVariants.{Given};
-ghost use Rattle.listing_text.specs.Listing.{zoom_line, end_line, show_mark, layer_line, outcome_text, value_line, id_text, feature_line};
+ghost use Rattle.listing_text.specs.Listing.{zoom_line, end_line, show_mark, layer_line, outcome_text, value_line};
+ghost use Rattle.listing_text.specs.Listing.{id_text, feature_line};
 ghost use Rattle.tile_reader.specs.ShapeName.{shape_name};
 ghost use Rattle.listing_text.specs.Parts.{parts_text, line_front, number_line};
 
@@ -119,7 +120,8 @@ pub fn write_value(
     out: &mut Vec<u8>,
 ) -> Result<(), AllocError>
     ensures ok { OnOk result (out.new.items ≡ out.old.items ++ value_line margin.now name.now outcome.now) }
-    ensures err { OnErr result (AppendsPrefix out.old.items out.new.items (value_line margin.now name.now outcome.now)) }
+    ensures err { OnErr result
+        (AppendsPrefix out.old.items out.new.items (value_line margin.now name.now outcome.now)) }
 {
     if let Outcome::Given(value) = outcome {
         return write_given(margin, name, value, out);
@@ -137,7 +139,8 @@ pub fn write_given(
     out: &mut Vec<u8>,
 ) -> Result<(), AllocError>
     ensures ok { OnOk result (out.new.items ≡ out.old.items ++ value_line margin.now name.now (Given value.now)) }
-    ensures err { OnErr result (AppendsPrefix out.old.items out.new.items (value_line margin.now name.now (Given value.now))) }
+    ensures err { OnErr result
+        (AppendsPrefix out.old.items out.new.items (value_line margin.now name.now (Given value.now))) }
 {
     if let Value::Num(number) = value {
         return write_number_line(margin, name, *number, out);

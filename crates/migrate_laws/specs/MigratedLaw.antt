@@ -60,7 +60,8 @@ filter_mentions globals _ = nothing
 pub record IsTheSameFilter (globals : List (List ℕ × Data)) (new old : Tree) : Type 0 where
   pub passes : LetsTheSamePass (layer_filter globals (Some new)) (layer_filter globals (Some old))
   pub mentions :
-      filter_mentions globals (layer_filter globals (Some new)) ≡ filter_mentions globals (layer_filter globals (Some old))
+      filter_mentions globals (layer_filter globals (Some new))
+      ≡ filter_mentions globals (layer_filter globals (Some old))
 
 -- Each tree, well formed or not, is the filter that it was before it was migrated.
 abbrev pub MigratedFiltersAreTheSame : Type 0

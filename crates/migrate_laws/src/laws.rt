@@ -1,7 +1,9 @@
 //! What the definitions mean, each law on a function that does nothing.
 ghost use Rattle.migrate_laws.specs.GlobalUses.{MigratedFiltersUseTheSameGlobals, MigratedValuesUseTheSameGlobals};
-ghost use Rattle.migrate_laws.specs.MigratedLaw.{MigratingTwiceChangesNothing, MigratedFiltersAreTheSame, MigratedValuesAreTheSame};
-ghost use Rattle.migrate_laws.specs.MigratedLaw.{MigratedDocumentsGiveTheSameGlobals, MigratedDocumentsHaveTheSameLayout};
+ghost use Rattle.migrate_laws.specs.MigratedLaw.{MigratingTwiceChangesNothing, MigratedFiltersAreTheSame};
+ghost use Rattle.migrate_laws.specs.MigratedLaw.{MigratedValuesAreTheSame};
+ghost use Rattle.migrate_laws.specs.MigratedLaw.{MigratedDocumentsGiveTheSameGlobals};
+ghost use Rattle.migrate_laws.specs.MigratedLaw.{MigratedDocumentsHaveTheSameLayout};
 
 use legacy_filters::expressions_are_not_legacy;
 use legacy_laws::{

@@ -27,8 +27,8 @@ MigratedStylesOpenAlike =
     (limit : ℕ) (tiles : List SourceTile) (zoom : ℤ) →
     open_fault limit (migrated document) tiles zoom ≡ open_fault limit document tiles zoom
 
--- Each document, well formed or not, begins a session after it was migrated as it did before, but for the document: with
--- the same values of the global state, and with nothing kept of as many layers.
+-- Each document, well formed or not, begins a session after it was migrated as it did before, but for the document:
+-- with the same values of the global state, and with nothing kept of as many layers.
 abbrev pub MigratedSessionsBeginAlike : Type 0
 MigratedSessionsBeginAlike =
     (limit : ℕ) (document : Tree) (zoom : ℤ) (has_image : List ℕ → Bool) →

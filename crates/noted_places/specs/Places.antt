@@ -1,5 +1,6 @@
 -- Places of elements of a list that are noted, and where they are after the list changed. Source: own.
-use Rattle.std.specs.Prelude.{◌<◌, ℕ, ◌+◌, ◌-◌, ◌≡◌, List, length, nat_eq, nat_lt, slice_index_or, Bool, true, false, not, ◌&&◌, ◌||◌, if◌then◌else◌}
+use Rattle.std.specs.Prelude.{◌<◌, ℕ, ◌+◌, ◌-◌, ◌≡◌, List, length, nat_eq, nat_lt, slice_index_or, Bool, true, false}
+use Rattle.std.specs.Prelude.{not, ◌&&◌, ◌||◌, if◌then◌else◌}
 use Rattle.std.specs.List.{filter, list_any}
 use Rattle.noted_places.specs.declared.places.NotedPlaces.{NotedPlaces}
 

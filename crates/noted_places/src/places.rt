@@ -1,7 +1,8 @@
 //! The noted places.
 
 ghost use Rattle.std.specs.Prelude.{◌≡◌, ◌<◌, ◌≤◌, [], length, map, slice_index_or, true, OnErr, OnOk};
-ghost use Rattle.noted_places.specs.Places.{AreBelow, AreSamePlaces, NotesIf, after_insert, after_move, after_remove, is_noted, places_in, without_place};
+ghost use Rattle.noted_places.specs.Places.{AreBelow, AreSamePlaces, NotesIf, after_insert, after_move, after_remove};
+ghost use Rattle.noted_places.specs.Places.{is_noted, places_in, without_place};
 
 use crate::following::{insert_before, move_one, remove_one};
 use std::alloc::{AllocError, Global};
@@ -56,8 +57,8 @@ impl NotedPlaces {
         Ok(())
     }
 
-    /// An element came before the one at a place of a list of so many, or last. Takes time linear in how many are noted,
-    /// and constant time where it came last.
+    /// An element came before the one at a place of a list of so many, or last. Takes time linear in how many are
+    /// noted, and constant time where it came last.
     pub fn follow_insert(&mut self, place: usize, count: usize)
         requires { AreBelow count (places_in self.old) }
         ensures { places_in self.new ≡ map (after_insert place) (places_in self.old) }

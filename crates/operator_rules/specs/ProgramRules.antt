@@ -4,7 +4,8 @@ use Rattle.expr_syntax.specs.declared.expression.Operator.{Operator}
 use Rattle.eval_face.specs.Rules.{Rule, each, deciding, cases, labels, stops, ramp, bindings, variable, rule_of}
 use Rattle.operator_rules.specs.RuleParts.{applied_by, decided_by, undecided_by}
 use Rattle.operator_rules.specs.declared.rule.OperatorRule.{OperatorRule as ProgramRule}
-use Rattle.operator_rules.specs.declared.rule.OperatorRule.TheVariants.{Each, Deciding, Cases, Labels, Stops, Ramp, Bindings, Variable}
+use Rattle.operator_rules.specs.declared.rule.OperatorRule.TheVariants.{Each, Deciding, Cases, Labels, Stops, Ramp}
+use Rattle.operator_rules.specs.declared.rule.OperatorRule.TheVariants.{Bindings, Variable}
 
 -- the definition of the program's rule of an operator
 abbrev pub rule_in : Operator → ProgramRule → Rule

@@ -5,7 +5,8 @@ use Rattle.prop_values.specs.Data.{Data, null, boolean, number, text, map}
 use Rattle.prop_values.specs.declared.fault.EvalFault.TheVariants.{WrongType}
 use Rattle.property_tables.specs.Fitting.{fit}
 use Rattle.expr_syntax.specs.declared.expression.Operator.{Operator}
-use Rattle.expr_syntax.specs.declared.expression.Operator.TheVariants.{Boolean, Number, String, Object, All, Any, Coalesce}
+use Rattle.expr_syntax.specs.declared.expression.Operator.TheVariants.{Boolean, Number, String, Object, All, Any}
+use Rattle.expr_syntax.specs.declared.expression.Operator.TheVariants.{Coalesce}
 use Rattle.operator_values.specs.Evaluated.{Evaluated, then_value}
 use Rattle.eval_face.specs.World.{World}
 use Rattle.eval_face.specs.Branches.{the_output}

@@ -36,8 +36,8 @@ pub fn fitted(alloc: Global, value: Value, want: &Want) -> Result<Value, Halt>
     Ok(fit(alloc, value, want)??)
 }
 
-/// A copy of a value, fitted to a want. A number, of which features have millions, is made anew: that takes less than to move a
-/// value through the forms of an answer.
+/// A copy of a value, fitted to a want. A number, of which features have millions, is made anew: that takes less than
+/// to move a value through the forms of an answer.
 pub fn fitted_copy(alloc: Global, value: &Value, want: &Want) -> Result<Value, Halt>
     ensures { GivesValue result (fit want.now (data_of value.now)) }
 {

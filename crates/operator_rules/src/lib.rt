@@ -9,13 +9,16 @@
 //! }
 //! ```
 //!
-//! What is promised: each function gives exactly what the part of its rule says that is in the definitions of `eval_face`, unless an
-//! allocation fails. `specs/RuleParts.antt` names the parts. A world is read through [`WorldView`].
+//! What is promised: each function gives exactly what the part of its rule says that is in the definitions of
+//! `eval_face`, unless an allocation fails. `specs/RuleParts.antt` names the parts. A world is read through
+//! [`WorldView`].
 //!
-//! A new operator that evaluates all its arguments has its line in `applied`, and one that stops at the argument that decides has its
-//! line in `decides` and in `undecided`, all three in `applying.rt`. One whose parts decide has a variant of `OperatorRule`.
+//! A new operator that evaluates all its arguments has its line in `applied`, and one that stops at the argument that
+//! decides has its line in `decides` and in `undecided`, all three in `applying.rt`. One whose parts decide has a
+//! variant of `OperatorRule`.
 //!
-//! What is to be believed is in `eval_face`. The definitions in `specs/` are those of contracts here and of the evaluators.
+//! What is to be believed is in `eval_face`. The definitions in `specs/` are those of contracts here and of the
+//! evaluators.
 #![tactic(auto)]
 
 mod applying;

@@ -18,5 +18,6 @@ rgba_of _ = Err WrongType
 
 -- `to-rgba`: red, green, blue and the opacity
 abbrev pub parts_of : List Data → Evaluated
-parts_of (color c ∷ []) = Ok (list (item (number c.r) (item (number c.g) (item (number c.b) (item (number c.a) no_items)))))
+parts_of (color c ∷ []) =
+    Ok (list (item (number c.r) (item (number c.g) (item (number c.b) (item (number c.a) no_items)))))
 parts_of _ = Err WrongType

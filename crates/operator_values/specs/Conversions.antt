@@ -1,6 +1,7 @@
 -- Conversions of values. Source: MapLibre style specification, version 8, expressions; the texts of numbers
 -- are this project's own.
-use Rattle.std.specs.Prelude.{ℕ, ◌-◌, ℤ, pos, List, [], ◌∷◌, length, take, drop, Bool, true, false, not, ◌&&◌, ◌||◌, nat_eq, int_le, Option, Some, None, Result, Ok, Err, if◌then◌else◌, slice_index}
+use Rattle.std.specs.Prelude.{ℕ, ◌-◌, ℤ, pos, List, [], ◌∷◌, length, take, drop, Bool, true, false, not, ◌&&◌, ◌||◌}
+use Rattle.std.specs.Prelude.{nat_eq, int_le, Option, Some, None, Result, Ok, Err, if◌then◌else◌, slice_index}
 use Rattle.std.specs.List.{prefix_len, suffix_len}
 use Rattle.fixed_num.specs.Decimal.{read_text}
 use Rattle.fixed_num.specs.declared.color.Color.{Color}
@@ -82,7 +83,9 @@ is_within most z = int_le (pos 0) z && int_le z most
 
 -- red, green and blue from 0 to 255, and the opacity from 0 to 1
 abbrev pub are_parts : ℤ → ℤ → ℤ → ℤ → Bool
-are_parts r g b a = is_within (pos 255000000) r && (is_within (pos 255000000) g && (is_within (pos 255000000) b && is_within (pos 1000000) a))
+are_parts r g b a =
+    is_within (pos 255000000) r
+    && (is_within (pos 255000000) g && (is_within (pos 255000000) b && is_within (pos 1000000) a))
 
 abbrev pub color_of_parts : ℤ → ℤ → ℤ → ℤ → Option Color
 color_of_parts r g b a = if are_parts r g b a then Some (record { r = r; g = g; b = b; a = a }) else None

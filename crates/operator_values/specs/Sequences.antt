@@ -1,6 +1,8 @@
 -- Operators of texts and lists. Positions in a text are counted in Unicode scalar values. Source: MapLibre
 -- style specification, version 8, expressions.
-use Rattle.std.specs.Prelude.{ℕ, ◌+◌, ◌-◌, ℤ, pos, neg_ℤ, suc, List, [], ◌∷◌, length, take, drop, Bool, true, false, nat_le, Option, Some, None, is_some, option_map, Result, Ok, Err, if◌then◌else◌, encode_utf8_all}
+use Rattle.std.specs.Prelude.{ℕ, ◌+◌, ◌-◌, ℤ, pos, neg_ℤ, suc, List, [], ◌∷◌, length, take, drop, Bool, true, false}
+use Rattle.std.specs.Prelude.{nat_le, Option, Some, None, is_some, option_map, Result, Ok, Err, if◌then◌else◌}
+use Rattle.std.specs.Prelude.{encode_utf8_all}
 use Rattle.std.specs.List.{slice_get}
 use Rattle.std.specs.Str.{chars}
 use Rattle.text_units.specs.Position.{first_place, place_from}
@@ -39,7 +41,8 @@ first_equal needle (d ∷ ds) = if equal needle d then Some 0 else option_map su
 
 -- the least place at or after `from`
 abbrev pub equal_from : Data → List Data → ℕ → Option ℕ
-equal_from needle ds from = if nat_le from (length ds) then option_map (λ place. from + place) (first_equal needle (drop from ds)) else None
+equal_from needle ds from =
+    if nat_le from (length ds) then option_map (λ place. from + place) (first_equal needle (drop from ds)) else None
 
 -- a needle that is no text is in no text
 abbrev pub part_from : Data → List ℕ → ℕ → Option ℕ

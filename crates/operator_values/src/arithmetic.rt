@@ -4,7 +4,8 @@ ghost use Rattle.std.specs.Prelude.{◌≡◌};
 ghost use Rattle.std.specs.Int.{int_min, int_max};
 ghost use Rattle.fixed_num.specs.Number.{absolute, floor_of, ceil_of, round_of};
 ghost use Rattle.prop_values.specs.ViewParts.{values_view, evaluated_of};
-ghost use Rattle.operator_values.specs.Arithmetic.{sum_of, product_of, difference_of, quotient_of, remainder_of, of_number, least_of, greatest_of, chosen, the_number};
+ghost use Rattle.operator_values.specs.Arithmetic.{sum_of, product_of, difference_of, quotient_of, remainder_of};
+ghost use Rattle.operator_values.specs.Arithmetic.{of_number, least_of, greatest_of, chosen, the_number};
 
 use crate::whole::whole;
 use fixed_num::{Arith, Fixed};

@@ -2,7 +2,8 @@
 
 ghost use Rattle.std.specs.Prelude.{◌≡◌};
 ghost use Rattle.prop_values.specs.ViewParts.{values_view, evaluated_of};
-ghost use Rattle.operator_values.specs.Comparisons.{equal_of, different_of, ordered_of, order_in, is_less, is_less_or_equal, is_greater, is_greater_or_equal};
+ghost use Rattle.operator_values.specs.Comparisons.{equal_of, different_of, ordered_of, order_in, is_less};
+ghost use Rattle.operator_values.specs.Comparisons.{is_less_or_equal, is_greater, is_greater_or_equal};
 
 use prop_values::{EvalFault, Value, equals, order};
 use std::cmp::Ordering;

@@ -6,7 +6,11 @@ ghost use Rattle.std.specs.List.{prefix_len, suffix_len};
 ghost use Rattle.prop_values.specs.View.{data_of};
 ghost use Rattle.prop_values.specs.ViewParts.{values_view, evaluated_of};
 ghost use Rattle.operator_values.specs.Evaluated.{GivesValue};
-ghost use Rattle.operator_values.specs.Conversions.{number_in, number_in_text, number_in_trimmed, signed_number, value_of, without_blanks, without_blanks_before, without_blanks_behind, is_blank, color_in, color_of_list, color_of_parts, are_parts, is_within, truth_of, text_of, kind_of, negation_of};
+ghost use Rattle.operator_values.specs.Conversions.{number_in, number_in_text, number_in_trimmed, signed_number};
+ghost use Rattle.operator_values.specs.Conversions.{value_of, without_blanks, without_blanks_before};
+ghost use Rattle.operator_values.specs.Conversions.{without_blanks_behind, is_blank, color_in, color_of_list};
+ghost use Rattle.operator_values.specs.Conversions.{color_of_parts, are_parts, is_within, truth_of, text_of, kind_of};
+ghost use Rattle.operator_values.specs.Conversions.{negation_of};
 
 use crate::whole::whole;
 use color_values::read_color;

@@ -13,9 +13,10 @@
 //! operator's, or another number of values, is `WrongType`: an expression that was read has neither, since
 //! its arguments are fitted to what the operator wants.
 //!
-//! What is promised, for all values: each function gives exactly the value or the fault of the definition of its name in
-//! `specs/`; one that allocates gives that or `Halt::NoMemory`. Numbers, their rounding and their faults are those of
-//! `fixed_num` and `interpolate_fixed`, positions in texts those of `text_units`, equality and order those of `prop_values`.
+//! What is promised, for all values: each function gives exactly the value or the fault of the definition of its name
+//! in `specs/`; one that allocates gives that or `Halt::NoMemory`. Numbers, their rounding and their faults are those
+//! of `fixed_num` and `interpolate_fixed`, positions in texts those of `text_units`, equality and order those of
+//! `prop_values`.
 //!
 //! Each call takes time linear in its values. Texts and lists that stay whole are shared and not copied.
 //!

@@ -10,7 +10,9 @@ ghost use Rattle.prop_values.specs.View.{data_of};
 ghost use Rattle.prop_values.specs.ViewParts.{values_view, evaluated_of};
 ghost use Rattle.operator_values.specs.Evaluated.{GivesValue};
 ghost use Rattle.operator_values.specs.Whole.{index_in};
-ghost use Rattle.operator_values.specs.Sequences.{at_of, item_of, item_at, item_or_outside, in_of, index_of_of, found_from, part_from, equal_from, first_equal, place_value, length_of, size_of, slice_of, stretch_of, stretch};
+ghost use Rattle.operator_values.specs.Sequences.{at_of, item_of, item_at, item_or_outside, in_of, index_of_of};
+ghost use Rattle.operator_values.specs.Sequences.{found_from, part_from, equal_from, first_equal, place_value};
+ghost use Rattle.operator_values.specs.Sequences.{length_of, size_of, slice_of, stretch_of, stretch};
 
 use crate::whole::{count, index_in, place_in, whole};
 use decimal_json::Text;

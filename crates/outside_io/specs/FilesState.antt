@@ -1,5 +1,6 @@
 -- What contracts see of the files that are held in memory, and what one read of them does.
-use Rattle.std.specs.Prelude.{ℕ, List, [], ◌∷◌, ◌++◌, length, Option, Some, None, nat_eq, nat_le, if◌then◌else◌, unwrap_or}
+use Rattle.std.specs.Prelude.{ℕ, List, [], ◌∷◌, ◌++◌, length, Option, Some, None, nat_eq, nat_le, if◌then◌else◌}
+use Rattle.std.specs.Prelude.{unwrap_or}
 use Rattle.std.specs.List.{list_any}
 use Rattle.outside_io.specs.declared.reading.ReadAnswer.{ReadAnswer}
 use Rattle.outside_io.specs.declared.reading.ReadAnswer.TheVariants.{Done, TooLong, Failed, NoMemory}
@@ -35,7 +36,11 @@ pub record SureState : Type 0 where
 abbrev pub files_state_code : Coded FilesState
 files_state_code =
     code_by (Contents × (List ℕ × (ℕ × (ℕ × (ℕ × (Option (List ℕ) × List (List ℕ)))))))
-    (coded× contents_code (coded× (coded_list coded_ℕ) (coded× coded_ℕ (coded× coded_ℕ (coded× coded_ℕ (coded× (coded_option (coded_list coded_ℕ)) (coded_list (coded_list coded_ℕ))))))))
+    (coded× contents_code
+    (coded× (coded_list coded_ℕ)
+    (coded× coded_ℕ
+    (coded× coded_ℕ
+    (coded× coded_ℕ (coded× (coded_option (coded_list coded_ℕ)) (coded_list (coded_list coded_ℕ))))))))
     (λ s. (s.files, (s.fails, (s.reads, (s.faults, (s.taken, (s.failed, s.asked)))))))
     (λ p. record { files = p.0; fails = p.1.0; reads = p.1.1.0; faults = p.1.1.1.0; taken = p.1.1.1.1.0; failed = p.1.1.1.1.1.0; asked = p.1.1.1.1.1.1 })
     (λ _. refl)
@@ -55,14 +60,16 @@ end_at (Some bytes) at_most = if nat_le (length bytes) at_most then Done else To
 
 -- how a read ends, where no allocation fails
 abbrev pub read_end : FilesState → List ℕ → ℕ → ReadAnswer
-read_end s name at_most = if list_any (λ number. nat_eq number s.reads) s.fails then Failed else end_at (bytes_of s.files name) at_most
+read_end s name at_most =
+    if list_any (λ number. nat_eq number s.reads) s.fails then Failed else end_at (bytes_of s.files name) at_most
 
 -- the files after a read of this name that ended so. A file that is done was taken whole, and one that is too
 -- long not at all
 abbrev pub after_read : FilesState → List ℕ → ReadAnswer → FilesState
 after_read s name Done = record s { reads = raised s.reads; taken = raised_by (length (unwrap_or (bytes_of s.files name) [])) s.taken; asked = s.asked ++ name ∷ [] }
 after_read s name TooLong = record s { reads = raised s.reads; asked = s.asked ++ name ∷ [] }
-after_read s name Failed = record s { reads = raised s.reads; faults = raised s.faults; failed = Some name; asked = s.asked ++ name ∷ [] }
+after_read s name Failed =
+    record s { reads = raised s.reads; faults = raised s.faults; failed = Some name; asked = s.asked ++ name ∷ [] }
 after_read s name NoMemory = s
 
 -- the bytes that sure files have of a name: a name that is not there has none
@@ -79,7 +86,8 @@ sure_read_end s name at_most = end_at (told_of s name) at_most
 
 -- sure files after a read of this name that ended so
 abbrev pub after_sure_read : SureState → List ℕ → ReadAnswer → SureState
-after_sure_read s name Done = record s { taken = raised_by (length (sure_bytes_of s.files name)) s.taken; asked = s.asked ++ name ∷ [] }
+after_sure_read s name Done =
+    record s { taken = raised_by (length (sure_bytes_of s.files name)) s.taken; asked = s.asked ++ name ∷ [] }
 after_sure_read s name TooLong = record s { asked = s.asked ++ name ∷ [] }
 after_sure_read s name Failed = s
 after_sure_read s name NoMemory = s

@@ -1,5 +1,6 @@
 -- What contracts see of a sink that is held in memory, and what one write to it does.
-use Rattle.std.specs.Prelude.{ℕ, ◌-◌, Bool, ◌&&◌, List, ◌++◌, take, length, min, find, Option, is_none, unwrap_or, nat_eq, nat_le, if◌then◌else◌}
+use Rattle.std.specs.Prelude.{ℕ, ◌-◌, Bool, ◌&&◌, List, ◌++◌, take, length, min, find, Option, is_none, unwrap_or}
+use Rattle.std.specs.Prelude.{nat_eq, nat_le, if◌then◌else◌}
 use Rattle.std.specs.Option.{option_map}
 use Rattle.outside_io.specs.Counts.{raised}
 
@@ -30,7 +31,8 @@ takes_all s piece = is_none (listed s.fails s.writes) && nat_le (length piece) (
 -- what the next write takes of this piece: all where it succeeds, and else as many bytes as it still takes
 -- and as there is room for, which is none where it is not listed
 abbrev pub part_taken : SinkState → List ℕ → List ℕ
-part_taken s piece = if takes_all s piece then piece else take (min (unwrap_or (listed s.fails s.writes) 0) (room_left s)) piece
+part_taken s piece =
+    if takes_all s piece then piece else take (min (unwrap_or (listed s.fails s.writes) 0) (room_left s)) piece
 
 -- the sink after the next write, of this piece
 abbrev pub after_write : SinkState → List ℕ → SinkState

@@ -1,5 +1,6 @@
 -- How the texts of several writes join, for callers that write a text piece by piece.
-use Rattle.std.specs.Prelude.{◌≡◌, ℕ, ◌+◌, List, [], ◌++◌, take, length, min, Option, Some, None, Result, Ok, Err, OnErr}
+use Rattle.std.specs.Prelude.{◌≡◌, ℕ, ◌+◌, List, [], ◌++◌, take, length, min, Option, Some, None, Result, Ok, Err}
+use Rattle.std.specs.Prelude.{OnErr}
 use Rattle.std.specs.Option.{option_map}
 use Rattle.std.proofs.Common.{refl, sym, ap, subst, ◌∙◌, append-nil, append_assoc, arith}
 use Rattle.std.proofs.Math.Seq.{take-append-add}
@@ -14,7 +15,8 @@ gains_nothing (Some bytes) = ap Some (sym (append-nil bytes))
 -- one text, and then another
 pub gains_both : (a b c : Option (List ℕ)) (x y : List ℕ) → Gains a b x → Gains b c y → Gains a c (x ++ y)
 gains_both None b c x y first second = second ∙ ap (option_map (λ bytes. bytes ++ y)) first
-gains_both (Some bytes) b c x y first second = second ∙ ap (option_map (λ held. held ++ y)) first ∙ ap Some (append_assoc bytes x y)
+gains_both (Some bytes) b c x y first second =
+    second ∙ ap (option_map (λ held. held ++ y)) first ∙ ap Some (append_assoc bytes x y)
 
 -- nothing written is a prefix of any text
 pub front_of_nothing : (held : Option (List ℕ)) (text : List ℕ) → GainsPrefix held held text
@@ -27,7 +29,8 @@ front_cut x y z n =
     ∙ ap (λ rest. x ++ rest) (take-append-le (min n (length y)) y z (omega arith) ∙ take_min n y)
 
 -- a text, and then a prefix of the next, where more was to come
-pub front_of_more : (a b c : Option (List ℕ)) (x y z : List ℕ) → Gains a b x → GainsPrefix b c y → GainsPrefix a c (x ++ (y ++ z))
+pub front_of_more : (a b c : Option (List ℕ)) (x y z : List ℕ) → Gains a b x → GainsPrefix b c y →
+    GainsPrefix a c (x ++ (y ++ z))
 front_of_more a b c x y z first (n, second) =
     let P : List ℕ → Type 0 = λ text. Gains a c text in
     (length x + min n (length y), subst P (sym (front_cut x y z n)) (gains_both a b c x (take n y) first second))

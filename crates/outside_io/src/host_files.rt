@@ -1,4 +1,5 @@
-ghost use Rattle.std.specs.Prelude.{◌≡◌, ◌⊎◌, ◌+◌, ◌<◌, ◌≤◌, [], Some, None, length, take, drop, vec_len, string_bytes, OnOk, IfOk, IfErr};
+ghost use Rattle.std.specs.Prelude.{◌≡◌, ◌⊎◌, ◌+◌, ◌<◌, ◌≤◌, [], Some, None, length, take, drop, vec_len, string_bytes};
+ghost use Rattle.std.specs.Prelude.{OnOk, IfOk, IfErr};
 ghost use Rattle.std.specs.Io.{StartsWith, appended_bytes};
 ghost use Rattle.std.specs.Io.KnownBytes.{Consumes, IsAtEnd};
 ghost use Rattle.outside_io.specs.Counts.{raised, raised_by};
@@ -148,7 +149,8 @@ fn read_rest<F: Read>(
 fn read_turn<F: Read>(file: &mut F, into: &mut Vec<u8>) -> Result<usize, ReadAnswer>
     ensures longer { IfOk result (λ count. vec_len into.new ≡ vec_len into.old + count) }
     ensures appends { OnOk result (StartsWith into.new.items into.old.items) }
-    ensures bytes { OnOk result (Consumes (F.remaining file.old) (F.remaining file.new) (appended_bytes into.old.items into.new.items)) }
+    ensures bytes { OnOk result
+        (Consumes (F.remaining file.old) (F.remaining file.new) (appended_bytes into.old.items into.new.items)) }
     ensures end { IfOk result (λ count. count ≡ 0 → IsAtEnd (F.remaining file.new)) }
     ensures stop { IfErr result (λ answer. (answer ≡ ReadAnswer.Failed) ⊎ (answer ≡ ReadAnswer.NoMemory)) }
 {
@@ -170,7 +172,8 @@ fn read_after<F: Read>(file: &mut F, buffer: &mut [u8], start: usize) -> io::Res
     requires { start < length buffer.old }
     ensures front { take start buffer.new ≡ take start buffer.old }
     ensures fits { IfOk result (λ count. start + count ≤ length buffer.new) }
-    ensures bytes { IfOk result (λ count. Consumes (F.remaining file.old) (F.remaining file.new) (take count (drop start buffer.new))) }
+    ensures bytes { IfOk result
+        (λ count. Consumes (F.remaining file.old) (F.remaining file.new) (take count (drop start buffer.new))) }
     ensures end { IfOk result (λ count. count ≡ 0 → IsAtEnd (F.remaining file.new)) }
 {
     file.read(&mut buffer[start..])

@@ -1,6 +1,7 @@
 //! Slots of ranges, few of which are full.
 
-ghost use Rattle.std.specs.Prelude.{◌≡◌, ◌<◌, ◌≤◌, length, insert, remove, replicate, slice_index_or, slice_set, Some, None, IfOk, OnOk, OnErr};
+ghost use Rattle.std.specs.Prelude.{◌≡◌, ◌<◌, ◌≤◌, length, insert, remove, replicate, slice_index_or, slice_set, Some};
+ghost use Rattle.std.specs.Prelude.{None, IfOk, OnOk, OnErr};
 ghost use Rattle.pending_ranges.specs.Pending.{AreBetween, AreZoomRanges, IsZoomRange};
 
 use fixed_num::Fixed;
@@ -72,7 +73,8 @@ impl PendingRanges {
         }
     }
 
-    /// The layer at a place moved to another, and its range with it. Takes time linear in how many layers are in between.
+    /// The layer at a place moved to another, and its range with it. Takes time linear in how many layers are in
+    /// between.
     pub fn move_slot(&mut self, from: usize, to: usize)
         requires from { from < length self.old }
         requires to { to < length self.old }
@@ -136,7 +138,8 @@ impl PendingRanges {
 fn move_within(slots: &mut Vec<Option<ZoomRange>>, from: usize, to: usize)
     requires from { from < length slots.old.items }
     requires to { to < length slots.old.items }
-    ensures moved { slots.new.items ≡ insert (remove slots.old.items from) to (slice_index_or slots.old.items from None) }
+    ensures moved { slots.new.items
+        ≡ insert (remove slots.old.items from) to (slice_index_or slots.old.items from None) }
     ensures len { length slots.new.items ≡ length slots.old.items }
 {
     move_element(slots.as_mut_slice(), from, to);

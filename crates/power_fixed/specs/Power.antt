@@ -2,7 +2,8 @@
 --
 -- The whole part of the exponent is taken by squaring, the fraction by its first twenty binary digits, each a
 -- repeated square root. Each product is rounded to millionths, and is a fault where it is past the bound.
-use Rattle.std.specs.Prelude.{ℕ, zero, suc, ◌-◌, ◌*◌, ◌/◌, ◌%◌, ℤ, pos, unsigned_abs, nat_eq, nat_le, Result, Ok, Err, if◌then◌else◌}
+use Rattle.std.specs.Prelude.{ℕ, zero, suc, ◌-◌, ◌*◌, ◌/◌, ◌%◌, ℤ, pos, unsigned_abs, nat_eq, nat_le, Result, Ok, Err}
+use Rattle.std.specs.Prelude.{if◌then◌else◌}
 use Rattle.fixed_num.specs.Number.{product}
 use Rattle.fixed_num.specs.declared.fixed.Arith.{Arith}
 use Rattle.power_fixed.specs.Root.{root_of}
@@ -47,7 +48,9 @@ root_after b (suc k) = root_of (root_after b k)
 -- the digits that are 1
 unfoldable pub part_after : ℤ → ℕ → ℕ → Result ℤ Arith
 part_after b f zero = Ok one
-part_after b f (suc k) = if nat_le 1000000 (2 * rest_after f k) then times (part_after b f k) (Ok (root_after b (suc k))) else part_after b f k
+part_after b f (suc k) =
+    if nat_le 1000000 (2 * rest_after f k) then times (part_after b f k) (Ok (root_after b (suc k))) else
+    part_after b f k
 
 -- b to the power of a fraction of f millionths, fewer than 10^6
 unfoldable pub part_of : ℤ → ℕ → Result ℤ Arith

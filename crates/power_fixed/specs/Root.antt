@@ -1,5 +1,6 @@
 -- Square roots of numbers. A number is seen as its whole count of millionths. Source: own.
-use Rattle.std.specs.Prelude.{◌≡◌, ℕ, zero, suc, ◌+◌, ◌*◌, ℤ, pos, ◌≤ℤ◌, ◌<ℤ◌, unsigned_abs, Bool, nat_le, Ok, if◌then◌else◌}
+use Rattle.std.specs.Prelude.{◌≡◌, ℕ, zero, suc, ◌+◌, ◌*◌, ℤ, pos, ◌≤ℤ◌, ◌<ℤ◌, unsigned_abs, Bool, nat_le, Ok}
+use Rattle.std.specs.Prelude.{if◌then◌else◌}
 use Rattle.fixed_num.specs.Number.{product}
 use Rattle.fixed_num.specs.Rounding.{nearest}
 

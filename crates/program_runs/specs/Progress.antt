@@ -18,16 +18,20 @@ use Rattle.program_runs.specs.Written.{OutTextIsDue, RoseBetween, StepsAreDue}
 abbrev pub outcome_of : RunOutput → RunOutcome
 outcome_of a = plain_outcome a.out.items a.err.items a.ending
 
--- The run comes to the rest of it, once it has read the files of some more names: outcomes of the rest are outcomes of the run, and
--- what the rest reads, writes and counts the run reads, writes and counts.
-pub record ComesTo (files : List ℕ → Option (List ℕ)) (run rest : Run) (asked_old asked_new : List (List ℕ)) : Type 0 where
-  pub outcomes : (all : List (List ℕ)) (o : RunOutcome) → HasOutcome files rest asked_new all o → HasOutcome files run asked_old all o
+-- The run comes to the rest of it, once it has read the files of some more names: outcomes of the rest are outcomes of
+-- the run, and what the rest reads, writes and counts the run reads, writes and counts.
+pub record ComesTo (files : List ℕ → Option (List ℕ)) (run rest : Run)
+    (asked_old asked_new : List (List ℕ)) : Type 0 where
+  pub outcomes : (all : List (List ℕ)) (o : RunOutcome) → HasOutcome files rest asked_new all o →
+      HasOutcome files run asked_old all o
   pub reads : (now : List (List ℕ)) → HasAsked files rest asked_new now → HasAsked files run asked_old now
-  pub says : (now : List (List ℕ)) (text : List ℕ) → HasSaid files rest asked_new now text → HasSaid files run asked_old now text
-  pub counts : (now : List (List ℕ)) (steps : ℕ) → HasCounted files rest asked_new now steps → HasCounted files run asked_old now steps
+  pub says : (now : List (List ℕ)) (text : List ℕ) → HasSaid files rest asked_new now text →
+      HasSaid files run asked_old now text
+  pub counts : (now : List (List ℕ)) (steps : ℕ) → HasCounted files rest asked_new now steps →
+      HasCounted files run asked_old now steps
 
--- No answer: an allocation failed, or a read of the run's failed. The arguments after the run are the count of failed reads before
--- and after, the name of the last of them before and after, and the names that were read.
+-- No answer: an allocation failed, or a read of the run's failed. The arguments after the run are the count of failed
+-- reads before and after, the name of the last of them before and after, and the names that were read.
 abbrev pub IsStop : (List ℕ → Option (List ℕ)) → Run → (old new : ℕ) → (failed_old failed_new : Option (List ℕ))
     → (asked_old asked_new : List (List ℕ)) → RunStop → Type 0
 IsStop files run old new failed_old failed_new asked_old asked_new NoMemory =
@@ -44,14 +48,17 @@ HaltsAt files run old new failed_old failed_new asked_old asked_new (Refused ans
     NoneFailed old new failed_old failed_new × HasOutcome files run asked_old asked_new (outcome_of answer)
 
 -- The run has this outcome, once evaluations were made, and the steps rose as they count.
-abbrev pub IsAnswered : (List ℕ → Option (List ℕ)) → Run → (asked_old asked_new : List (List ℕ)) → (steps_old steps_new : ℕ) → RunOutput → Type 0
+abbrev pub IsAnswered : (List ℕ → Option (List ℕ)) → Run → (asked_old asked_new : List (List ℕ)) →
+    (steps_old steps_new : ℕ) → RunOutput → Type 0
 IsAnswered files run asked_old asked_new steps_old steps_new answer =
     (least : ℕ) × (most : ℕ) × HasOutcome files run asked_old asked_new (after_counts least most (outcome_of answer))
     × RoseBetween steps_old steps_new least most
 
 -- The steps of a run that goes no further: none were counted before a refusal.
-abbrev pub HaltSteps : (List ℕ → Option (List ℕ)) → Run → (asked_old asked_new : List (List ℕ)) → (steps_old steps_new : ℕ) → RunHalt → Type 0
-HaltSteps files run asked_old asked_new steps_old steps_new (Stopped stop) = StepsAreDue files run asked_old asked_new steps_old steps_new
+abbrev pub HaltSteps : (List ℕ → Option (List ℕ)) → Run → (asked_old asked_new : List (List ℕ)) →
+    (steps_old steps_new : ℕ) → RunHalt → Type 0
+HaltSteps files run asked_old asked_new steps_old steps_new (Stopped stop) =
+    StepsAreDue files run asked_old asked_new steps_old steps_new
 HaltSteps files run asked_old asked_new steps_old steps_new (Refused answer) = steps_new ≡ steps_old
 
 module _ {A : Type 0} (files : List ℕ → Option (List ℕ)) (part : (A → Run) → Run) where
@@ -67,7 +74,8 @@ module _ {A : Type 0} (files : List ℕ → Option (List ℕ)) (part : (A → Ru
 
 -- ---- a run whose answers are written one after another, and which reads no file meanwhile
 
--- A stretch of a run: the text that it writes, and the steps that its evaluations count, at least so many and at most so many.
+-- A stretch of a run: the text that it writes, and the steps that its evaluations count, at least so many and at most
+-- so many.
 pub record Stretch : Type 0 where
   pub text : List ℕ
   pub least : ℕ
@@ -78,7 +86,8 @@ no_stretch = record { text = []; least = 0; most = 0 }
 
 -- a stretch and the next
 abbrev pub then_stretch : Stretch → Stretch → Stretch
-then_stretch first next = record { text = first.text ++ next.text; least = first.least + next.least; most = first.most + next.most }
+then_stretch first next =
+    record { text = first.text ++ next.text; least = first.least + next.least; most = first.most + next.most }
 
 -- an outcome, after a stretch
 abbrev pub after_stretch : Stretch → RunOutcome → RunOutcome
@@ -107,7 +116,8 @@ pub record HasWritten (run : Run) (s : Stretch) (rest : Run) : Type 0 where
       → HasSaid files rest asked now more → HasSaid files run asked now (s.text ++ more)
   pub counts : (files : List ℕ → Option (List ℕ)) (asked now : List (List ℕ)) (more : ℕ)
       → HasCounted files rest asked now more → HasCounted files run asked now (s.most + more)
-  pub so_far : (files : List ℕ → Option (List ℕ)) (asked : List (List ℕ)) → (s.text ≡ []) ⊎ HasSaid files run asked asked s.text
+  pub so_far : (files : List ℕ → Option (List ℕ)) (asked : List (List ℕ)) →
+      (s.text ≡ []) ⊎ HasSaid files run asked asked s.text
 
 -- by what out held before and holds now
 module _ (files : List ℕ → Option (List ℕ)) (run : Run) (asked : List (List ℕ)) (old new : Option (List ℕ)) where
@@ -128,4 +138,5 @@ module _ (files : List ℕ → Option (List ℕ)) (run : Run) (asked : List (Lis
     IsCut faults_old faults_new write.NoMemory =
         IsBegun × StepsAreDue files run asked asked steps_old steps_new × (faults_new ≡ faults_old)
     IsCut faults_old faults_new write.Unwritten =
-        IsBegun × StepsAreDue files run asked asked steps_old steps_new × OutTextIsDue files run asked asked × (faults_new ≡ raised faults_old)
+        IsBegun × StepsAreDue files run asked asked steps_old steps_new × OutTextIsDue files run asked asked
+        × (faults_new ≡ raised faults_old)

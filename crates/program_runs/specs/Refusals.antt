@@ -2,7 +2,8 @@
 use Rattle.std.specs.Prelude.{ℕ, zero, suc, List, [], ◌++◌, codes, decimal}
 use Rattle.decimal_json.specs.JsonText.{text_json}
 use Rattle.json_tokens.specs.declared.kind.JsonKind.{JsonKind}
-use Rattle.json_tokens.specs.declared.kind.JsonKind.TheVariants.{Syntax, Utf8, DuplicateKey, Depth, NumberLength, LoneSurrogate}
+use Rattle.json_tokens.specs.declared.kind.JsonKind.TheVariants.{Syntax, Utf8, DuplicateKey, Depth, NumberLength}
+use Rattle.json_tokens.specs.declared.kind.JsonKind.TheVariants.{LoneSurrogate}
 use Rattle.program_runs.specs.Outcome.{RunOutcome, refused}
 
 -- the tile of a source

@@ -26,11 +26,17 @@ pub fn read_file<'a, F: Files>(
     files: &mut F,
 ) -> Result<Vec<u8>, RunHalt<'a>>
     ensures told { F.told files.new ≡ F.told files.old }
-    ensures failed { OnOk result (NoneFailed (F.faults files.old) (F.faults files.new) (F.failed files.old) (F.failed files.new)) }
-    ensures on { IfOk result (λ bytes. GoesOn (F.told files.old) (reads (too_long (subject_text what.now) (subject_number what.now)) name.now at_most)
+    ensures failed { OnOk result
+        (NoneFailed (F.faults files.old) (F.faults files.new) (F.failed files.old) (F.failed files.new)) }
+    ensures on { IfOk result
+        (λ bytes. GoesOn (F.told files.old)
+        (reads (too_long (subject_text what.now) (subject_number what.now)) name.now at_most)
         (F.asked files.old) (F.asked files.new) bytes.items) }
-    ensures halt { IfErr result (λ halt. Halts (F.told files.old) (reads (too_long (subject_text what.now) (subject_number what.now)) name.now at_most)
-        (F.faults files.old) (F.faults files.new) (F.failed files.old) (F.failed files.new) (F.asked files.old) (F.asked files.new) halt) }
+    ensures halt { IfErr result
+        (λ halt. Halts (F.told files.old)
+        (reads (too_long (subject_text what.now) (subject_number what.now)) name.now at_most)
+        (F.faults files.old) (F.faults files.new) (F.failed files.old) (F.failed files.new) (F.asked files.old)
+        (F.asked files.new) halt) }
 {
     let mut bytes = Vec::new(alloc);
     match files.read(alloc, name, at_most, &mut bytes) {
@@ -49,11 +55,13 @@ pub fn may_read_file<'a, F: Files>(
     files: &mut F,
 ) -> Result<Option<Vec<u8>>, RunHalt<'a>>
     ensures told { F.told files.new ≡ F.told files.old }
-    ensures failed { OnOk result (NoneFailed (F.faults files.old) (F.faults files.new) (F.failed files.old) (F.failed files.new)) }
+    ensures failed { OnOk result
+        (NoneFailed (F.faults files.old) (F.faults files.new) (F.failed files.old) (F.failed files.new)) }
     ensures on { IfOk result (λ bytes. GoesOn (F.told files.old) (may_read name.now at_most)
         (F.asked files.old) (F.asked files.new) (option_map (λ read. read.items) bytes)) }
     ensures halt { IfErr result (λ halt. Halts (F.told files.old) (may_read name.now at_most)
-        (F.faults files.old) (F.faults files.new) (F.failed files.old) (F.failed files.new) (F.asked files.old) (F.asked files.new) halt) }
+        (F.faults files.old) (F.faults files.new) (F.failed files.old) (F.failed files.new) (F.asked files.old)
+        (F.asked files.new) halt) }
 {
     let mut read = Vec::new(alloc);
     let stop = match files.read(alloc, name, at_most, &mut read) {
@@ -70,7 +78,9 @@ pub fn parse_json<'a>(alloc: Global, what: &Subject<'_>, bytes: &[u8]) -> Result
     ensures on { (files : List ℕ → Option (List ℕ)) (asked : List (List ℕ)) →
         IfOk result (λ json. GoesOn files (parses (subject_text what.now) bytes.now) asked asked (tree_of json)) }
     ensures halt { (files : List ℕ → Option (List ℕ)) (count : ℕ) (failed : Option (List ℕ)) (asked : List (List ℕ)) →
-        IfErr result (λ halt. Halts files (parses (subject_text what.now) bytes.now) count count failed failed asked asked halt) }
+        IfErr result
+        (λ halt. Halts files (parses (subject_text what.now) bytes.now) count count failed failed asked
+        asked halt) }
 {
     json_or_refusal(alloc, what, parse(alloc, bytes)?)
 }
@@ -84,11 +94,16 @@ pub fn read_json<'a, F: Files>(
     files: &mut F,
 ) -> Result<Json, RunHalt<'a>>
     ensures told { F.told files.new ≡ F.told files.old }
-    ensures failed { OnOk result (NoneFailed (F.faults files.old) (F.faults files.new) (F.failed files.old) (F.failed files.new)) }
-    ensures on { IfOk result (λ json. GoesOn (F.told files.old) (json_part (subject_text what.now) (subject_number what.now) name.now at_most)
+    ensures failed { OnOk result
+        (NoneFailed (F.faults files.old) (F.faults files.new) (F.failed files.old) (F.failed files.new)) }
+    ensures on { IfOk result
+        (λ json. GoesOn (F.told files.old)
+        (json_part (subject_text what.now) (subject_number what.now) name.now at_most)
         (F.asked files.old) (F.asked files.new) (tree_of json)) }
-    ensures halt { IfErr result (λ halt. Halts (F.told files.old) (json_part (subject_text what.now) (subject_number what.now) name.now at_most)
-        (F.faults files.old) (F.faults files.new) (F.failed files.old) (F.failed files.new) (F.asked files.old) (F.asked files.new) halt) }
+    ensures halt { IfErr result
+        (λ halt. Halts (F.told files.old) (json_part (subject_text what.now) (subject_number what.now) name.now at_most)
+        (F.faults files.old) (F.faults files.new) (F.failed files.old) (F.failed files.new) (F.asked files.old)
+        (F.asked files.new) halt) }
 {
     let bytes = read_file(alloc, what, name, at_most, files)?;
     json_or_refusal(alloc, what, parse_owned(alloc, bytes)?)
@@ -102,8 +117,10 @@ fn json_or_refusal<'a>(
 ) -> Result<Json, RunHalt<'a>>
     ensures on { (files : List ℕ → Option (List ℕ)) (bytes : List ℕ) (asked : List (List ℕ)) → Parses bytes parsed →
         IfOk result (λ json. GoesOn files (parses (subject_text what.now) bytes) asked asked (tree_of json)) }
-    ensures halt { (files : List ℕ → Option (List ℕ)) (bytes : List ℕ) (count : ℕ) (failed : Option (List ℕ)) (asked : List (List ℕ)) → Parses bytes parsed →
-        IfErr result (λ halt. Halts files (parses (subject_text what.now) bytes) count count failed failed asked asked halt) }
+    ensures halt { (files : List ℕ → Option (List ℕ)) (bytes : List ℕ) (count : ℕ) (failed : Option (List ℕ))
+        (asked : List (List ℕ)) → Parses bytes parsed →
+        IfErr result
+        (λ halt. Halts files (parses (subject_text what.now) bytes) count count failed failed asked asked halt) }
 {
     match parsed {
         Ok(json) => Ok(json),

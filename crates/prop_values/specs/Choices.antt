@@ -3,13 +3,19 @@ use Rattle.std.specs.Prelude.{ℕ, List, [], ◌∷◌, Bool, codes}
 use Rattle.std.specs.List.{list_any}
 use Rattle.prop_values.specs.Equality.{same_text}
 use Rattle.prop_values.specs.declared.choice.Choice.{Choice}
-use Rattle.prop_values.specs.declared.choice.Choice.TheVariants.{Visibility, Anchor, MapViewport, MapViewportAuto, Overlap, LineCap, LineJoin, SymbolPlacement, SymbolZOrder, IconTextFit, TextRotationAlignment, TextJustify, TextWritingMode, TextTransform, RasterResampling}
+use Rattle.prop_values.specs.declared.choice.Choice.TheVariants.{Visibility, Anchor, MapViewport, MapViewportAuto}
+use Rattle.prop_values.specs.declared.choice.Choice.TheVariants.{Overlap, LineCap, LineJoin, SymbolPlacement}
+use Rattle.prop_values.specs.declared.choice.Choice.TheVariants.{SymbolZOrder, IconTextFit, TextRotationAlignment}
+use Rattle.prop_values.specs.declared.choice.Choice.TheVariants.{TextJustify, TextWritingMode, TextTransform}
+use Rattle.prop_values.specs.declared.choice.Choice.TheVariants.{RasterResampling}
 
 -- The texts of each set. Source: the enumerated values of the MapLibre style specification, version
 -- 8, as this project takes them.
 abbrev pub texts_of : Choice → List (List ℕ)
 texts_of Visibility = codes "visible" ∷ codes "none" ∷ []
-texts_of Anchor = codes "center" ∷ codes "left" ∷ codes "right" ∷ codes "top" ∷ codes "bottom" ∷ codes "top-left" ∷ codes "top-right" ∷ codes "bottom-left" ∷ codes "bottom-right" ∷ []
+texts_of Anchor =
+    codes "center" ∷ codes "left" ∷ codes "right" ∷ codes "top" ∷ codes "bottom" ∷ codes "top-left" ∷
+    codes "top-right" ∷ codes "bottom-left" ∷ codes "bottom-right" ∷ []
 texts_of MapViewport = codes "map" ∷ codes "viewport" ∷ []
 texts_of MapViewportAuto = codes "map" ∷ codes "viewport" ∷ codes "auto" ∷ []
 texts_of Overlap = codes "never" ∷ codes "always" ∷ codes "cooperative" ∷ []

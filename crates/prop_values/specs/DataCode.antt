@@ -4,7 +4,8 @@ use Rattle.std.proofs.Common.{ap}
 use base.Stored.{Gv, gnil, gnum, gcons, Coded, coded_ℕ, coded_ℤ, coded_bool, coded_list, coded×}
 use Rattle.fixed_num.specs.declared.color.Color.{Color}
 use Rattle.fixed_num.specs.contracts.color.Color.{the_row}
-use Rattle.prop_values.specs.Data.{Data, null, boolean, number, text, color, list, map, Items, no_items, item, Pairs, no_pairs, pair}
+use Rattle.prop_values.specs.Data.{Data, null, boolean, number, text, color, list, map, Items, no_items, item, Pairs}
+use Rattle.prop_values.specs.Data.{no_pairs, pair}
 
 abbrev pub color_code : Coded Color
 color_code = (the_row).coded
@@ -70,7 +71,9 @@ mutual
 
   pub inj_pairs : (x y : Pairs) → code_pairs x ≡ code_pairs y → x ≡ y
   inj_pairs no_pairs no_pairs p = refl
-  inj_pairs (pair k a ats) (pair l b bs) p = λ i. pair ((coded_list coded_ℕ).inj k l (ap (λ g. head (head g)) p) i) (inj_data a b (ap (λ g. tail (head g)) p) i) (inj_pairs ats bs (ap tail p) i)
+  inj_pairs (pair k a ats) (pair l b bs) p =
+      λ i. pair ((coded_list coded_ℕ).inj k l (ap (λ g. head (head g)) p) i)
+      (inj_data a b (ap (λ g. tail (head g)) p) i) (inj_pairs ats bs (ap tail p) i)
   inj_pairs no_pairs (pair l b bs) p = absurd (cc)
   inj_pairs (pair k a ats) no_pairs p = absurd (cc)
 

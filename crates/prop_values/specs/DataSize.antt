@@ -1,6 +1,7 @@
 -- How many nodes a value has.
 use Rattle.std.specs.Prelude.{ℕ, ◌+◌}
-use Rattle.prop_values.specs.Data.{Data, Items, Pairs, boolean, color, item, list, map, no_items, no_pairs, null, number, pair, text}
+use Rattle.prop_values.specs.Data.{Data, Items, Pairs, boolean, color, item, list, map, no_items, no_pairs, null}
+use Rattle.prop_values.specs.Data.{number, pair, text}
 
 -- The number of nodes: a list counts one more than its parts, and a map two, its entries and what shares
 -- them.

@@ -1,6 +1,7 @@
 -- What equality of values means. The statements are to be believed; their proofs are in proofs/.
 use Rattle.std.specs.Prelude.{◌≡◌, ◌↔◌, ℕ, List, Bool, true, false, Option, Some, None}
-use Rattle.prop_values.specs.Data.{Data, null, boolean, number, text, color, list, map, Items, no_items, item, Pairs, no_pairs, pair, pairs_of, entries_of}
+use Rattle.prop_values.specs.Data.{Data, null, boolean, number, text, color, list, map, Items, no_items, item, Pairs}
+use Rattle.prop_values.specs.Data.{no_pairs, pair, pairs_of, entries_of}
 use Rattle.prop_values.specs.Keys.{HasDistinctKeys}
 use Rattle.prop_values.specs.Equality.{equal, at_key}
 
@@ -31,7 +32,10 @@ both_equal _ _ = false
 
 -- Maps are equal exactly where at each key both have nothing, or equal values.
 abbrev pub MapsAreEqualByKeys : Type 0
-MapsAreEqualByKeys = (a b : List (List ℕ × Data)) → HasDistinctKeys a → HasDistinctKeys b → (equal (map (pairs_of a)) (map (pairs_of b)) ≡ true) ↔ ((key : List ℕ) → both_equal (at_key key (pairs_of a)) (at_key key (pairs_of b)) ≡ true)
+MapsAreEqualByKeys =
+    (a b : List (List ℕ × Data)) → HasDistinctKeys a → HasDistinctKeys b →
+    (equal (map (pairs_of a)) (map (pairs_of b)) ≡ true) ↔
+    ((key : List ℕ) → both_equal (at_key key (pairs_of a)) (at_key key (pairs_of b)) ≡ true)
 
 -- A value is equal to itself.
 abbrev pub EqualityIsReflexive : Type 0

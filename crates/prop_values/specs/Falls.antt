@@ -5,7 +5,8 @@ use Rattle.std.specs.declared.alloc.Global.{Global}
 use Rattle.std.proofs.Common.{arith}
 use denote.Param.Weighed.{most}
 use Rattle.prop_values.specs.declared.value.Value.{Value}
-use Rattle.prop_values.specs.declared.value.Value.TheVariants.{the_data, Null, Bool as Flag, Num, Text, Color, List as ListOf, Map}
+use Rattle.prop_values.specs.declared.value.Value.TheVariants.{the_data, Null, Bool as Flag, Num, Text, Color}
+use Rattle.prop_values.specs.declared.value.Value.TheVariants.{List as ListOf, Map}
 use Rattle.prop_values.specs.declared.value.Entry.{Entry}
 use Rattle.prop_values.specs.declared.value.Entries.TheDeep.{deep-Value, deep-Entry}
 use Rattle.prop_values.specs.declared.value.Entries.TheShapes.{weighed-Values-values}
@@ -26,7 +27,8 @@ pub values_fall : (vs : List Value) → most deep-Value vs ≤ values_size (valu
 values_fall [] = omega arith
 values_fall (v ∷ vs) = omega (arith, deep_le-nodes v, values_fall vs)
 
-pub kept_fall : (held : Option (Rc (Vec Value Global) Global)) → (weighed-Values-values).weight the_data deep-Value held ≤ values_size (values_view (kept held))
+pub kept_fall : (held : Option (Rc (Vec Value Global) Global)) →
+    (weighed-Values-values).weight the_data deep-Value held ≤ values_size (values_view (kept held))
 kept_fall None = omega arith
 kept_fall (Some values) = omega (arith, values_fall values.value.items)
 

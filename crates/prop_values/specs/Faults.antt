@@ -3,7 +3,9 @@ use Rattle.std.specs.Prelude.{ℕ, List, Bool, true, false, ◌||◌, codes}
 use Rattle.fixed_num.specs.declared.fixed.Arith.{Arith}
 use Rattle.fixed_num.specs.declared.fixed.Arith.TheVariants as arith
 use Rattle.prop_values.specs.declared.fault.EvalFault.{EvalFault}
-use Rattle.prop_values.specs.declared.fault.EvalFault.TheVariants.{WrongType, NotColor, NotNumberText, IndexOutside, IndexNotWhole, DivideByZero, Overflow, ColorRange, NotOrdered, NotInEnum}
+use Rattle.prop_values.specs.declared.fault.EvalFault.TheVariants.{WrongType, NotColor, NotNumberText, IndexOutside}
+use Rattle.prop_values.specs.declared.fault.EvalFault.TheVariants.{IndexNotWhole, DivideByZero, Overflow, ColorRange}
+use Rattle.prop_values.specs.declared.fault.EvalFault.TheVariants.{NotOrdered, NotInEnum}
 use Rattle.prop_values.specs.declared.fault.FaultSet.{FaultSet}
 
 -- The name that is printed for a fault. Source: own.

@@ -4,7 +4,8 @@ use Rattle.fixed_num.specs.Decimal.{read_text}
 use Rattle.fixed_num.specs.declared.decimal.NumFault.{NumFault}
 use Rattle.decimal_json.specs.Tree as tree
 use Rattle.decimal_json.specs.Tree.{Tree, Trees, Fields, no_trees, no_fields, field}
-use Rattle.prop_values.specs.Data.{Data, null, boolean, number, text, list, map, Items, no_items, item, Pairs, no_pairs, pair}
+use Rattle.prop_values.specs.Data.{Data, null, boolean, number, text, list, map, Items, no_items, item, Pairs, no_pairs}
+use Rattle.prop_values.specs.Data.{pair}
 
 -- the answer, where what is read is seen by f
 abbrev pub read_by : {A B : Type 0} → (A → B) → Result A NumFault → Result B NumFault

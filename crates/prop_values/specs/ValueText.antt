@@ -3,7 +3,8 @@ use Rattle.std.specs.Prelude.{ℕ, List, [], ◌∷◌, ◌++◌, Bool, true, fa
 use Rattle.fixed_num.specs.NumberText.{number_text}
 use Rattle.decimal_json.specs.JsonText.{text_json}
 use Rattle.prop_values.specs.ColorText.{color_text}
-use Rattle.prop_values.specs.Data.{Data, null, boolean, number, text, color, list, map, Items, no_items, item, Pairs, no_pairs, pair}
+use Rattle.prop_values.specs.Data.{Data, null, boolean, number, text, color, list, map, Items, no_items, item, Pairs}
+use Rattle.prop_values.specs.Data.{no_pairs, pair}
 
 abbrev pub flag_text : Bool → List ℕ
 flag_text true = codes "true"

@@ -1,7 +1,9 @@
 -- Which data a value of the program is.
-use Rattle.prop_values.specs.Data.{Data, null, boolean, number, text, color, list, map as mapping, items_of, pairs_of, list_of, entries_of}
+use Rattle.prop_values.specs.Data.{Data, null, boolean, number, text, color, list, map as mapping, items_of, pairs_of}
+use Rattle.prop_values.specs.Data.{list_of, entries_of}
 use Rattle.prop_values.specs.declared.value.Value.{Value}
-use Rattle.prop_values.specs.declared.value.Value.TheVariants.{Null, Bool as Flag, Num, Text, Color, List as ListOf, Map}
+use Rattle.prop_values.specs.declared.value.Value.TheVariants.{Null, Bool as Flag, Num, Text, Color, List as ListOf}
+use Rattle.prop_values.specs.declared.value.Value.TheVariants.{Map}
 
 -- The data of a value: each variant is the form of its name. Source: own.
 abbrev pub data_of : Value → Data

@@ -1,4 +1,5 @@
-ghost use Rattle.std.specs.Prelude.{◌≡◌, ◌↔◌, ◌<◌, ℕ, List, [], ◌∷◌, ◌++◌, length, take, slice_set, slice_index_or, OnOk, OnErr, IfOk, Some, None, IsNone, option_map, if◌then◌else◌};
+ghost use Rattle.std.specs.Prelude.{◌≡◌, ◌↔◌, ◌<◌, ℕ, List, [], ◌∷◌, ◌++◌, length, take, slice_set, slice_index_or};
+ghost use Rattle.std.specs.Prelude.{OnOk, OnErr, IfOk, Some, None, IsNone, option_map, if◌then◌else◌};
 ghost use Rattle.std.specs.Option.{option_or};
 ghost use Rattle.key_index.specs.Keys.{place_from, taken_out};
 ghost use Rattle.prop_values.specs.Changes.{with_member, merged, without_key};
@@ -109,7 +110,8 @@ impl Model for Entries {
 
     ghost view = { λ a. entries_view a.entries.items };
 
-    ghost invariant = { λ a. HasDistinctKeys (entries_view a.entries.items) × IsIndexed a.index (entry_keys a.entries.items) };
+    ghost invariant = { λ a. HasDistinctKeys (entries_view a.entries.items)
+        × IsIndexed a.index (entry_keys a.entries.items) };
 
     ghost size = { entries_size };
 
@@ -297,7 +299,9 @@ impl Entries {
     /// Sets the value at a key: in place of the one that is there, or in a new entry at the end.
     pub fn set(&mut self, key: Text, value: Value) -> Result<(), AllocError>
         ensures ok { OnOk result (self.new ≡ with_member key (data_of value) self.old) }
-        ensures at { OnOk result ((q : List ℕ) → at_key q (pairs_of self.new) ≡ (if same_text key q then Some (data_of value) else at_key q (pairs_of self.old))) }
+        ensures at { OnOk result ((q : List ℕ)
+            → at_key q (pairs_of self.new)
+            ≡ (if same_text key q then Some (data_of value) else at_key q (pairs_of self.old))) }
         ensures err { OnErr result (self.new ≡ self.old) }
     {
         match self.get(key.as_str()) {
@@ -312,7 +316,8 @@ impl Entries {
     /// Sets each of the members in their order, or none when allocation fails.
     pub fn merge(&mut self, members: Entries) -> Result<(), AllocError>
         ensures ok { OnOk result (self.new ≡ merged self.old members) }
-        ensures at { OnOk result ((q : List ℕ) → at_key q (pairs_of self.new) ≡ option_or (at_key q (pairs_of members)) (at_key q (pairs_of self.old))) }
+        ensures at { OnOk result ((q : List ℕ)
+            → at_key q (pairs_of self.new) ≡ option_or (at_key q (pairs_of members)) (at_key q (pairs_of self.old))) }
         ensures err { OnErr result (self.new ≡ self.old) }
     {
         let given = members.as_slice();
@@ -340,7 +345,8 @@ impl Entries {
     /// next entry is added.
     pub fn remove(&mut self, key: &str)
         ensures left { self.new ≡ without_key key.now self.old }
-        ensures at { (q : List ℕ) → at_key q (pairs_of self.new) ≡ (if same_text key.now q then None else at_key q (pairs_of self.old)) }
+        ensures at { (q : List ℕ) → at_key q (pairs_of self.new)
+            ≡ (if same_text key.now q then None else at_key q (pairs_of self.old)) }
     {
         let Some(place) = self.place_of(key) else {
             return;
@@ -412,7 +418,8 @@ impl Entries {
 // Sets the value of an entry.
 fn put_value(entries: &mut Vec<Entry>, place: usize, value: Value)
     requires { place < length entries.old.items }
-    ensures { (e : Entry) → entries.new.items ≡ slice_set entries.old.items place (record (slice_index_or entries.old.items place e) { value = value }) }
+    ensures { (e : Entry) → entries.new.items
+        ≡ slice_set entries.old.items place (record (slice_index_or entries.old.items place e) { value = value }) }
 {
     entries[place].value = value;
 }

@@ -13,7 +13,8 @@ written_default (flag b) = Some (boolean b)
 written_default (amount z) = Some (number z)
 written_default (word s) = Some (text s)
 written_default (zeros n) = Some (list (items_of (replicate n (number (pos 0)))))
-written_default fonts = Some (list (items_of (text (codes "Open Sans Regular") ∷ text (codes "Arial Unicode MS Regular") ∷ [])))
+written_default fonts =
+    Some (list (items_of (text (codes "Open Sans Regular") ∷ text (codes "Arial Unicode MS Regular") ∷ [])))
 
 -- what a fit gave, where it gave no fault
 abbrev pub fitted : Result Data EvalFault → Option Data

@@ -1,5 +1,6 @@
 -- What a value is where a value of some form is wanted: a value, or a fault.
-use Rattle.std.specs.Prelude.{ℕ, ◌+◌, Bool, true, false, ◌&&◌, nat_eq, Option, Some, None, Result, Ok, Err, if◌then◌else◌}
+use Rattle.std.specs.Prelude.{ℕ, ◌+◌, Bool, true, false, ◌&&◌, nat_eq, Option, Some, None, Result, Ok, Err}
+use Rattle.std.specs.Prelude.{if◌then◌else◌}
 use Rattle.fixed_num.specs.declared.color.Color.{Color}
 use Rattle.prop_values.specs.Data.{Data, null, boolean, number, text, color, list, map, Items, no_items, item}
 use Rattle.prop_values.specs.Choices.{choice_holds}
@@ -86,7 +87,8 @@ are_choices c (item d ds) = is_choice c d && are_choices c ds
 
 -- a list of texts, each of a set
 abbrev pub fit_choices : Choice → Data → Result Data EvalFault
-fit_choices c (list ds) = if are_items items.Text ds then (if are_choices c ds then Ok (list ds) else Err NotInEnum) else Err WrongType
+fit_choices c (list ds) =
+    if are_items items.Text ds then (if are_choices c ds then Ok (list ds) else Err NotInEnum) else Err WrongType
 fit_choices c _ = Err WrongType
 
 -- Fits a value to what is wanted. Source: own, as of each form above.

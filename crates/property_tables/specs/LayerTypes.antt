@@ -2,7 +2,9 @@
 use Rattle.std.specs.Prelude.{ℕ, List, codes, Option, Some, None, if◌then◌else◌}
 use Rattle.std.specs.Str.{bytes_eq}
 use Rattle.property_tables.specs.declared.layer_type.LayerType.{LayerType}
-use Rattle.property_tables.specs.declared.layer_type.LayerType.TheVariants.{Background, Fill, Line, Symbol, Circle, Heatmap, FillExtrusion, Raster, Hillshade, ColorRelief}
+use Rattle.property_tables.specs.declared.layer_type.LayerType.TheVariants.{Background, Fill, Line, Symbol, Circle}
+use Rattle.property_tables.specs.declared.layer_type.LayerType.TheVariants.{Heatmap, FillExtrusion, Raster, Hillshade}
+use Rattle.property_tables.specs.declared.layer_type.LayerType.TheVariants.{ColorRelief}
 
 abbrev pub type_name : LayerType → List ℕ
 type_name Background = codes "background"

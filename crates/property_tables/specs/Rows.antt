@@ -1,11 +1,16 @@
 -- The table of style properties: this project's profile of the MapLibre style specification, version 8. The
 -- order of rows is the order of the table; the rows of layout are before those of paint. Source: own, each
 -- cell of it.
-use Rattle.std.specs.Prelude.{ℕ, ◌+◌, ◌*◌, ℤ, pos, negsuc, List, [], ◌∷◌, Bool, true, false, ◌||◌, Option, Some, None, codes, if◌then◌else◌}
+use Rattle.std.specs.Prelude.{ℕ, ◌+◌, ◌*◌, ℤ, pos, negsuc, List, [], ◌∷◌, Bool, true, false, ◌||◌, Option, Some, None}
+use Rattle.std.specs.Prelude.{codes, if◌then◌else◌}
 use Prim.Native.String.{String}
 use Rattle.prop_values.specs.Equality.{same_text}
 use Rattle.prop_values.specs.declared.choice.Choice.{Choice}
-use Rattle.prop_values.specs.declared.choice.Choice.TheVariants.{Visibility, Anchor, MapViewport, MapViewportAuto, Overlap, LineCap, LineJoin, SymbolPlacement, SymbolZOrder, IconTextFit, TextRotationAlignment, TextJustify, TextWritingMode, TextTransform, RasterResampling}
+use Rattle.prop_values.specs.declared.choice.Choice.TheVariants.{Visibility, Anchor, MapViewport, MapViewportAuto}
+use Rattle.prop_values.specs.declared.choice.Choice.TheVariants.{Overlap, LineCap, LineJoin, SymbolPlacement}
+use Rattle.prop_values.specs.declared.choice.Choice.TheVariants.{SymbolZOrder, IconTextFit, TextRotationAlignment}
+use Rattle.prop_values.specs.declared.choice.Choice.TheVariants.{TextJustify, TextWritingMode, TextTransform}
+use Rattle.prop_values.specs.declared.choice.Choice.TheVariants.{RasterResampling}
 use Rattle.prop_values.specs.declared.kinds.Item.TheVariants as items
 use Rattle.prop_values.specs.declared.kinds.Want.{Want}
 use Rattle.prop_values.specs.declared.kinds.Want.TheVariants as wants
@@ -331,7 +336,8 @@ row_of t p name = at_place p (row_named 0 name (rows_of t))
 abbrev pub is_unread : LayerType → Place → List ℕ → Bool
 is_unread types.Heatmap Paint name = same_text name (codes "heatmap-color")
 is_unread types.Line Paint name = same_text name (codes "line-gradient")
-is_unread types.Symbol Layout name = same_text name (codes "icon-padding") || same_text name (codes "text-variable-anchor-offset")
+is_unread types.Symbol Layout name =
+    same_text name (codes "icon-padding") || same_text name (codes "text-variable-anchor-offset")
 is_unread types.Hillshade _ name = true
 is_unread types.ColorRelief _ name = true
 is_unread _ _ name = false

@@ -4,7 +4,9 @@ ghost use Rattle.prop_values.specs.Data.{text};
 ghost use Rattle.prop_values.specs.ValueText.{shown_text};
 ghost use Rattle.prop_values.specs.View.{data_of};
 ghost use Rattle.prop_values.specs.ViewParts.{evaluated_of, items};
-ghost use Rattle.property_tables.specs.Fitting.{fit, fit_boolean, fit_number, fit_text, fit_color, fit_object, fit_image, fit_list, fit_choice, fit_choices, read_as_color, is_item, are_items, has_count, is_choice, are_choices};
+ghost use Rattle.property_tables.specs.Fitting.{fit, fit_boolean, fit_number, fit_text, fit_color, fit_object};
+ghost use Rattle.property_tables.specs.Fitting.{fit_image, fit_list, fit_choice, fit_choices, read_as_color, is_item};
+ghost use Rattle.property_tables.specs.Fitting.{are_items, has_count, is_choice, are_choices};
 
 use color_values::read_color;
 use prop_values::{Choice, EvalFault, Item, PackedColor, Value, Want, to_text};

@@ -2,7 +2,8 @@ ghost use Rattle.std.specs.Prelude.{◌≡◌, IfOk, option_map};
 ghost use Rattle.decimal_json.specs.View.{tree_of};
 ghost use Rattle.prop_values.specs.View.{data_of};
 ghost use Rattle.prop_values.specs.ViewParts.{items};
-ghost use Rattle.property_tables.specs.Literals.{literal_of, literal_data, has_form, is_at_least, is_at_most, is_within, item_within, items_within, keeps_limits};
+ghost use Rattle.property_tables.specs.Literals.{literal_of, literal_data, has_form, is_at_least, is_at_most};
+ghost use Rattle.property_tables.specs.Literals.{is_within, item_within, items_within, keeps_limits};
 ghost use Rattle.property_tables.specs.RowView.{row_seen, limits_seen};
 
 use crate::defaults::value_fitted;

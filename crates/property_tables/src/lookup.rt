@@ -1,7 +1,8 @@
 ghost use Rattle.std.specs.Prelude.{◌≡◌, true, option_map, length, get_or, ◌<◌, ◌≤◌};
 ghost use Rattle.property_tables.specs.NameIndex.{is_index};
 ghost use Rattle.property_tables.specs.Rows.{RowData, row_of, row_named, rows_of, is_unread, is_at};
-ghost use Rattle.property_tables.specs.RowView.{names_of, rows_seen, entry_seen, row_seen, numbered_seen, fallback_seen, given_seen};
+ghost use Rattle.property_tables.specs.RowView.{names_of, rows_seen, entry_seen, row_seen, numbered_seen};
+ghost use Rattle.property_tables.specs.RowView.{fallback_seen, given_seen};
 
 use crate::entry::{Given, TableEntry};
 use crate::layer_type::LayerType;

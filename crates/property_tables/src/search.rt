@@ -10,7 +10,8 @@ use std::cmp::Ordering;
 /// The place of the entry of a name. `order` has the places of all entries in the order of their names.
 pub(crate) fn place_named(entries: &[TableEntry], order: &[u8], name: &str) -> Option<usize>
     requires { is_index (names_of entries.now) order.now ≡ true }
-    ensures { MatchOption result (IsNowhere (names_of entries.now) name.now) (IsPlaceOf (names_of entries.now) name.now) }
+    ensures { MatchOption result (IsNowhere (names_of entries.now) name.now)
+        (IsPlaceOf (names_of entries.now) name.now) }
 {
     let mut low = 0;
     let mut high = order.len();

@@ -1,5 +1,6 @@
 -- The laws that say what the definitions of this crate mean.
-use Rattle.std.specs.Prelude.{◌≡◌, ℕ, ◌+◌, ◌*◌, ◌%◌, ◌^◌, ◌<◌, ◌≤◌, ◌⊎◌, ◌↔◌, List, [], ◌∷◌, ◌++◌, length, Option, Result, Ok, Err}
+use Rattle.std.specs.Prelude.{◌≡◌, ℕ, ◌+◌, ◌*◌, ◌%◌, ◌^◌, ◌<◌, ◌≤◌, ◌⊎◌, ◌↔◌, List, [], ◌∷◌, ◌++◌, length, Option}
+use Rattle.std.specs.Prelude.{Result, Ok, Err}
 use Rattle.proto_wire.specs.declared.wire.WireKind.{WireKind}
 use Rattle.proto_wire.specs.declared.wire.WireKind.TheVariants.{Varint, Truncated, WireType}
 use Rattle.proto_wire.specs.declared.field.WireFault.{WireFault}
@@ -19,11 +20,13 @@ digits_value (c ∷ b) = c % 128 + 128 * digits_value b
 
 -- the bytes spell this number: all but the last have the high bit
 abbrev pub Spells : List ℕ → ℕ → Type 0
-Spells b n = (front : List ℕ) × (last : ℕ) × (b ≡ front ++ last ∷ []) × AllGoOn front × (last < 128) × (n ≡ digits_value b)
+Spells b n = (front : List ℕ) × (last : ℕ) × (b ≡ front ++ last ∷ []) × AllGoOn front × (last < 128)
+    × (n ≡ digits_value b)
 
 -- the bytes begin with the spelling of this number, in at most `most` bytes
 abbrev pub BeginsWithNumber : ℕ → List ℕ → ℕ → List ℕ → Type 0
-BeginsWithNumber most b n rest = (spelling : List ℕ) × (b ≡ spelling ++ rest) × (length spelling ≤ most) × Spells spelling n
+BeginsWithNumber most b n rest =
+    (spelling : List ℕ) × (b ≡ spelling ++ rest) × (length spelling ≤ most) × Spells spelling n
 
 -- the bytes begin with so many that go on
 abbrev pub BeginsTooLong : ℕ → List ℕ → Type 0
@@ -32,7 +35,8 @@ BeginsTooLong most b = (front : List ℕ) × (rest : List ℕ) × (b ≡ front +
 -- what reading a varint means, said by the spelling alone
 abbrev pub IsVarintRead : List ℕ → Result (ℕ × List ℕ) WireKind → Type 0
 IsVarintRead b (Ok (n, rest)) = BeginsWithNumber 10 b n rest × (n < 2 ^ 64)
-IsVarintRead b (Err Varint) = BeginsTooLong 10 b ⊎ ((n : ℕ) × (rest : List ℕ) × BeginsWithNumber 10 b n rest × (2 ^ 64 ≤ n))
+IsVarintRead b (Err Varint) =
+    BeginsTooLong 10 b ⊎ ((n : ℕ) × (rest : List ℕ) × BeginsWithNumber 10 b n rest × (2 ^ 64 ≤ n))
 IsVarintRead b (Err Truncated) = AllGoOn b × (length b < 10)
 IsVarintRead b (Err WireType) = ⊥
 
@@ -50,14 +54,17 @@ pub record Stands (at : ℕ) (b : List ℕ) (field : WireField) (rest : List ℕ
   pub finish : field.end + length rest ≡ at + length b
 
 abbrev pub FieldsStand : Type 0
-FieldsStand = (at : ℕ) (b : List ℕ) (field : WireField) (rest : List ℕ) → field_at at b ≡ Ok (field, rest) → Stands at b field rest
+FieldsStand = (at : ℕ) (b : List ℕ) (field : WireField) (rest : List ℕ) → field_at at b ≡ Ok (field, rest) →
+    Stands at b field rest
 
 -- all bytes have a list of fields
 abbrev pub SomeFields : Type 0
-SomeFields = (at : ℕ) (b : List ℕ) → (fields : List WireField) × (fault : Option WireFault) × AreFields at b fields fault
+SomeFields = (at : ℕ) (b : List ℕ) →
+    (fields : List WireField) × (fault : Option WireFault) × AreFields at b fields fault
 
 -- and no two
 abbrev pub NoOtherFields : Type 0
 NoOtherFields =
-    (at : ℕ) (b : List ℕ) (fields others : List WireField) (fault other : Option WireFault) → AreFields at b fields fault →
+    (at : ℕ) (b : List ℕ) (fields others : List WireField) (fault other : Option WireFault) →
+    AreFields at b fields fault →
     AreFields at b others other → (others ≡ fields) × (other ≡ fault)

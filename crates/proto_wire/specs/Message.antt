@@ -1,6 +1,7 @@
 -- A message: a sequence of fields. Source: Protocol Buffers, "Encoding", Message Structure, which Vector Tile
 -- 2.1 takes over.
-use Rattle.std.specs.Prelude.{ℕ, ◌+◌, ◌-◌, ◌/◌, ◌%◌, ◌^◌, List, [], length, take, drop, Result, Ok, Err, if◌then◌else◌, nat_le, nat_eq}
+use Rattle.std.specs.Prelude.{ℕ, ◌+◌, ◌-◌, ◌/◌, ◌%◌, ◌^◌, List, [], length, take, drop, Result, Ok, Err, if◌then◌else◌}
+use Rattle.std.specs.Prelude.{nat_le, nat_eq}
 use Rattle.std.specs.Int.{w32, w64, from_le_bytes}
 use Rattle.proto_wire.specs.declared.wire.WireKind.{WireKind}
 use Rattle.proto_wire.specs.declared.wire.WireKind.TheVariants as kind

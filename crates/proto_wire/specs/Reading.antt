@@ -1,5 +1,6 @@
 -- A reader of fields: what is left of the message, and how a call of `next` changes that.
-use Rattle.std.specs.Prelude.{◌≡◌, ℕ, ◌+◌, ◌<◌, ◌⊎◌, List, [], length, Bool, true, false, Option, Some, None, Result, Ok, Err, ◌∷◌, ◌*◌}
+use Rattle.std.specs.Prelude.{◌≡◌, ℕ, ◌+◌, ◌<◌, ◌⊎◌, List, [], length, Bool, true, false, Option, Some, None, Result}
+use Rattle.std.specs.Prelude.{Ok, Err, ◌∷◌, ◌*◌}
 use Rattle.proto_wire.specs.declared.field.Field.{Field}
 use Rattle.proto_wire.specs.declared.field.WireFault.{WireFault}
 use Rattle.proto_wire.specs.Message.{field_at, WireField}
@@ -32,14 +33,17 @@ NextGives old (Some (Err fault)) new =
 abbrev pub AreFields : ℕ → List ℕ → List WireField → Option WireFault → Type 0
 AreFields at b [] fault =
     ((b ≡ []) × (fault ≡ None))
-    ⊎ ((kind : WireKind) × (0 < length b) × (field_at at b ≡ Err kind) × (fault ≡ Some (record { kind = kind; at = at })))
-AreFields at b (field ∷ fields) fault = (rest : List ℕ) × (field_at at b ≡ Ok (field, rest)) × AreFields field.end rest fields fault
+    ⊎ ((kind : WireKind) × (0 < length b) × (field_at at b ≡ Err kind)
+    × (fault ≡ Some (record { kind = kind; at = at })))
+AreFields at b (field ∷ fields) fault =
+    (rest : List ℕ) × (field_at at b ≡ Ok (field, rest)) × AreFields field.end rest fields fault
 
 -- Reading these fields in order leads from bytes at an offset to the bytes that are left, and their offset:
 -- what a reader has read so far.
 abbrev pub ReadsFields : ℕ → List ℕ → List WireField → ℕ → List ℕ → Type 0
 ReadsFields at b [] left_at left = (left_at ≡ at) × (left ≡ b)
-ReadsFields at b (field ∷ fields) left_at left = (rest : List ℕ) × (field_at at b ≡ Ok (field, rest)) × ReadsFields field.end rest fields left_at left
+ReadsFields at b (field ∷ fields) left_at left =
+    (rest : List ℕ) × (field_at at b ≡ Ok (field, rest)) × ReadsFields field.end rest fields left_at left
 
 -- For the reader: the digits so far, each below the weight of the next, and above them what is read after
 -- them.

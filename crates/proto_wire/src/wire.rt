@@ -65,7 +65,8 @@ fn digits(bytes: &[u8]) -> Result<(u64, &[u8]), WireKind>
 // The number whose first nine digits are `value`, of which the tenth is the highest bit of 64.
 fn tenth_digit(value: u64, bytes: &[u8]) -> Result<(u64, &[u8]), WireKind>
     requires { value < 2 ^ 63 }
-    ensures number { GivesWire (λ read. (read.0, read.1.now)) result (within_64_bits (onto value (2 ^ 63) (number_of 1 bytes.now))) }
+    ensures number { GivesWire (λ read. (read.0, read.1.now)) result
+        (within_64_bits (onto value (2 ^ 63) (number_of 1 bytes.now))) }
     ensures taken { IfOk result (λ read. length read.1.now < length bytes.now) }
 {
     match bytes.split_first() {

@@ -20,7 +20,8 @@ use Rattle.eval_face.specs.Meaning.{mean, means}
 use Rattle.eval_face.specs.Names.{BoundOutcomes}
 use Rattle.eval_face.specs.World.{World}
 use Rattle.legacy_functions.specs.Function.{Spelled, Output, Way, PropertyRule, numeric, plain, zoomed, Function}
-use Rattle.legacy_functions.specs.Meaning.{output_data, default_data, stop_inputs, rule_zooms, rule_result, property_at, value_of}
+use Rattle.legacy_functions.specs.Meaning.{output_data, default_data, stop_inputs, rule_zooms, rule_result, property_at}
+use Rattle.legacy_functions.specs.Meaning.{value_of}
 
 -- ---- expressions; the inputs of each that was read ascend
 

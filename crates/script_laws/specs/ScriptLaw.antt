@@ -1,5 +1,6 @@
 -- What holds of the lines of every script. Source: own.
-use Rattle.std.specs.Prelude.{◌≡◌, ◌≢◌, ℕ, ◌+◌, ◌≤◌, List, [], ◌∷◌, flat_map, filter, Bool, true, false, not, Option, None, Result, Ok, Err, if◌then◌else◌, ◌⊎◌}
+use Rattle.std.specs.Prelude.{◌≡◌, ◌≢◌, ℕ, ◌+◌, ◌≤◌, List, [], ◌∷◌, flat_map, filter, Bool, true, false, not, Option}
+use Rattle.std.specs.Prelude.{None, Result, Ok, Err, if◌then◌else◌, ◌⊎◌}
 use Rattle.std.specs.List.{list_all, list_any}
 use Rattle.json_tokens.specs.Rules.{all_rules}
 use Rattle.decimal_json.specs.Grammar.{Spells}
@@ -11,7 +12,8 @@ use Rattle.edit_script.specs.Edit.{Edit, list, stats, style, set_global, set_ran
 use Rattle.edit_script.specs.declared.command.LineFault.{LineFault}
 use Rattle.edit_script.specs.declared.command.LineFault.TheVariants.{Json}
 use Rattle.style_edits.specs.Edited.{edited}
-use Rattle.style_edits.specs.Faults.{edit_fault, lacks_layer, lacks_source, named_layer, named_before, named_source, named_zooms, is_zoom_or_none, unsets_nothing}
+use Rattle.style_edits.specs.Faults.{edit_fault, lacks_layer, lacks_source, named_layer, named_before, named_source}
+use Rattle.style_edits.specs.Faults.{named_zooms, is_zoom_or_none, unsets_nothing}
 use Rattle.style_edits.specs.Layers.{layer_list}
 use Rattle.style_layout.specs.Layers.{style_layers}
 use Rattle.style_layout.specs.Shown.{SourceTile}
@@ -127,7 +129,8 @@ abbrev pub those_accepted : List LineOut → List LineOut
 those_accepted outs = filter (λ (o : LineOut). not o.is_refused) outs
 
 -- the outcome of the lines of a script
-abbrev pub outcome_of_lines : List SourceTile → (scripts : List ℕ → Bool) (can_change : Bool) → SessionState → List Line → RunOutcome
+abbrev pub outcome_of_lines : List SourceTile → (scripts : List ℕ → Bool) (can_change : Bool) → SessionState →
+    List Line → RunOutcome
 outcome_of_lines tiles scripts can_change p ls = record {
   out = texts (outs tiles scripts can_change 1 p ls);
   err = [];
@@ -150,8 +153,8 @@ AllGaveTheSame [] [] = Unit {0}
 AllGaveTheSame (a ∷ as_) (b ∷ bs) = GaveTheSame a b × AllGaveTheSame as_ bs
 AllGaveTheSame as_ bs = ⊥
 
--- Lines were answered the same, each accepted or refused as before. Those that ask for the number of evaluations may have
--- another number.
+-- Lines were answered the same, each accepted or refused as before. Those that ask for the number of evaluations may
+-- have another number.
 abbrev pub AnsweredAlike : List Line → List LineOut → List LineOut → Type 0
 AnsweredAlike [] [] [] = Unit {0}
 AnsweredAlike (l ∷ ls) (a ∷ as_) (b ∷ bs) =
@@ -160,7 +163,8 @@ AnsweredAlike ls as_ bs = ⊥
 
 -- what the bytes of a line say, by the tree that they spell, if they spell one
 abbrev pub Says : List ℕ → Line → Type 0
-Says bytes l = ((t : Tree) × Spells all_rules bytes t × (l ≡ command_of t)) ⊎ ((IsAccepted all_rules bytes → ⊥) × (l ≡ Err Json))
+Says bytes l = ((t : Tree) × Spells all_rules bytes t × (l ≡ command_of t))
+    ⊎ ((IsAccepted all_rules bytes → ⊥) × (l ≡ Err Json))
 
 abbrev pub Say : List (List ℕ) → List Line → Type 0
 Say [] [] = Unit {0}
@@ -169,8 +173,8 @@ Say bs ls = ⊥
 
 -- ---- the laws
 
--- An outcome of a script is that of its lines, one after another: their texts, whether one was refused, and the steps that
--- they count. No file is read.
+-- An outcome of a script is that of its lines, one after another: their texts, whether one was refused, and the steps
+-- that they count. No file is read.
 abbrev pub ScriptsGoByTheirLines : Type 0
 ScriptsGoByTheirLines =
     (files : List ℕ → Option (List ℕ)) (tiles : List SourceTile) (scripts : List ℕ → Bool) (can_change : Bool)
@@ -182,14 +186,16 @@ ScriptsGoByTheirLines =
 -- A state that is sound is so after every line of every script.
 abbrev pub ScriptsKeepStatesSound : Type 0
 ScriptsKeepStatesSound =
-    (tiles : List SourceTile) (scripts : List ℕ → Bool) (can_change : Bool) (number : ℕ) (p : SessionState) (ls : List Line) →
+    (tiles : List SourceTile) (scripts : List ℕ → Bool) (can_change : Bool) (number : ℕ) (p : SessionState)
+    (ls : List Line) →
     IsSoundState tiles p → IsSoundState tiles (shown_after tiles scripts can_change number p ls)
 
--- A script without its refused lines leaves the same, with the same cells kept; its lines are answered as they were, but for
--- their numbers; and they count as many steps.
+-- A script without its refused lines leaves the same, with the same cells kept; its lines are answered as they were,
+-- but for their numbers; and they count as many steps.
 abbrev pub RefusedLinesCountForNothing : Type 0
 RefusedLinesCountForNothing =
-    (tiles : List SourceTile) (scripts : List ℕ → Bool) (can_change : Bool) (number other : ℕ) (p : SessionState) (ls : List Line) →
+    (tiles : List SourceTile) (scripts : List ℕ → Bool) (can_change : Bool) (number other : ℕ) (p : SessionState)
+    (ls : List Line) →
     (shown_after tiles scripts can_change other p (accepted tiles scripts can_change number p ls)
     ≡ shown_after tiles scripts can_change number p ls)
     × AllGaveTheSame (outs tiles scripts can_change other p (accepted tiles scripts can_change number p ls))
@@ -199,8 +205,9 @@ RefusedLinesCountForNothing =
     × (most_of tiles scripts can_change other p (accepted tiles scripts can_change number p ls)
     ≡ most_of tiles scripts can_change number p ls)
 
--- What is kept changes no answer but that of `stats`: an edit is answered the same from a state that is shown alike, and
--- leaves states that are shown alike. How many evaluations a listing makes, and what is kept after it, is not promised.
+-- What is kept changes no answer but that of `stats`: an edit is answered the same from a state that is shown alike,
+-- and leaves states that are shown alike. How many evaluations a listing makes, and what is kept after it, is not
+-- promised.
 abbrev pub WhatIsKeptChangesNoAnswer : Type 0
 WhatIsKeptChangesNoAnswer =
     (tiles : List SourceTile) (scripts : List ℕ → Bool) (can_change : Bool) (p q : SessionState) (edit : Edit) →
@@ -216,7 +223,8 @@ WhatIsKeptChangesNoScript =
     AnsweredAlike ls (outs tiles scripts can_change number p ls) (outs tiles scripts can_change number q ls)
     × IsShownAlike (shown_after tiles scripts can_change number p ls) (shown_after tiles scripts can_change number q ls)
 
--- An edit that is possible is accepted where the state that it makes is sound; one of images, where their test can change.
+-- An edit that is possible is accepted where the state that it makes is sound; one of images, where their test can
+-- change.
 abbrev pub PossibleEditsAreAccepted : Type 0
 PossibleEditsAreAccepted =
     (tiles : List SourceTile) (scripts : List ℕ → Bool) (can_change : Bool) (p : SessionState) (edit : Edit) →
@@ -227,7 +235,8 @@ PossibleEditsAreAccepted =
 -- A value of the global state is always set: `set-global` is never refused, whatever the state is.
 abbrev pub GlobalsAreAlwaysSet : Type 0
 GlobalsAreAlwaysSet =
-    (tiles : List SourceTile) (scripts : List ℕ → Bool) (can_change : Bool) (p : SessionState) (name : List ℕ) (d : Data) →
+    (tiles : List SourceTile) (scripts : List ℕ → Bool) (can_change : Bool) (p : SessionState) (name : List ℕ)
+    (d : Data) →
     applied tiles scripts can_change p (set_global name d) ≡ (presented_after tiles p (set_global name d), done)
 
 -- An edit that removes or moves a layer, or sets its range, is never refused for its cells: none comes.
@@ -238,8 +247,8 @@ RearrangingBringsNoCell =
     (cell_count tiles (style_layers p.globals (edited p.document edit)) ≤ p.limit)
     × ((applied tiles scripts can_change p edit).1 ≢ refused CellLimit)
 
--- An edit that removes or moves a layer, or sets its range, is never refused for a rule: where it has no fault, the edited
--- document has no findings.
+-- An edit that removes or moves a layer, or sets its range, is never refused for a rule: where it has no fault, the
+-- edited document has no findings.
 abbrev pub RearrangingBreaksNoRule : Type 0
 RearrangingBreaksNoRule =
     (tiles : List SourceTile) (scripts : List ℕ → Bool) (can_change : Bool) (p : SessionState) (edit : Edit) →

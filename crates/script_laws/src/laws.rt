@@ -1,8 +1,10 @@
 //! What the definitions mean, each law on a function that does nothing.
 ghost use Rattle.script_laws.specs.EvalLaw.{EvalIsReplayOfList};
 ghost use Rattle.script_laws.specs.ScriptLaw.{GlobalsAreAlwaysSet, PossibleEditsAreAccepted};
-ghost use Rattle.script_laws.specs.ScriptLaw.{PossibleRearrangingIsAccepted, RearrangingBreaksNoRule, RearrangingBringsNoCell};
-ghost use Rattle.script_laws.specs.ScriptLaw.{RefusedLinesCountForNothing, ScriptsGoByTheirLines, ScriptsKeepStatesSound};
+ghost use Rattle.script_laws.specs.ScriptLaw.{PossibleRearrangingIsAccepted, RearrangingBreaksNoRule};
+ghost use Rattle.script_laws.specs.ScriptLaw.{RearrangingBringsNoCell};
+ghost use Rattle.script_laws.specs.ScriptLaw.{RefusedLinesCountForNothing, ScriptsGoByTheirLines};
+ghost use Rattle.script_laws.specs.ScriptLaw.{ScriptsKeepStatesSound};
 ghost use Rattle.script_laws.specs.ScriptLaw.{WhatIsKeptChangesNoAnswer, WhatIsKeptChangesNoScript};
 
 /// An outcome of a script is that of its lines, one after another, with the steps that they count, and no file is read.
@@ -33,8 +35,8 @@ pub fn what_is_kept_changes_no_script()
     ensures { WhatIsKeptChangesNoScript }
 {}
 
-/// An edit that names what is there, with zooms in range, is accepted where the edited style has no findings and at most the cells
-/// allowed.
+/// An edit that names what is there, with zooms in range, is accepted where the edited style has no findings and at
+/// most the cells allowed.
 #[tactic(auto, using(crate::proofs::EditLaws::possible_edits_are_accepted))]
 pub fn possible_edits_are_accepted()
     ensures { PossibleEditsAreAccepted }

@@ -5,7 +5,9 @@ use Rattle.edit_script.specs.declared.command.LineFault.{LineFault}
 use Rattle.edit_script.specs.declared.command.LineFault.TheVariants.{Json, Form, Number}
 use Rattle.edit_session.specs.Applied.{Reply, done, listed, counted, styled, refused}
 use Rattle.edit_session.specs.declared.answer.Refusal.{Refusal}
-use Rattle.edit_session.specs.declared.answer.Refusal.TheVariants.{UnknownLayer, UnknownBefore, UnknownSource, ZoomRange, UnknownProperty, Finding, CellLimit, FixedImages}
+use Rattle.edit_session.specs.declared.answer.Refusal.TheVariants.{UnknownLayer, UnknownBefore, UnknownSource}
+use Rattle.edit_session.specs.declared.answer.Refusal.TheVariants.{ZoomRange, UnknownProperty, Finding, CellLimit}
+use Rattle.edit_session.specs.declared.answer.Refusal.TheVariants.{FixedImages}
 use Rattle.program_runs.specs.Outcome.{line}
 
 abbrev pub fault_name : LineFault → List ℕ

@@ -25,4 +25,5 @@ module _ (tiles : List SourceTile) (scripts : List ℕ → Bool) (steps_old step
   abbrev pub StepsAreOfLine : SessionState → (line : List ℕ) → Type 0
   StepsAreOfLine p line =
       (steps_new ≤ steps_old)
-      ⊎ ((read : Result Edit LineFault) × AnswersLine line read × (steps_new ≤ steps_old + line_most tiles scripts p read))
+      ⊎ ((read : Result Edit LineFault) × AnswersLine line read
+      × (steps_new ≤ steps_old + line_most tiles scripts p read))

@@ -1,5 +1,6 @@
 -- The run of a script: line by line, what is written and what the style then is. Source: own.
-use Rattle.std.specs.Prelude.{ℕ, ◌+◌, List, [], ◌∷◌, Bool, true, false, ◌||◌, Option, Some, None, Result, Ok, Err, if◌then◌else◌}
+use Rattle.std.specs.Prelude.{ℕ, ◌+◌, List, [], ◌∷◌, Bool, true, false, ◌||◌, Option, Some, None, Result, Ok, Err}
+use Rattle.std.specs.Prelude.{if◌then◌else◌}
 use Rattle.decimal_json.specs.Tree.{Tree}
 use Rattle.edit_script.specs.Command.{command_of}
 use Rattle.edit_script.specs.Edit.{Edit}
@@ -52,15 +53,16 @@ module _ (tiles : List SourceTile) (scripts : List ℕ → Bool) (can_change : B
   line_out number p (Ok edit) = replied number (applied tiles scripts can_change p edit)
   line_out number p (Err fault) = record { after = p; text = refused_line number (fault_name fault); is_refused = true }
 
-  -- The run of lines from this number on: each is answered before the next is looked at. `any` says whether a line before them
-  -- was refused.
+  -- The run of lines from this number on: each is answered before the next is looked at. `any` says whether a line
+  -- before them was refused.
   abbrev pub lines_run : (number : ℕ) → SessionState → (any : Bool) → List (List ℕ) → Run
   lines_run number p any [] = ends (said [] (ending_by any))
   lines_run number p any (l ∷ ls) =
       may_parse l (λ t.
       counts (line_least tiles scripts p (line_command t)) (line_most tiles scripts p (line_command t))
       (says (line_out number p (line_command t)).text
-      (lines_run (number + 1) (line_out number p (line_command t)).after (any || (line_out number p (line_command t)).is_refused) ls)))
+      (lines_run (number + 1) (line_out number p (line_command t)).after
+      (any || (line_out number p (line_command t)).is_refused) ls)))
 
   -- The run of a script.
   abbrev pub script_run : SessionState → List ℕ → Run

@@ -3,7 +3,8 @@
 ghost use Rattle.std.specs.Prelude.{◌≡◌, ◌++◌, codes, decimal, true, false, IfOk, OnOk};
 ghost use Rattle.edit_session.specs.View.{reply_seen};
 ghost use Rattle.program_runs.specs.Outcome.{line};
-ghost use Rattle.script_runs.specs.AnswerTexts.{fault_name, is_refused, ok_line, refusal_text, refused_line, reply_text, stats_line};
+ghost use Rattle.script_runs.specs.AnswerTexts.{fault_name, is_refused, ok_line, refusal_text, refused_line};
+ghost use Rattle.script_runs.specs.AnswerTexts.{reply_text, stats_line};
 
 use crate::script::LineAnswer;
 use decimal_json::write_path;

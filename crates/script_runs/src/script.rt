@@ -34,8 +34,8 @@ pub struct LineAnswer {
     pub is_refused: bool,
 }
 
-/// Writes what each line of a script is answered, before the next line is looked at, over a session that was just opened
-/// or is sound. The text of one answer is in memory at a time.
+/// Writes what each line of a script is answered, before the next line is looked at, over a session that was just
+/// opened or is sound. The text of one answer is in memory at a time.
 pub fn answer_script<O: Sink, L: Ledger>(
     session: Session<'_>,
     script: &[u8],
@@ -106,12 +106,14 @@ pub fn answer_line<L: Ledger>(
     ensures sound { IsSoundSession session.new (test images.new) (test scripts.now) }
     ensures tiles { tiles_of session.new ≡ tiles_of session.old }
     ensures changes { changes images.new ≡ changes images.old }
-    ensures gives { IfOk result (λ answer. LineGives (tiles_of session.old) (test scripts.now) steps.old steps.new (changes images.old)
+    ensures gives { IfOk result
+        (λ answer. LineGives (tiles_of session.old) (test scripts.now) steps.old steps.new (changes images.old)
         line.now.number (session_state session.old (test images.old)) line.now.bytes.now
         (line_seen (session_state session.new (test images.new)) answer)) }
     ensures most { OnErr result (StepsAreOfLine (tiles_of session.old) (test scripts.now) steps.old steps.new
         (session_state session.old (test images.old)) line.now.bytes.now) }
-    ensures count { OnOk result (ImageReportsOfLine (changes images.old) line.now.bytes.now (tell_count images.old) (tell_count images.new)) }
+    ensures count { OnOk result
+        (ImageReportsOfLine (changes images.old) line.now.bytes.now (tell_count images.old) (tell_count images.new)) }
     ensures count_failed { OnErr result ((tell_count images.new ≡ tell_count images.old)
         ⊎ ImageReportsOfLine (changes images.old) line.now.bytes.now (tell_count images.old) (tell_count images.new)) }
     ensures silent { lacks_memory session.old ≡ true → tell_count images.new ≡ tell_count images.old }

@@ -2,7 +2,8 @@ ghost use Rattle.std.specs.Prelude.{◌≡◌, ◌≤◌, length, take, IfOk, Is
 ghost use Rattle.std.specs.Rc.{rc_slice_items};
 ghost use Rattle.std.specs.Ordering.{nat_cmp};
 ghost use Rattle.std.specs.Cmp.{partial_equiv_from_equiv};
-ghost use Rattle.std.specs.Cmp.Lexicographic.{pointwise, slice_cmp, nat_list_eq_equiv, nat_list_cmp_total, texts_ties, texts_po};
+ghost use Rattle.std.specs.Cmp.Lexicographic.{pointwise, slice_cmp, nat_list_eq_equiv, nat_list_cmp_total, texts_ties};
+ghost use Rattle.std.specs.Cmp.Lexicographic.{texts_po};
 ghost use Rattle.std.proofs.Common.{refl};
 ghost use Rattle.shared_text.specs.Ranges.{part, IsRest};
 
@@ -29,7 +30,8 @@ impl Model for Text {
 
     ghost view = { λ a. part a.from a.to (rc_slice_items a.document) };
 
-    ghost invariant = { λ a. (a.from ≤ a.to) × (a.to ≤ length (rc_slice_items a.document)) × IsUtf8 (part a.from a.to (rc_slice_items a.document)) };
+    ghost invariant = { λ a. (a.from ≤ a.to) × (a.to ≤ length (rc_slice_items a.document))
+        × IsUtf8 (part a.from a.to (rc_slice_items a.document)) };
 }
 
 impl Text {

@@ -9,7 +9,8 @@ use Rattle.expr_syntax.specs.Term.{Term}
 use Rattle.expr_syntax.specs.TermSize.{nodes}
 use Rattle.expr_syntax.specs.declared.world_parts.Mentions.{Mentions}
 use Rattle.eval_face.specs.World.{World}
-use Rattle.style_layout.specs.Forms.{is_outside, layer_filter, lets_pass, outcome_of, property_of, property_value, value_mentions}
+use Rattle.style_layout.specs.Forms.{is_outside, layer_filter, lets_pass, outcome_of, property_of, property_value}
+use Rattle.style_layout.specs.Forms.{value_mentions}
 use Rattle.migrate_laws.specs.MigratedLaw.{filter_mentions}
 use Rattle.style_simplify.specs.SimplifiedStyle.{simplified_filter, simplified_value}
 
@@ -27,7 +28,8 @@ SimplifiedValuesMeanTheSame =
 abbrev pub SimplifiedFiltersPassTheSame : Type 0
 SimplifiedFiltersPassTheSame =
     (globals : List (List ℕ × Data)) (k : ℕ) (t : Tree) → IsSound k t → (world : World) →
-    lets_pass (layer_filter globals (Some (simplified_filter t))) world ≡ lets_pass (layer_filter globals (Some t)) world
+    lets_pass (layer_filter globals (Some (simplified_filter t))) world
+    ≡ lets_pass (layer_filter globals (Some t)) world
 
 -- And it is outside where the filter is.
 abbrev pub SimplifiedFiltersAreOutsideAlike : Type 0

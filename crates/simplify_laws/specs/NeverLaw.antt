@@ -17,7 +17,8 @@ pub record IsNeverPassed (document : Tree) (path : List PathPart) : Type 0 where
   pub layer : Tree
   pub place : path ≡ filter_path number
   pub found : slice_get (listed (layers_of document)) number ≡ Some layer
-  pub passes : (globals : List (List ℕ × Data)) (world : World) → lets_pass (layer_filter globals (filter_of layer)) world ≡ false
+  pub passes : (globals : List (List ℕ × Data)) (world : World) →
+      lets_pass (layer_filter globals (filter_of layer)) world ≡ false
 
 -- Each path that is listed for a document is one of its simplified form.
 abbrev pub ListedFiltersPassNothing : Type 0

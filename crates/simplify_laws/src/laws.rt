@@ -1,10 +1,13 @@
 //! What the definitions mean, each law on a function that does nothing.
-ghost use Rattle.simplify_laws.specs.DocumentLaw.{SimplifiedDocumentsGiveTheSameGlobals, SimplifiedDocumentsHaveNoMoreCells};
-ghost use Rattle.simplify_laws.specs.DocumentLaw.{SimplifiedDocumentsHaveTheSameLayers, SimplifiedDocumentsHaveTheSameLayout};
+ghost use Rattle.simplify_laws.specs.DocumentLaw.{SimplifiedDocumentsGiveTheSameGlobals};
+ghost use Rattle.simplify_laws.specs.DocumentLaw.{SimplifiedDocumentsHaveNoMoreCells};
+ghost use Rattle.simplify_laws.specs.DocumentLaw.{SimplifiedDocumentsHaveTheSameLayers};
+ghost use Rattle.simplify_laws.specs.DocumentLaw.{SimplifiedDocumentsHaveTheSameLayout};
 ghost use Rattle.simplify_laws.specs.DocumentLaw.{SimplifiedDocumentsKeepTheirLayout};
 ghost use Rattle.simplify_laws.specs.MeaningLaw.{SimplifiedFiltersAreOutsideAlike, SimplifiedFiltersHaveNoMoreNodes};
 ghost use Rattle.simplify_laws.specs.MeaningLaw.{SimplifiedFiltersPassTheSame, SimplifiedFiltersReadNoMore};
-ghost use Rattle.simplify_laws.specs.MeaningLaw.{SimplifiedValuesHaveNoMoreNodes, SimplifiedValuesMeanTheSame, SimplifiedValuesReadNoMore};
+ghost use Rattle.simplify_laws.specs.MeaningLaw.{SimplifiedValuesHaveNoMoreNodes, SimplifiedValuesMeanTheSame};
+ghost use Rattle.simplify_laws.specs.MeaningLaw.{SimplifiedValuesReadNoMore};
 ghost use Rattle.simplify_laws.specs.NeverLaw.{ListedFiltersPassNothing};
 ghost use Rattle.simplify_laws.specs.TwiceLaw.{SimplifyingTwiceMayDoMore};
 

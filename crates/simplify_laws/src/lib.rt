@@ -11,10 +11,10 @@
 //! listed as before, at every zoom, of every feature and state, and whatever the two tests and the values of the global
 //! state are (`simplified_values_mean_the_same`); simplified as a filter it lets the same features pass
 //! (`simplified_filters_pass_the_same`), and is outside where it was (`simplified_filters_are_outside_alike`); and it
-//! has no more nodes (`simplified_values_have_no_more_nodes`, `simplified_filters_have_no_more_nodes`), and reads no more
-//! of the world (`simplified_values_read_no_more`, `simplified_filters_read_no_more`). A simplified document has the
-//! layers that it had, each with the same properties and filter (`simplified_documents_have_the_same_layers`). Its layout
-//! is the same, beside that a value that reads no feature any more is listed with its layer
+//! has no more nodes (`simplified_values_have_no_more_nodes`, `simplified_filters_have_no_more_nodes`), and reads no
+//! more of the world (`simplified_values_read_no_more`, `simplified_filters_read_no_more`). A simplified document has
+//! the layers that it had, each with the same properties and filter (`simplified_documents_have_the_same_layers`). Its
+//! layout is the same, beside that a value that reads no feature any more is listed with its layer
 //! (`simplified_documents_have_the_same_layout`, `simplified_documents_keep_their_layout`); and it has no more cells
 //! (`simplified_documents_have_no_more_cells`).
 //!

@@ -1,5 +1,6 @@
 //! What the definitions mean, each law on a function that does nothing.
-ghost use Rattle.simplify_soundness.specs.NoFindingsLaw.{SimplifiedDocumentsHaveNoFinding, SimplifiedDocumentsKeepTheirNotes};
+ghost use Rattle.simplify_soundness.specs.NoFindingsLaw.{SimplifiedDocumentsHaveNoFinding};
+ghost use Rattle.simplify_soundness.specs.NoFindingsLaw.{SimplifiedDocumentsKeepTheirNotes};
 
 use style_rules::findings_go_by_levels;
 

@@ -18,7 +18,8 @@ EachOrderIsLawful X =
 -- Whatever ascends and keeps ties is that list: so a stable sort by keys gives it.
 abbrev pub OnlyOneListIsInOrder : Type 0 → Type 0
 OnlyOneListIsInOrder X =
-    (before : X → X → Bool) → IsStrictWeakOrder before → (xs ys : List X) → IsInOrder before xs ys → ys ≡ in_order before xs
+    (before : X → X → Bool) → IsStrictWeakOrder before → (xs ys : List X) → IsInOrder before xs ys →
+    ys ≡ in_order before xs
 
 -- the test of keys is such an order
 abbrev pub KeysAreOrdered : Type 0 → Type 0

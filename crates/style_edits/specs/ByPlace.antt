@@ -1,17 +1,21 @@
 -- What an edit does by the places of the layers that it names.
-use Rattle.std.specs.Prelude.{ℕ, ◌-◌, List, [], ◌∷◌, ◌++◌, length, insert, remove, slice_set, slice_get, slice_index_or, nat_eq, nat_lt, codes, Bool, true, false, ◌&&◌, not, Option, Some, None, if◌then◌else◌}
+use Rattle.std.specs.Prelude.{ℕ, ◌-◌, List, [], ◌∷◌, ◌++◌, length, insert, remove, slice_set, slice_get, slice_index_or}
+use Rattle.std.specs.Prelude.{nat_eq, nat_lt, codes, Bool, true, false, ◌&&◌, not, Option, Some, None, if◌then◌else◌}
 use Rattle.std.specs.Bool.{then_some}
 use Rattle.std.specs.List.{list_all}
 use Rattle.std.specs.Option.{option_and_then}
 use Rattle.decimal_json.specs.View.{moved_items}
 use Rattle.decimal_json.specs.Tree.{Tree, null}
-use Rattle.edit_script.specs.Edit.{Edit, set_paint, set_layout, set_filter, set_range, add_layer, remove_layer, move_layer}
+use Rattle.edit_script.specs.Edit.{Edit, set_paint, set_layout, set_filter, set_range, add_layer, remove_layer}
+use Rattle.edit_script.specs.Edit.{move_layer}
 use Rattle.style_edits.specs.Causes.{first_cause}
-use Rattle.style_edits.specs.Faults.{named_layer, named_before, named_source, named_zooms, lacks_source, lacks_property, is_zoom_or_none}
+use Rattle.style_edits.specs.Faults.{named_layer, named_before, named_source, named_zooms, lacks_source, lacks_property}
+use Rattle.style_edits.specs.Faults.{is_zoom_or_none}
 use Rattle.style_edits.specs.Layer.{is_null, with_property, with_filter, with_range}
 use Rattle.style_edits.specs.Layers.{layer_list}
 use Rattle.style_edits.specs.declared.faults.EditFault.{EditFault}
-use Rattle.style_edits.specs.declared.faults.EditFault.TheVariants.{UnknownLayer, UnknownBefore, UnknownSource, ZoomRange, UnknownProperty}
+use Rattle.style_edits.specs.declared.faults.EditFault.TheVariants.{UnknownLayer, UnknownBefore, UnknownSource}
+use Rattle.style_edits.specs.declared.faults.EditFault.TheVariants.{ZoomRange, UnknownProperty}
 use Rattle.style_edits.specs.declared.places.EditPlaces.{EditPlaces}
 
 -- the layer at a place

@@ -1,7 +1,8 @@
 -- The document after an edit.
 use Rattle.std.specs.Prelude.{List, codes}
 use Rattle.decimal_json.specs.Tree.{Tree}
-use Rattle.edit_script.specs.Edit.{Edit, set_paint, set_layout, set_filter, set_range, add_layer, remove_layer, move_layer}
+use Rattle.edit_script.specs.Edit.{Edit, set_paint, set_layout, set_filter, set_range, add_layer, remove_layer}
+use Rattle.edit_script.specs.Edit.{move_layer}
 use Rattle.style_edits.specs.Layer.{with_property, with_filter, with_range}
 use Rattle.style_edits.specs.Layers.{with_layers, changed_layer, without_layer, with_layer, moved_layer}
 

@@ -5,12 +5,14 @@ use Rattle.std.specs.List.{list_all}
 use Rattle.std.specs.Option.{option_and_then}
 use Rattle.decimal_json.specs.Accessors.{member}
 use Rattle.decimal_json.specs.Tree.{Tree}
-use Rattle.edit_script.specs.Edit.{Edit, set_paint, set_layout, set_filter, set_range, add_layer, remove_layer, move_layer, set_zoom, set_state, remove_state}
+use Rattle.edit_script.specs.Edit.{Edit, set_paint, set_layout, set_filter, set_range, add_layer, remove_layer}
+use Rattle.edit_script.specs.Edit.{move_layer, set_zoom, set_state, remove_state}
 use Rattle.style_edits.specs.Causes.{first_cause}
 use Rattle.style_edits.specs.Layer.{is_null}
 use Rattle.style_edits.specs.Layers.{layer_list, layer_named}
 use Rattle.style_edits.specs.declared.faults.EditFault.{EditFault}
-use Rattle.style_edits.specs.declared.faults.EditFault.TheVariants.{UnknownLayer, UnknownBefore, UnknownSource, ZoomRange, UnknownProperty}
+use Rattle.style_edits.specs.declared.faults.EditFault.TheVariants.{UnknownLayer, UnknownBefore, UnknownSource}
+use Rattle.style_edits.specs.declared.faults.EditFault.TheVariants.{ZoomRange, UnknownProperty}
 use Rattle.style_parts.specs.Numbers.{is_zoom}
 use Rattle.style_parts.specs.Parts.{source_at}
 

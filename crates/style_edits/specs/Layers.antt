@@ -1,5 +1,5 @@
--- The layers of a document in order, and what becomes of them where one is named by its id. In a document without findings
--- each layer has an id of its own; else the first that has an id is the one that it names.
+-- The layers of a document in order, and what becomes of them where one is named by its id. In a document without
+-- findings each layer has an id of its own; else the first that has an id is the one that it names.
 use Rattle.std.specs.Prelude.{ℕ, List, [], ◌∷◌, ◌++◌, codes, Bool, false, Option, Some, None, if◌then◌else◌}
 use Rattle.std.specs.Str.{bytes_eq}
 use Rattle.decimal_json.specs.Accessors.{member}

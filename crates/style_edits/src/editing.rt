@@ -20,9 +20,9 @@ use edit_script::Command;
 use std::alloc::{AllocError, Global};
 
 /// Edits a document in place, and gives what takes the edit back; or gives its fault, and then the document stays. It
-/// stays too when allocation fails. An edit of what is kept beside the document, as of the zoom or of a state, leaves it
-/// as it is. Texts and numbers are shared with the command. Takes time linear in the number of layers, in the layer that
-/// is edited and in the command.
+/// stays too when allocation fails. An edit of what is kept beside the document, as of the zoom or of a state, leaves
+/// it as it is. Texts and numbers are shared with the command. Takes time linear in the number of layers, in the layer
+/// that is edited and in the command.
 pub fn edit_style(
     alloc: Global,
     style: &mut Json,

@@ -32,8 +32,8 @@ pub enum EditFault {
     UnknownProperty,
 }
 
-/// The fault of an edit of a document, or `None` exactly where it can be made. It asks the places of the layers that the
-/// edit names, and looks up a few keys.
+/// The fault of an edit of a document, or `None` exactly where it can be made. It asks the places of the layers that
+/// the edit names, and looks up a few keys.
 #[tactic(auto, using(crate::proofs::EditLaws::fault_by_place))]
 pub fn edit_fault(style: &Json, places: EditPlaces, command: &Command) -> Option<EditFault>
     requires { places ≡ places_of (tree_of style.now) (command_seen command.now) }

@@ -9,10 +9,10 @@
 //! ```
 //!
 //! What is promised, for all JSON trees: `edit_style` gives the fault that `specs/Faults.antt` has for the edit of the
-//! document, exactly where it has one, and the document stays. Else the document becomes the one of `specs/Edited.antt`,
-//! and what is given takes the edit back (`specs/Undone.antt`): `undo_edit` then gives the document before it. When
-//! allocation fails, the document stays. Edits that put nothing into the document take no memory, nor does it take
-//! memory to take an edit back, but for a layer that was removed.
+//! document, exactly where it has one, and the document stays. Else the document becomes the one of
+//! `specs/Edited.antt`, and what is given takes the edit back (`specs/Undone.antt`): `undo_edit` then gives the
+//! document before it. When allocation fails, the document stays. Edits that put nothing into the document take no
+//! memory, nor does it take memory to take an edit back, but for a layer that was removed.
 //!
 //! `edit_style` goes through the layers for each id that the edit names (`layer_named`, `before_named`, `id_added`).
 //! Whoever knows the places of layers calls `edit_fault` and `edit_at`, which are its parts after `edit_places`. One

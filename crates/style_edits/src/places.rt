@@ -93,8 +93,8 @@ fn place_named(style: &Json, name: Option<&Text>) -> Option<usize>
     }
 }
 
-/// The place of the layer that has this text as its id, counted from 0; of the first where several have it. Goes through
-/// the layers.
+/// The place of the layer that has this text as its id, counted from 0; of the first where several have it. Goes
+/// through the layers.
 #[tactic(auto, using(crate::proofs::PlaceLaws::place_seen, crate::proofs::DocumentLaws::layers_listed))]
 pub fn layer_place(style: &Json, id: &str) -> Option<usize>
     ensures { result ≡ layer_place (layer_list (tree_of style.now)) id.now }

@@ -9,9 +9,9 @@ use Rattle.legacy_laws.specs.LegacyFunctionLaw.{IsTableRow}
 use Rattle.migrate_laws.specs.MigratedLaw.{filter_mentions}
 use Rattle.style_layout.specs.Forms.{property_of, outcome_of, property_value, value_mentions, layer_filter, lets_pass}
 
--- Two worlds that agree on what a value mentions list its property alike: the zoom, the feature, its state and the test of
--- images count only where they are mentioned. So it is of an expression, a legacy function, a token text and a literal, and
--- of each tree that is none of these.
+-- Two worlds that agree on what a value mentions list its property alike: the zoom, the feature, its state and the test
+-- of images count only where they are mentioned. So it is of an expression, a legacy function, a token text and a
+-- literal, and of each tree that is none of these.
 abbrev pub ValuesGoByTheirMentions : Type 0
 ValuesGoByTheirMentions =
     (row : RowData) (globals : List (List ℕ × Data)) (t : Tree) (v w : World) → IsTableRow row →

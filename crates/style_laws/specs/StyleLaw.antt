@@ -64,8 +64,8 @@ abbrev pub EachLayer : (ℕ → LayerOut → Type 0) → ℕ → List LayerOut �
 EachLayer P i [] = Unit {0}
 EachLayer P i (layer ∷ layers) = P i layer × EachLayer P (i + 1) layers
 
--- ---- the laws, of a document without findings, at every zoom, over all tiles, and whatever the states of features, the
--- two tests and the values of the global state are
+-- ---- the laws, of a document without findings, at every zoom, over all tiles, and whatever the states of features,
+-- the two tests and the values of the global state are
 
 -- Each fault that marks a value in a layout is in the `may` line of the path of the value.
 abbrev pub MarkedFaultsAreListed : Type 0

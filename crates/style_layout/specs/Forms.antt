@@ -161,7 +161,8 @@ legacy_of (Ok f) = legacy_filter f
 legacy_of (Err fault) = outside_filter
 
 abbrev pub layer_filter : List (List ℕ × Data) → Option Tree → LayerFilter
-layer_filter globals (Some t) = if is_legacy t then legacy_of (filters.reading t) else condition_of (reading_with t globals)
+layer_filter globals (Some t) =
+    if is_legacy t then legacy_of (filters.reading t) else condition_of (reading_with t globals)
 layer_filter globals None = every
 
 abbrev pub is_outside : LayerFilter → Bool

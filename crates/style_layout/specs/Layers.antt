@@ -1,5 +1,6 @@
 -- What a layer of a document is for its layout: how it is shown, its properties, its source and its filter.
-use Rattle.std.specs.Prelude.{ℕ, ℤ, int_lt, int_le, List, [], ◌∷◌, flat_map, filter, codes, Bool, true, false, not, ◌||◌, ◌&&◌, Option, Some, None, option_map, if◌then◌else◌}
+use Rattle.std.specs.Prelude.{ℕ, ℤ, int_lt, int_le, List, [], ◌∷◌, flat_map, filter, codes, Bool, true, false, not}
+use Rattle.std.specs.Prelude.{◌||◌, ◌&&◌, Option, Some, None, option_map, if◌then◌else◌}
 use Rattle.std.specs.Str.{bytes_eq}
 use Rattle.std.specs.Option.{option_and_then}
 use Rattle.decimal_json.specs.Tree.{Tree, Trees, no_trees, tree}
@@ -7,7 +8,8 @@ use Rattle.decimal_json.specs.Accessors.{member, text_at}
 use Rattle.prop_values.specs.Data.{Data}
 use Rattle.property_tables.specs.Rows.{RowData, rows_of}
 use Rattle.property_tables.specs.declared.layer_type.LayerType.{LayerType}
-use Rattle.property_tables.specs.declared.layer_type.LayerType.TheVariants.{Background, Fill, Line, Symbol, Circle, Raster, Hillshade, ColorRelief}
+use Rattle.property_tables.specs.declared.layer_type.LayerType.TheVariants.{Background, Fill, Line, Symbol, Circle}
+use Rattle.property_tables.specs.declared.layer_type.LayerType.TheVariants.{Raster, Hillshade, ColorRelief}
 use Rattle.property_tables.specs.declared.property_row.Place.{Place}
 use Rattle.property_tables.specs.declared.property_row.Place.TheVariants.{Layout, Paint}
 use Rattle.style_parts.specs.Parts.{is_among, layers_of}
@@ -66,7 +68,8 @@ property_if row globals (Some t) = property_of row globals t ∷ []
 property_if row globals None = []
 
 abbrev pub set_property : List (List ℕ × Data) → Tree → RowData → List Property
-set_property globals layer row = if is_visibility row then [] else property_if row globals (set_value layer row.place row.name)
+set_property globals layer row =
+    if is_visibility row then [] else property_if row globals (set_value layer row.place row.name)
 
 abbrev pub properties_of : List (List ℕ × Data) → LayerType → Tree → List Property
 properties_of globals type layer = flat_map (set_property globals layer) (rows_of type)

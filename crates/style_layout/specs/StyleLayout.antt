@@ -42,7 +42,8 @@ module _ (scene : Scene) (tiles : List SourceTile) where
   abbrev pub layout_of : List (List ℕ × Data) → Tree → Layout
   layout_of globals document = layers_layout (style_layers globals document)
 
--- ---- cells: one for each feature of a layer, and one more for each of its properties that are listed with it, whatever the zoom is
+-- ---- cells: one for each feature of a layer, and one more for each of its properties that are listed with it,
+-- whatever the zoom is
 
 abbrev pub layer_cells : List SourceTile → StyleLayer → ℕ
 layer_cells tiles layer = length (layer_features tiles layer) * (1 + length (feature_properties layer.properties))

@@ -7,7 +7,9 @@ use Rattle.style_layout.specs.declared.features.LayerFeatures.{LayerFeatures}
 
 -- the features that are still to come, without their numbers
 abbrev pub unnumbered : LayerFeatures → List Feature
-unnumbered walk = walk.features.now ++ flat_map (tile_features (layer_seen walk.layer.now)) (map tile_seen (drop walk.next_tile walk.tiles.now))
+unnumbered walk =
+    walk.features.now ++ flat_map (tile_features (layer_seen walk.layer.now))
+    (map tile_seen (drop walk.next_tile walk.tiles.now))
 
 abbrev pub features_left : LayerFeatures → List (ℕ × Feature)
 features_left walk = numbered walk.number (unnumbered walk)

@@ -12,8 +12,8 @@ use crate::prepared::PreparedStyle;
 use crate::properties::Property;
 use crate::scene::SourceTile;
 
-/// One for each feature of each layer, and one more for each of its properties that are listed with it; or `u128::MAX`, where there
-/// are more.
+/// One for each feature of each layer, and one more for each of its properties that are listed with it; or `u128::MAX`,
+/// where there are more.
 #[tactic(auto, using(crate::proofs::CellLaws::sum_saturates))]
 pub fn cell_count(style: &PreparedStyle, tiles: &[SourceTile<'_>]) -> u128
     ensures { result ≡ min (cell_count (map tile_seen tiles.now) (layers_seen style.now)) (2 ^ 128 - 1) }

@@ -1,6 +1,7 @@
 //! The features of a layer over tiles.
 
-ghost use Rattle.std.specs.Prelude.{◌≡◌, ◌+◌, ◌-◌, ◌<◌, ◌^◌, [], ◌∷◌, length, map, MatchOption, IfOk, IfSome, if◌then◌else◌};
+ghost use Rattle.std.specs.Prelude.{◌≡◌, ◌+◌, ◌-◌, ◌<◌, ◌^◌, [], ◌∷◌, length, map, MatchOption, IfOk, IfSome};
+ghost use Rattle.std.specs.Prelude.{if◌then◌else◌};
 ghost use Rattle.style_layout.specs.CodeView.{layer_seen, scene_seen, tile_seen};
 ghost use Rattle.style_layout.specs.Layers.{has_features};
 ghost use Rattle.style_layout.specs.Shown.{features_named, layer_features, numbered, state_of, tile_features};

@@ -31,7 +31,8 @@ pub fn global_default(
     document: &Json,
     name: &str,
 ) -> Result<Option<Value>, AllocError>
-    ensures { IfOk result (λ found. option_map data_of found ≡ at_key name.now (pairs_of (globals_of (tree_of document.now)))) }
+    ensures { IfOk result
+        (λ found. option_map data_of found ≡ at_key name.now (pairs_of (globals_of (tree_of document.now)))) }
 {
     match state_of(document) {
         Some(state) => default_among(alloc, state, name),
@@ -41,7 +42,8 @@ pub fn global_default(
 
 #[tactic(auto, using(crate::proofs::Defaults::default_found, crate::proofs::Defaults::default_lacking))]
 fn default_among(alloc: Global, state: &Members, name: &str) -> Result<Option<Value>, AllocError>
-    ensures { IfOk result (λ found. option_map data_of found ≡ at_key name.now (pairs_of (with_defaults [] (fields_of state.now)))) }
+    ensures { IfOk result
+        (λ found. option_map data_of found ≡ at_key name.now (pairs_of (with_defaults [] (fields_of state.now)))) }
 {
     if state.as_slice().is_empty() {
         return Ok(None);
@@ -70,7 +72,8 @@ fn defaults_of(alloc: Global, state: &[Member]) -> Result<Entries, AllocError>
 }
 
 fn put_default(alloc: Global, member: &Member, globals: &mut Entries) -> Result<(), AllocError>
-    ensures { OnOk result (globals.new ≡ with_default member.now.key (default_in (tree_of member.now.value)) globals.old) }
+    ensures { OnOk result (globals.new
+        ≡ with_default member.now.key (default_in (tree_of member.now.value)) globals.old) }
 {
     match default_in(alloc, &member.value)? {
         Some(value) => globals.set(member.key.share()?, value),

@@ -8,17 +8,19 @@
 //! }
 //! ```
 //!
-//! What is promised: `prepare` reads each value of a layer once, and gives the outlines of the layers of `specs/Layers.antt`:
-//! their literals, and of each other value only that it is evaluated, and whether it is listed with each feature.
-//! `cell_count` is the layout's count of cells, or 2^128 - 1 where there are more. `LayerFeatures` gives the features of a
-//! layer over tiles with their numbers, in their order. `globals_of` gives the values that the names of the global state have
-//! from the document, and `global_default` that of one name. `PlacedLayer` gives the values of a layer's properties.
+//! What is promised: `prepare` reads each value of a layer once, and gives the outlines of the layers of
+//! `specs/Layers.antt`: their literals, and of each other value only that it is evaluated, and whether it is listed
+//! with each feature. `cell_count` is the layout's count of cells, or 2^128 - 1 where there are more. `LayerFeatures`
+//! gives the features of a layer over tiles with their numbers, in their order. `globals_of` gives the values that the
+//! names of the global state have from the document, and `global_default` that of one name. `PlacedLayer` gives the
+//! values of a layer's properties.
 //!
-//! The layout itself, `layers_layout` of `specs/StyleLayout.antt`, is written by the crates above, from counted evaluations.
-//! They read a layer as a `DocumentLayer`: what is prepared of it, beside the document that has its values.
+//! The layout itself, `layers_layout` of `specs/StyleLayout.antt`, is written by the crates above, from counted
+//! evaluations. They read a layer as a `DocumentLayer`: what is prepared of it, beside the document that has its
+//! values.
 //!
-//! The text to believe is in `specs/`: `Forms`, `Layers`, `Globals`, `SortKeys`, `Shown`, `StyleLayout`. `Outlines` says what
-//! an outline is.
+//! The text to believe is in `specs/`: `Forms`, `Layers`, `Globals`, `SortKeys`, `Shown`, `StyleLayout`. `Outlines`
+//! says what an outline is.
 #![tactic(auto)]
 
 mod cells;

@@ -59,8 +59,8 @@ impl PreparedStyle {
         let _ = mem::replace(&mut self.layers[place], layer);
     }
 
-    /// Puts a layer before the one at a place, or last where the place is the number of layers. Takes time linear in the
-    /// layers.
+    /// Puts a layer before the one at a place, or last where the place is the number of layers. Takes time linear in
+    /// the layers.
     pub fn insert(&mut self, place: usize, layer: StyleLayer) -> Result<(), AllocError>
         requires { place ≤ length (layers_seen self.old) }
         ensures ok { OnOk result (layers_seen self.new ≡ insert (layers_seen self.old) place (layer_seen layer)) }

@@ -71,7 +71,8 @@ fn push_numbered(
     properties: &mut Vec<Property>,
 ) -> Result<(), AllocError>
     requires { number < length (rows_of layer_type) }
-    ensures { (other : RowData) → OnOk result (map property_seen properties.new.items ≡ map property_seen properties.old.items
+    ensures { (other : RowData)
+        → OnOk result (map property_seen properties.new.items ≡ map property_seen properties.old.items
         ++ map property_outline (set_property globals.now (object (fields_of layer.now))
         (get_or (rows_of layer_type) number other))) }
 {

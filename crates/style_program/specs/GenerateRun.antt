@@ -1,4 +1,5 @@
--- The run of `generate`: how much `replay` writes of a style, a tile and a script that are made from a number. Source: own.
+-- The run of `generate`: how much `replay` writes of a style, a tile and a script that are made from a number. Source:
+-- own.
 use Rattle.std.specs.Prelude.{ℕ, pos, List, codes, Bool, false}
 use Rattle.decimal_json.specs.Tree.{Tree}
 use Rattle.edit_session.specs.Opening.{cell_limit, tiles_fault}
@@ -26,4 +27,5 @@ module _ (features : ℕ) (images scripts : List ℕ → Bool) (can_change : Boo
 
   -- As `replay`, with the counts of what is written in the place of it. No file is read.
   abbrev pub generate_run : Run
-  generate_run = parses (codes "style") generated_style (λ document. sound_or_broken (findings document) (opened_run document))
+  generate_run = parses (codes "style") generated_style
+      (λ document. sound_or_broken (findings document) (opened_run document))

@@ -9,5 +9,6 @@ use Rattle.style_program.specs.Commands.{run_of}
 abbrev pub EachHasOneOutcome : Type 0
 EachHasOneOutcome = (files : List ℕ → Option (List ℕ)) (images scripts : List ℕ → Bool) (can_change : Bool)
     (ws before after others : List (List ℕ)) (o p : RunOutcome) →
-    AreTold files (run_of images scripts can_change ws) → HasOutcome files (run_of images scripts can_change ws) before after o
+    AreTold files (run_of images scripts can_change ws) →
+    HasOutcome files (run_of images scripts can_change ws) before after o
     → HasOutcome files (run_of images scripts can_change ws) before others p → (o ≡ p) × (after ≡ others)

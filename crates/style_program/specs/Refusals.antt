@@ -47,7 +47,8 @@ tile_kind_name tiles.GeometryType = codes "GeometryType"
 -- the tile of a source is none: the kind of the fault, its place, and which of the source's tiles it is
 abbrev pub no_tile : (source : List ℕ) (number : ℕ) → TileFault → RunOutcome
 no_tile source number fault =
-    refused (tile_text source ++ (codes " " ++ (tile_kind_name fault.kind ++ (codes " " ++ (decimal fault.at ++ tile_number number)))))
+    refused (tile_text source
+    ++ (codes " " ++ (tile_kind_name fault.kind ++ (codes " " ++ (decimal fault.at ++ tile_number number)))))
 
 -- A style that cannot be opened over tiles: the source of a tile is none of its sources, or not of type
 -- vector; there are more cells than are allowed; the zoom is not from 0 to 24. One with findings is not

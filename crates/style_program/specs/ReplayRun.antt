@@ -46,7 +46,8 @@ answered_by Replay scripts can_change tiles p script = script_run tiles scripts 
 answered_by Desk scripts can_change tiles p script = desk_script_run tiles scripts can_change (desk_over p) script
 
 abbrev pub script_kind_run : ScriptKind → ScriptWords → (images scripts : List ℕ → Bool) (can_change : Bool) → Run
-script_kind_run kind w images scripts can_change = scripted_run (limit_of kind) w images (answered_by kind scripts can_change)
+script_kind_run kind w images scripts can_change =
+    scripted_run (limit_of kind) w images (answered_by kind scripts can_change)
 
 abbrev pub replay_run : ScriptWords → (images scripts : List ℕ → Bool) (can_change : Bool) → Run
 replay_run w images scripts can_change = script_kind_run Replay w images scripts can_change

@@ -39,7 +39,8 @@ tile_part number limit w after =
 -- ---- all tiles, in the order of the words. The words and tiles before are those so far, and `left` bytes
 -- are left
 
-abbrev pub tiles_after : (before : List TileWord) (got : List SourceTile) (left : ℕ) → List TileWord → (List SourceTile → Run) → Run
+abbrev pub tiles_after : (before : List TileWord) (got : List SourceTile) (left : ℕ) → List TileWord →
+    (List SourceTile → Run) → Run
 tiles_after before got left [] after = after got
 tiles_after before got left (w ∷ ws) after =
     tile_part (count_of w.0 before) (min left tile_limit) w (λ read.

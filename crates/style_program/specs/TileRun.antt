@@ -20,4 +20,5 @@ abbrev pub tile_outcome : (name bytes : List ℕ) → RunOutcome
 tile_outcome name bytes = listed_or_refused name bytes (tile_of bytes)
 
 abbrev pub tile_run : (name : List ℕ) → Run
-tile_run name = reads (too_long (tile_text name) (tile_number 0)) name tile_limit (λ bytes. ends (tile_outcome name bytes))
+tile_run name =
+    reads (too_long (tile_text name) (tile_number 0)) name tile_limit (λ bytes. ends (tile_outcome name bytes))

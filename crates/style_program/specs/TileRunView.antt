@@ -16,4 +16,5 @@ shown_seen s = (tree_of s.style, map tile_seen s.tiles.items)
 
 -- the words before it were read as these tiles, and `left` bytes are left
 abbrev pub tiles_from : (i : ℕ) → List TileWord → (got : List SourceTile) (left : ℕ) → (List SourceTile → Run) → Run
-tiles_from i words got left after = tiles_after (map tile_word (take i words)) got left (map tile_word (drop i words)) after
+tiles_from i words got left after =
+    tiles_after (map tile_word (take i words)) got left (map tile_word (drop i words)) after

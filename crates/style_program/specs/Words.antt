@@ -1,5 +1,6 @@
 -- What the words of a command line ask for.
-use Rattle.std.specs.Prelude.{ℕ, ℤ, pos, ◌+◌, ◌-◌, ◌*◌, List, [], ◌∷◌, length, filter, codes, nat_eq, nat_le, Bool, not, ◌&&◌, Option, Some, None, option_map, Result, Ok, Err, if◌then◌else◌}
+use Rattle.std.specs.Prelude.{ℕ, ℤ, pos, ◌+◌, ◌-◌, ◌*◌, List, [], ◌∷◌, length, filter, codes, nat_eq, nat_le, Bool, not}
+use Rattle.std.specs.Prelude.{◌&&◌, Option, Some, None, option_map, Result, Ok, Err, if◌then◌else◌}
 use Rattle.std.specs.List.{before_first, after_first, list_all}
 use Rattle.std.specs.Str.{bytes_eq}
 use Rattle.fixed_num.specs.Decimal.{read_text}
@@ -90,7 +91,8 @@ sources_of (t ∷ ts) = t.0 ∷ filter (λ source. not (bytes_eq source t.0)) (s
 
 abbrev pub are_allowed : List TileWord → Bool
 are_allowed tiles =
-    nat_le (length (sources_of tiles)) most_sources && list_all (λ (t : TileWord). nat_le (count_of t.0 tiles) most_tiles) tiles
+    nat_le (length (sources_of tiles)) most_sources
+    && list_all (λ (t : TileWord). nat_le (count_of t.0 tiles) most_tiles) tiles
 
 abbrev pub if_allowed : Option (List TileWord) → Option (List TileWord)
 if_allowed (Some tiles) = if are_allowed tiles then Some tiles else None
@@ -129,7 +131,8 @@ asked_of_more command style word words =
 
 -- `--help` and `--version` are alone
 abbrev pub asked_alone : List ℕ → Asked
-asked_alone word = if bytes_eq word (codes "--help") then Help else if bytes_eq word (codes "--version") then Version else Wrong
+asked_alone word =
+    if bytes_eq word (codes "--help") then Help else if bytes_eq word (codes "--version") then Version else Wrong
 
 -- ---- a number of features: a word of one to six digits, from 1 to 100,000
 
@@ -146,7 +149,8 @@ most_features = 100000
 
 abbrev pub features_named : List ℕ → Option ℕ
 features_named word =
-    if list_all is_digit word && (nat_le (length word) 6 && (nat_le 1 (digits_value 0 word) && nat_le (digits_value 0 word) most_features))
+    if list_all is_digit word
+    && (nat_le (length word) 6 && (nat_le 1 (digits_value 0 word) && nat_le (digits_value 0 word) most_features))
     then Some (digits_value 0 word) else None
 
 abbrev pub asked_generate : Option ℕ → Asked
@@ -171,11 +175,13 @@ most_styles = 64
 
 abbrev pub asked_styles : LintForm → List (List ℕ) → Asked
 asked_styles form [] = Wrong
-asked_styles form (style ∷ styles) = if nat_le (length (style ∷ styles)) most_styles then Lint form (style ∷ styles) else Wrong
+asked_styles form (style ∷ styles) =
+    if nat_le (length (style ∷ styles)) most_styles then Lint form (style ∷ styles) else Wrong
 
 abbrev pub asked_lint : List (List ℕ) → Asked
 asked_lint [] = Wrong
-asked_lint (word ∷ words) = if bytes_eq word (codes "--github") then asked_styles Annotations words else asked_styles Plain (word ∷ words)
+asked_lint (word ∷ words) =
+    if bytes_eq word (codes "--github") then asked_styles Annotations words else asked_styles Plain (word ∷ words)
 
 -- every other command has as many words as are said above
 abbrev pub asked_with : (command : List ℕ) → List (List ℕ) → Asked

@@ -10,7 +10,8 @@ use Rattle.style_program.specs.declared.words.Request.{Request}
 use Rattle.style_program.specs.declared.words.Request.TheVariants as request
 use Rattle.style_program.specs.declared.words.TileWord.{TileWord}
 use Rattle.style_program.specs.Words as words
-use Rattle.style_program.specs.Words.{EvalWords, ScriptWords, Asked, Value, Validate, Lint, Migrate, Simplify, Eval, Script, Tile, Generate, Help, Version, Wrong}
+use Rattle.style_program.specs.Words.{EvalWords, ScriptWords, Asked, Value, Validate, Lint, Migrate, Simplify, Eval}
+use Rattle.style_program.specs.Words.{Script, Tile, Generate, Help, Version, Wrong}
 
 abbrev pub tile_word : TileWord → words.TileWord
 tile_word t = (t.source.now, t.tile.now)

@@ -22,8 +22,8 @@ use std::alloc::{AllocError, Global};
 use std::sync::ledger::Ledger;
 use style_layout::SourceTile;
 
-/// The counts of what `replay` writes of the style, the tile and the script of so many features. No file is read; the steps
-/// of its evaluations are counted.
+/// The counts of what `replay` writes of the style, the tile and the script of so many features. No file is read; the
+/// steps of its evaluations are counted.
 pub fn answer_generate<'a, L: Ledger>(
     alloc: Global,
     features: u32,
@@ -32,12 +32,15 @@ pub fn answer_generate<'a, L: Ledger>(
     steps: &mut Steps<L>,
 ) -> Result<RunOutput, RunHalt<'a>>
     ensures answer { (files : List ℕ → Option (List ℕ)) (asked : List (List ℕ)) → IfOk result (IsAnswered files
-        (generate_run features (test images.old) (test scripts.now) (changes images.old)) asked asked steps.old steps.new) }
+        (generate_run features (test images.old) (test scripts.now) (changes images.old)) asked asked steps.old
+        steps.new) }
     ensures halt { (files : List ℕ → Option (List ℕ)) (count : ℕ) (failed : Option (List ℕ)) (asked : List (List ℕ))
         → IfErr result (λ halt. HaltsAt files
-        (generate_run features (test images.old) (test scripts.now) (changes images.old)) count count failed failed asked asked halt) }
+        (generate_run features (test images.old) (test scripts.now) (changes images.old)) count count failed failed
+        asked asked halt) }
     ensures steps { (files : List ℕ → Option (List ℕ)) (asked : List (List ℕ)) → IfErr result (HaltSteps files
-        (generate_run features (test images.old) (test scripts.now) (changes images.old)) asked asked steps.old steps.new) }
+        (generate_run features (test images.old) (test scripts.now) (changes images.old)) asked asked steps.old
+        steps.new) }
 {
     let style = parse_json(alloc, &Subject::Style, GENERATED_STYLE)?;
     refuse_broken(alloc, &style)?;
@@ -54,9 +57,11 @@ fn answer_opened<L: Ledger>(
 ) -> Result<RunOutput, AllocError>
     requires { findings (tree_of style) ≡ [] }
     ensures answer { (files : List ℕ → Option (List ℕ)) (asked : List (List ℕ)) → IfOk result (IsAnswered files
-        (opened_run features (test images.old) (test scripts.now) (changes images.old) (tree_of style)) asked asked steps.old steps.new) }
+        (opened_run features (test images.old) (test scripts.now) (changes images.old) (tree_of style)) asked asked
+        steps.old steps.new) }
     ensures due { (files : List ℕ → Option (List ℕ)) (asked : List (List ℕ)) → OnErr result (StepsAreDue files
-        (opened_run features (test images.old) (test scripts.now) (changes images.old) (tree_of style)) asked asked steps.old steps.new) }
+        (opened_run features (test images.old) (test scripts.now) (changes images.old) (tree_of style)) asked asked
+        steps.old steps.new) }
 {
     let tiles = generated_tiles(alloc, features)?;
     match Session::open_sound(alloc, style, tiles, zero(), CELL_LIMIT)? {

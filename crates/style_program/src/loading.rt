@@ -52,12 +52,14 @@ pub fn read_shown<'a, F: Files>(
     files: &mut F,
 ) -> Result<LoadedStyle<'a>, RunHalt<'a>>
     ensures told { F.told files.new ≡ F.told files.old }
-    ensures failed { OnOk result (NoneFailed (F.faults files.old) (F.faults files.new) (F.failed files.old) (F.failed files.new)) }
+    ensures failed { OnOk result
+        (NoneFailed (F.faults files.old) (F.faults files.new) (F.failed files.old) (F.failed files.new)) }
     ensures on { IfOk result (λ shown. GoesOn (F.told files.old) (load_part (eval_words request.now))
         (F.asked files.old) (F.asked files.new) (shown_seen shown)) }
     ensures sound { IfOk result (λ shown. findings (tree_of shown.style) ≡ []) }
     ensures halt { IfErr result (λ halt. Halts (F.told files.old) (load_part (eval_words request.now))
-        (F.faults files.old) (F.faults files.new) (F.failed files.old) (F.failed files.new) (F.asked files.old) (F.asked files.new) halt) }
+        (F.faults files.old) (F.faults files.new) (F.failed files.old) (F.failed files.new) (F.asked files.old)
+        (F.asked files.new) halt) }
 {
     let style = read_json(alloc, &Subject::Style, request.style, STYLE_LIMIT, files)?;
     refuse_broken(alloc, &style)?;
@@ -120,11 +122,13 @@ fn read_tiles<'a, F: Files>(
     files: &mut F,
 ) -> Result<Vec<SourceTile<'a>>, RunHalt<'a>>
     ensures told { F.told files.new ≡ F.told files.old }
-    ensures failed { OnOk result (NoneFailed (F.faults files.old) (F.faults files.new) (F.failed files.old) (F.failed files.new)) }
+    ensures failed { OnOk result
+        (NoneFailed (F.faults files.old) (F.faults files.new) (F.failed files.old) (F.failed files.new)) }
     ensures on { IfOk result (λ tiles. GoesOn (F.told files.old) (tiles_part (map tile_word words.now))
         (F.asked files.old) (F.asked files.new) (map tile_seen tiles.items)) }
     ensures halt { IfErr result (λ halt. Halts (F.told files.old) (tiles_part (map tile_word words.now))
-        (F.faults files.old) (F.faults files.new) (F.failed files.old) (F.failed files.new) (F.asked files.old) (F.asked files.new) halt) }
+        (F.faults files.old) (F.faults files.new) (F.failed files.old) (F.failed files.new) (F.asked files.old)
+        (F.asked files.new) halt) }
 {
     let mut tiles = Vec::new(alloc);
     let mut left = TILES_LIMIT;
@@ -145,13 +149,16 @@ fn read_next<'a, F: Files>(
 ) -> Result<usize, RunHalt<'a>>
     requires { i < length words.now }
     ensures told { F.told files.new ≡ F.told files.old }
-    ensures failed { OnOk result (NoneFailed (F.faults files.old) (F.faults files.new) (F.failed files.old) (F.failed files.new)) }
+    ensures failed { OnOk result
+        (NoneFailed (F.faults files.old) (F.faults files.new) (F.failed files.old) (F.failed files.new)) }
     ensures on { IfOk result (λ rest. (after : List shown.SourceTile → Run) → ComesTo (F.told files.old)
         (tiles_from i words.now (map tile_seen tiles.old.items) left after)
         (tiles_from (i + 1) words.now (map tile_seen tiles.new.items) rest after)
         (F.asked files.old) (F.asked files.new)) }
-    ensures halt { IfErr result (λ halt. Halts (F.told files.old) (tiles_from i words.now (map tile_seen tiles.old.items) left)
-        (F.faults files.old) (F.faults files.new) (F.failed files.old) (F.failed files.new) (F.asked files.old) (F.asked files.new) halt) }
+    ensures halt { IfErr result
+        (λ halt. Halts (F.told files.old) (tiles_from i words.now (map tile_seen tiles.old.items) left)
+        (F.faults files.old) (F.faults files.new) (F.failed files.old) (F.failed files.new) (F.asked files.old)
+        (F.asked files.new) halt) }
 {
     let word = words[i];
     let number = count_of(word.source, &words[..i]);
@@ -174,11 +181,13 @@ fn read_one<'a, F: Files>(
     files: &mut F,
 ) -> Result<(usize, Tile), RunHalt<'a>>
     ensures told { F.told files.new ≡ F.told files.old }
-    ensures failed { OnOk result (NoneFailed (F.faults files.old) (F.faults files.new) (F.failed files.old) (F.failed files.new)) }
+    ensures failed { OnOk result
+        (NoneFailed (F.faults files.old) (F.faults files.new) (F.failed files.old) (F.failed files.new)) }
     ensures on { IfOk result (λ read. GoesOn (F.told files.old) (tile_part number at_most (source.now, name.now))
         (F.asked files.old) (F.asked files.new) (read.0, read.1)) }
     ensures halt { IfErr result (λ halt. Halts (F.told files.old) (tile_part number at_most (source.now, name.now))
-        (F.faults files.old) (F.faults files.new) (F.failed files.old) (F.failed files.new) (F.asked files.old) (F.asked files.new) halt) }
+        (F.faults files.old) (F.faults files.new) (F.failed files.old) (F.failed files.new) (F.asked files.old)
+        (F.asked files.new) halt) }
 {
     let bytes = read_file(alloc, &Subject::Tile(source, number), name, at_most, files)?;
     tile_in(alloc, source, number, bytes.as_slice())

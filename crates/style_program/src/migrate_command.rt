@@ -20,18 +20,21 @@ use std::alloc::{AllocError, Global};
 use style_migrate::migrate;
 use style_rules::{Finding, findings};
 
-/// A style with each legacy form as its expression, or the rules that it breaks. The style is of `STYLE_LIMIT` bytes at most.
+/// A style with each legacy form as its expression, or the rules that it breaks. The style is of `STYLE_LIMIT` bytes at
+/// most.
 pub fn answer_migrate<'a, F: Files>(
     alloc: Global,
     name: &'a str,
     files: &mut F,
 ) -> Result<RunOutput, RunHalt<'a>>
     ensures told { F.told files.new ≡ F.told files.old }
-    ensures failed { OnOk result (NoneFailed (F.faults files.old) (F.faults files.new) (F.failed files.old) (F.failed files.new)) }
+    ensures failed { OnOk result
+        (NoneFailed (F.faults files.old) (F.faults files.new) (F.failed files.old) (F.failed files.new)) }
     ensures answer { IfOk result (λ answer. HasOutcome (F.told files.old) (migrate_run name.now)
         (F.asked files.old) (F.asked files.new) (outcome_of answer)) }
     ensures halt { IfErr result (λ halt. HaltsAt (F.told files.old) (migrate_run name.now)
-        (F.faults files.old) (F.faults files.new) (F.failed files.old) (F.failed files.new) (F.asked files.old) (F.asked files.new) halt) }
+        (F.faults files.old) (F.faults files.new) (F.failed files.old) (F.failed files.new) (F.asked files.old)
+        (F.asked files.new) halt) }
 {
     let style = read_json(alloc, &Subject::Style, name, STYLE_LIMIT, files)?;
     Ok(answer_style(alloc, &style)?)
@@ -45,7 +48,8 @@ fn answer_style(alloc: Global, style: &Json) -> Result<RunOutput, AllocError>
 }
 
 fn answer_found(alloc: Global, style: &Json, found: &[Finding]) -> Result<RunOutput, AllocError>
-    ensures { IfOk result (λ answer. outcome_of answer ≡ migrated_or_broken (map finding_seen found.now) (tree_of style.now)) }
+    ensures { IfOk result
+        (λ answer. outcome_of answer ≡ migrated_or_broken (map finding_seen found.now) (tree_of style.now)) }
 {
     match found {
         [] => answer_migrated(alloc, style),
@@ -54,7 +58,8 @@ fn answer_found(alloc: Global, style: &Json, found: &[Finding]) -> Result<RunOut
 }
 
 fn answer_migrated(alloc: Global, style: &Json) -> Result<RunOutput, AllocError>
-    ensures { IfOk result (λ answer. outcome_of answer ≡ said (line (json_text (migrated (tree_of style.now)))) Ending.Fine) }
+    ensures { IfOk result
+        (λ answer. outcome_of answer ≡ said (line (json_text (migrated (tree_of style.now)))) Ending.Fine) }
 {
     let migrated = migrate(alloc, style)?;
     let mut out = Vec::new(alloc);

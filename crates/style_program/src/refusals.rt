@@ -2,7 +2,8 @@
 
 ghost use Rattle.std.specs.Prelude.{◌≡◌, ◌++◌, codes, decimal, IfOk, OnOk};
 ghost use Rattle.edit_session.specs.View.{fault_seen};
-ghost use Rattle.style_program.specs.Refusals.{outside, no_expression, no_type, tile_kind_name, no_tile, not_opened, open_fault_text};
+ghost use Rattle.style_program.specs.Refusals.{outside, no_expression, no_type, tile_kind_name, no_tile, not_opened};
+ghost use Rattle.style_program.specs.Refusals.{open_fault_text};
 ghost use Rattle.program_runs.specs.Progress.{outcome_of};
 
 use decimal_json::{write_path, write_text};

@@ -31,22 +31,28 @@ pub struct OpenedScript<'a> {
     pub script: Vec<u8>,
 }
 
-/// The style and the script of `replay` or `desk`. The script is read after the tiles, and the style is opened after that.
+/// The style and the script of `replay` or `desk`. The script is read after the tiles, and the style is opened after
+/// that.
 pub fn open_script<'a, F: Files>(
     alloc: Global,
     request: &ScriptRequest<'a>,
     files: &mut F,
 ) -> Result<OpenedScript<'a>, RunHalt<'a>>
     ensures told { F.told files.new ≡ F.told files.old }
-    ensures failed { OnOk result (NoneFailed (F.faults files.old) (F.faults files.new) (F.failed files.old) (F.failed files.new)) }
-    ensures sound { (images scripts : List ℕ → Bool) → IfOk result (λ opened. IsSoundSession opened.session images scripts) }
-    ensures on { (images scripts : List ℕ → Bool) (can_change : Bool) → IfOk result (λ opened. ComesTo (F.told files.old)
+    ensures failed { OnOk result
+        (NoneFailed (F.faults files.old) (F.faults files.new) (F.failed files.old) (F.failed files.new)) }
+    ensures sound { (images scripts : List ℕ → Bool)
+        → IfOk result (λ opened. IsSoundSession opened.session images scripts) }
+    ensures on { (images scripts : List ℕ → Bool) (can_change : Bool)
+        → IfOk result (λ opened. ComesTo (F.told files.old)
         (script_kind_run request.now.kind (script_words request.now) images scripts can_change)
         (opened_script_run images scripts can_change opened)
         (F.asked files.old) (F.asked files.new)) }
-    ensures halt { (images scripts : List ℕ → Bool) (can_change : Bool) → IfErr result (λ halt. HaltsAt (F.told files.old)
+    ensures halt { (images scripts : List ℕ → Bool) (can_change : Bool)
+        → IfErr result (λ halt. HaltsAt (F.told files.old)
         (script_kind_run request.now.kind (script_words request.now) images scripts can_change)
-        (F.faults files.old) (F.faults files.new) (F.failed files.old) (F.failed files.new) (F.asked files.old) (F.asked files.new) halt) }
+        (F.faults files.old) (F.faults files.new) (F.failed files.old) (F.failed files.new) (F.asked files.old)
+        (F.asked files.new) halt) }
 {
     let kind = request.kind;
     let shown = read_shown(alloc, &request.shown, files)?;

@@ -101,7 +101,8 @@ pub fn prepare_run<'a, F: Files, L: Ledger>(
     steps: &mut Steps<L>,
 ) -> Result<PreparedRun<'a>, RunStop<'a>>
     ensures told { F.told files.new ≡ F.told files.old }
-    ensures failed { OnOk result (NoneFailed (F.faults files.old) (F.faults files.new) (F.failed files.old) (F.failed files.new)) }
+    ensures failed { OnOk result
+        (NoneFailed (F.faults files.old) (F.faults files.new) (F.failed files.old) (F.failed files.new)) }
     ensures fileless { IsFileless
         (asked_run (test images.old) (test scripts.now) (changes images.old) (asked_by request.now))
         → files.new ≡ files.old }
@@ -111,7 +112,8 @@ pub fn prepare_run<'a, F: Files, L: Ledger>(
     ensures script { IfOk result (MayList (asked_by request.now)) }
     ensures stop { IfErr result (λ stop. IsStop (F.told files.old)
         (asked_run (test images.old) (test scripts.now) (changes images.old) (asked_by request.now))
-        (F.faults files.old) (F.faults files.new) (F.failed files.old) (F.failed files.new) (F.asked files.old) (F.asked files.new) stop) }
+        (F.faults files.old) (F.faults files.new) (F.failed files.old) (F.failed files.new) (F.asked files.old)
+        (F.asked files.new) stop) }
     ensures due { OnErr result (StepsAreDue (F.told files.old)
         (asked_run (test images.old) (test scripts.now) (changes images.old) (asked_by request.now))
         (F.asked files.old) (F.asked files.new) steps.old steps.new) }
@@ -134,18 +136,21 @@ fn prepare_answer<'a, F: Files>(
     scripts: &dyn HostOp,
 ) -> Result<PreparedRun<'a>, RunStop<'a>>
     ensures told { F.told files.new ≡ F.told files.old }
-    ensures failed { OnOk result (NoneFailed (F.faults files.old) (F.faults files.new) (F.failed files.old) (F.failed files.new)) }
+    ensures failed { OnOk result
+        (NoneFailed (F.faults files.old) (F.faults files.new) (F.failed files.old) (F.failed files.new)) }
     ensures fileless { IsFileless
         (asked_run (test images.old) (test scripts.now) (changes images.old) (answer_asked request.now))
         → files.new ≡ files.old }
     ensures run { (then_images : List ℕ → Bool) (then_changes : Bool) (steps : ℕ)
         → IfOk result (IsPrepared then_images (test scripts.now) then_changes
-        (F.told files.old) (asked_run (test images.old) (test scripts.now) (changes images.old) (answer_asked request.now))
+        (F.told files.old)
+        (asked_run (test images.old) (test scripts.now) (changes images.old) (answer_asked request.now))
         (F.asked files.old) (F.asked files.new) steps steps) }
     ensures script { IfOk result (MayList (answer_asked request.now)) }
     ensures stop { IfErr result (λ stop. IsStop (F.told files.old)
         (asked_run (test images.old) (test scripts.now) (changes images.old) (answer_asked request.now))
-        (F.faults files.old) (F.faults files.new) (F.failed files.old) (F.failed files.new) (F.asked files.old) (F.asked files.new) stop) }
+        (F.faults files.old) (F.faults files.new) (F.failed files.old) (F.failed files.new) (F.asked files.old)
+        (F.asked files.new) stop) }
 {
     match answer_to(alloc, request, files, images, scripts) {
         Ok(answer) => Ok(PreparedRun::Ended(answer)),
@@ -163,16 +168,20 @@ fn answer_to<'a, F: Files>(
     scripts: &dyn HostOp,
 ) -> Result<RunOutput, RunHalt<'a>>
     ensures told { F.told files.new ≡ F.told files.old }
-    ensures failed { OnOk result (NoneFailed (F.faults files.old) (F.faults files.new) (F.failed files.old) (F.failed files.new)) }
+    ensures failed { OnOk result
+        (NoneFailed (F.faults files.old) (F.faults files.new) (F.failed files.old) (F.failed files.new)) }
     ensures fileless { IsFileless
         (asked_run (test images.old) (test scripts.now) (changes images.old) (answer_asked request.now))
         → files.new ≡ files.old }
     ensures answer { IfOk result (λ answer.
-        HasOutcome (F.told files.old) (asked_run (test images.old) (test scripts.now) (changes images.old) (answer_asked request.now))
+        HasOutcome (F.told files.old)
+        (asked_run (test images.old) (test scripts.now) (changes images.old) (answer_asked request.now))
         (F.asked files.old) (F.asked files.new) (outcome_of answer)) }
     ensures halt { IfErr result (λ halt.
-        HaltsAt (F.told files.old) (asked_run (test images.old) (test scripts.now) (changes images.old) (answer_asked request.now))
-        (F.faults files.old) (F.faults files.new) (F.failed files.old) (F.failed files.new) (F.asked files.old) (F.asked files.new) halt) }
+        HaltsAt (F.told files.old)
+        (asked_run (test images.old) (test scripts.now) (changes images.old) (answer_asked request.now))
+        (F.faults files.old) (F.faults files.new) (F.failed files.old) (F.failed files.new) (F.asked files.old)
+        (F.asked files.new) halt) }
 {
     match request {
         AnswerRequest::Value(expression) => answer_value(alloc, expression, images, scripts),
@@ -196,7 +205,8 @@ fn prepare_listing<'a, F: Files, L: Ledger>(
     steps: &mut Steps<L>,
 ) -> Result<PreparedRun<'a>, RunStop<'a>>
     ensures told { F.told files.new ≡ F.told files.old }
-    ensures failed { OnOk result (NoneFailed (F.faults files.old) (F.faults files.new) (F.failed files.old) (F.failed files.new)) }
+    ensures failed { OnOk result
+        (NoneFailed (F.faults files.old) (F.faults files.new) (F.failed files.old) (F.failed files.new)) }
     ensures fileless { IsFileless
         (asked_run (test images.old) (test scripts.now) (changes images.old) (listing_asked request.now))
         → files.new ≡ files.old }
@@ -206,7 +216,8 @@ fn prepare_listing<'a, F: Files, L: Ledger>(
     ensures script { IfOk result (MayList (listing_asked request.now)) }
     ensures stop { IfErr result (λ stop. IsStop (F.told files.old)
         (asked_run (test images.old) (test scripts.now) (changes images.old) (listing_asked request.now))
-        (F.faults files.old) (F.faults files.new) (F.failed files.old) (F.failed files.new) (F.asked files.old) (F.asked files.new) stop) }
+        (F.faults files.old) (F.faults files.new) (F.failed files.old) (F.failed files.new) (F.asked files.old)
+        (F.asked files.new) stop) }
     ensures due { OnErr result (StepsAreDue (F.told files.old)
         (asked_run (test images.old) (test scripts.now) (changes images.old) (listing_asked request.now))
         (F.asked files.old) (F.asked files.new) steps.old steps.new) }
@@ -278,15 +289,18 @@ fn prepare_script<'a, F: Files>(
     files: &mut F,
 ) -> Result<PreparedRun<'a>, RunStop<'a>>
     ensures told { F.told files.new ≡ F.told files.old }
-    ensures failed { OnOk result (NoneFailed (F.faults files.old) (F.faults files.new) (F.failed files.old) (F.failed files.new)) }
+    ensures failed { OnOk result
+        (NoneFailed (F.faults files.old) (F.faults files.new) (F.failed files.old) (F.failed files.new)) }
     ensures run { (images scripts : List ℕ → Bool) (can_change : Bool) (steps : ℕ)
         → IfOk result (IsPrepared images scripts can_change (F.told files.old)
         (script_kind_run request.now.kind (script_words request.now) images scripts can_change)
         (F.asked files.old) (F.asked files.new) steps steps) }
     ensures script { IfOk result (MayList (Script request.now.kind (script_words request.now))) }
-    ensures stop { (images scripts : List ℕ → Bool) (can_change : Bool) → IfErr result (λ stop. IsStop (F.told files.old)
+    ensures stop { (images scripts : List ℕ → Bool) (can_change : Bool)
+        → IfErr result (λ stop. IsStop (F.told files.old)
         (script_kind_run request.now.kind (script_words request.now) images scripts can_change)
-        (F.faults files.old) (F.faults files.new) (F.failed files.old) (F.failed files.new) (F.asked files.old) (F.asked files.new) stop) }
+        (F.faults files.old) (F.faults files.new) (F.failed files.old) (F.failed files.new) (F.asked files.old)
+        (F.asked files.new) stop) }
 {
     match open_script(alloc, request, files) {
         Ok(script) => Ok(PreparedRun::Opened(OpenedRun::Script(script))),

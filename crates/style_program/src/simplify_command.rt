@@ -8,7 +8,8 @@ ghost use Rattle.program_runs.specs.Progress.{outcome_of, HaltsAt};
 ghost use Rattle.program_runs.specs.Runs.{HasOutcome};
 ghost use Rattle.style_simplify.specs.SimplifiedStyle.{never_passed, simplified};
 ghost use Rattle.style_rules.specs.CodeView.{finding_seen};
-ghost use Rattle.style_program.specs.SimplifyRun.{never_line, simplified_or_broken, simplified_text, simplify_outcome, simplify_run};
+ghost use Rattle.style_program.specs.SimplifyRun.{never_line, simplified_or_broken, simplified_text, simplify_outcome};
+ghost use Rattle.style_program.specs.SimplifyRun.{simplify_run};
 
 use crate::style_file::STYLE_LIMIT;
 use crate::validate_command::answer_broken;
@@ -19,19 +20,21 @@ use std::alloc::{AllocError, Global};
 use style_rules::{Finding, findings};
 use style_simplify::simplify;
 
-/// A simplified style and the filters that no feature passes, or the rules that it breaks. The style is of `STYLE_LIMIT` bytes
-/// at most.
+/// A simplified style and the filters that no feature passes, or the rules that it breaks. The style is of
+/// `STYLE_LIMIT` bytes at most.
 pub fn answer_simplify<'a, F: Files>(
     alloc: Global,
     name: &'a str,
     files: &mut F,
 ) -> Result<RunOutput, RunHalt<'a>>
     ensures told { F.told files.new ≡ F.told files.old }
-    ensures failed { OnOk result (NoneFailed (F.faults files.old) (F.faults files.new) (F.failed files.old) (F.failed files.new)) }
+    ensures failed { OnOk result
+        (NoneFailed (F.faults files.old) (F.faults files.new) (F.failed files.old) (F.failed files.new)) }
     ensures answer { IfOk result (λ answer. HasOutcome (F.told files.old) (simplify_run name.now)
         (F.asked files.old) (F.asked files.new) (outcome_of answer)) }
     ensures halt { IfErr result (λ halt. HaltsAt (F.told files.old) (simplify_run name.now)
-        (F.faults files.old) (F.faults files.new) (F.failed files.old) (F.failed files.new) (F.asked files.old) (F.asked files.new) halt) }
+        (F.faults files.old) (F.faults files.new) (F.failed files.old) (F.failed files.new) (F.asked files.old)
+        (F.asked files.new) halt) }
 {
     let style = read_json(alloc, &Subject::Style, name, STYLE_LIMIT, files)?;
     Ok(answer_style(alloc, &style)?)
@@ -45,7 +48,8 @@ fn answer_style(alloc: Global, style: &Json) -> Result<RunOutput, AllocError>
 }
 
 fn answer_found(alloc: Global, style: &Json, found: &[Finding]) -> Result<RunOutput, AllocError>
-    ensures { IfOk result (λ answer. outcome_of answer ≡ simplified_or_broken (map finding_seen found.now) (tree_of style.now)) }
+    ensures { IfOk result
+        (λ answer. outcome_of answer ≡ simplified_or_broken (map finding_seen found.now) (tree_of style.now)) }
 {
     match found {
         [] => answer_simplified(alloc, style),

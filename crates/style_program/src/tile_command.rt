@@ -14,18 +14,21 @@ use std::alloc::{AllocError, Global};
 use tile_listing::write_tile;
 use tile_reader::read_tile;
 
-/// The layers of a tile with their features and properties, or why it is refused. The tile is of `TILE_LIMIT` bytes at most.
+/// The layers of a tile with their features and properties, or why it is refused. The tile is of `TILE_LIMIT` bytes at
+/// most.
 pub fn answer_tile<'a, F: Files>(
     alloc: Global,
     name: &'a str,
     files: &mut F,
 ) -> Result<RunOutput, RunHalt<'a>>
     ensures told { F.told files.new ≡ F.told files.old }
-    ensures failed { OnOk result (NoneFailed (F.faults files.old) (F.faults files.new) (F.failed files.old) (F.failed files.new)) }
+    ensures failed { OnOk result
+        (NoneFailed (F.faults files.old) (F.faults files.new) (F.failed files.old) (F.failed files.new)) }
     ensures answer { IfOk result (λ answer. HasOutcome (F.told files.old) (tile_run name.now)
         (F.asked files.old) (F.asked files.new) (outcome_of answer)) }
     ensures halt { IfErr result (λ halt. HaltsAt (F.told files.old) (tile_run name.now)
-        (F.faults files.old) (F.faults files.new) (F.failed files.old) (F.failed files.new) (F.asked files.old) (F.asked files.new) halt) }
+        (F.faults files.old) (F.faults files.new) (F.failed files.old) (F.failed files.new) (F.asked files.old)
+        (F.asked files.new) halt) }
 {
     let bytes = read_file(alloc, &Subject::Tile(name, 0), name, TILE_LIMIT, files)?;
     Ok(answer_bytes(alloc, name, bytes.as_slice())?)

@@ -21,8 +21,8 @@ use std::alloc::Global;
 use std::sync::ledger::Ledger;
 use typing_laws::faults_are_listed;
 
-/// Does what the words after the program's name ask for: reads from `files`, writes to `out` and `err`, counts the steps
-/// of evaluations in `steps`, and answers how the run ended.
+/// Does what the words after the program's name ask for: reads from `files`, writes to `out` and `err`, counts the
+/// steps of evaluations in `steps`, and answers how the run ended.
 ///
 /// `images` and `scripts` are the tests that expressions ask. Nothing is written before all reading is done. The
 /// listing of `eval` is written piece by piece while it is made, and the answer to each line of a script before the
@@ -47,7 +47,8 @@ pub fn run_style<F: Files, O: Sink, E: Sink, L: Ledger>(
         (files.new ≡ files.old) }
 
     // Where `value` ends in a fault, typing had listed it.
-    ensures listed { result ≡ Status.Found → ListsItsFault (test images) (test scripts) (asked (map string_bytes words.now)) }
+    ensures listed { result ≡ Status.Found
+        → ListsItsFault (test images) (test scripts) (asked (map string_bytes words.now)) }
 
     // No read changes the known contents of files, and a command that lists nothing counts no step.
     ensures told { F.told files.new ≡ F.told files.old }
@@ -79,14 +80,16 @@ fn run_words<F: Files, O: Sink, E: Sink, L: Ledger>(
     steps: &mut Steps<L>,
 ) -> Status
     ensures promises { KeepsPromises (F.told files.old)
-        (run_of (test images.old) (test call.entry.scripts.now) (changes images.old) (map string_bytes call.entry.words.now)) result
+        (run_of (test images.old) (test call.entry.scripts.now) (changes images.old)
+        (map string_bytes call.entry.words.now)) result
         (outside (F.faults files.old) (F.failed files.old) (F.asked files.old) (O.held out.old) (O.faults out.old)
         (E.held err.old) (E.faults err.old) steps.old)
         (outside (F.faults files.new) (F.failed files.new) (F.asked files.new) (O.held out.new) (O.faults out.new)
         (E.held err.new) (E.faults err.new) steps.new)
         (files.new ≡ files.old) }
     ensures listed { result ≡ Status.Found
-        → ListsItsFault (test images.old) (test call.entry.scripts.now) (asked (map string_bytes call.entry.words.now)) }
+        → ListsItsFault (test images.old) (test call.entry.scripts.now)
+        (asked (map string_bytes call.entry.words.now)) }
     ensures told { F.told files.new ≡ F.told files.old }
     ensures steps { lists_cells (asked (map string_bytes call.entry.words.now)) ≡ false → steps.new ≡ steps.old }
 {
@@ -123,7 +126,8 @@ fn prepared<'a, F: Files, L: Ledger>(
     steps: &mut Steps<L>,
 ) -> Result<PreparedRun<'a>, RunStop<'a>>
     ensures told { F.told files.new ≡ F.told files.old }
-    ensures failed { OnOk result (NoneFailed (F.faults files.old) (F.faults files.new) (F.failed files.old) (F.failed files.new)) }
+    ensures failed { OnOk result
+        (NoneFailed (F.faults files.old) (F.faults files.new) (F.failed files.old) (F.failed files.new)) }
     ensures fileless { IsFileless
         (run_of (test images.old) (test scripts.now) (changes images.old) (map string_bytes words.now))
         → files.new ≡ files.old }
@@ -133,7 +137,8 @@ fn prepared<'a, F: Files, L: Ledger>(
     ensures script { IfOk result (MayList (asked (map string_bytes words.now))) }
     ensures stop { IfErr result (λ stop. IsStop (F.told files.old)
         (run_of (test images.old) (test scripts.now) (changes images.old) (map string_bytes words.now))
-        (F.faults files.old) (F.faults files.new) (F.failed files.old) (F.failed files.new) (F.asked files.old) (F.asked files.new) stop) }
+        (F.faults files.old) (F.faults files.new) (F.failed files.old) (F.failed files.new) (F.asked files.old)
+        (F.asked files.new) stop) }
     ensures due { OnErr result (StepsAreDue (F.told files.old)
         (run_of (test images.old) (test scripts.now) (changes images.old) (map string_bytes words.now))
         (F.asked files.old) (F.asked files.new) steps.old steps.new) }

@@ -7,7 +7,8 @@ ghost use Rattle.program_runs.specs.Outcome.{said};
 ghost use Rattle.program_runs.specs.Progress.{outcome_of, HaltsAt};
 ghost use Rattle.program_runs.specs.Runs.{HasOutcome};
 ghost use Rattle.style_rules.specs.CodeView.{finding_seen, may_seen};
-ghost use Rattle.style_program.specs.ValidateRun.{validate_run, validate_outcome, outcome_by, broken_text, sound_text, finding_line, note_line, may_line, fault_word};
+ghost use Rattle.style_program.specs.ValidateRun.{validate_run, validate_outcome, outcome_by, broken_text, sound_text};
+ghost use Rattle.style_program.specs.ValidateRun.{finding_line, note_line, may_line, fault_word};
 
 use crate::style_file::STYLE_LIMIT;
 use decimal_json::{Json, Path, write_path};
@@ -26,11 +27,13 @@ pub fn answer_validate<'a, F: Files>(
     files: &mut F,
 ) -> Result<RunOutput, RunHalt<'a>>
     ensures told { F.told files.new ≡ F.told files.old }
-    ensures failed { OnOk result (NoneFailed (F.faults files.old) (F.faults files.new) (F.failed files.old) (F.failed files.new)) }
+    ensures failed { OnOk result
+        (NoneFailed (F.faults files.old) (F.faults files.new) (F.failed files.old) (F.failed files.new)) }
     ensures answer { IfOk result (λ answer. HasOutcome (F.told files.old) (validate_run name.now)
         (F.asked files.old) (F.asked files.new) (outcome_of answer)) }
     ensures halt { IfErr result (λ halt. HaltsAt (F.told files.old) (validate_run name.now)
-        (F.faults files.old) (F.faults files.new) (F.failed files.old) (F.failed files.new) (F.asked files.old) (F.asked files.new) halt) }
+        (F.faults files.old) (F.faults files.new) (F.failed files.old) (F.failed files.new) (F.asked files.old)
+        (F.asked files.new) halt) }
 {
     let style = read_json(alloc, &Subject::Style, name, STYLE_LIMIT, files)?;
     Ok(answer_style(alloc, &style)?)
@@ -55,7 +58,8 @@ fn answer_report(alloc: Global, report: &Report) -> Result<RunOutput, AllocError
 
 /// The lines of findings, and `invalid`.
 pub(crate) fn answer_broken(alloc: Global, findings: &[Finding]) -> Result<RunOutput, AllocError>
-    ensures { IfOk result (λ answer. outcome_of answer ≡ said (broken_text (map finding_seen findings.now)) Ending.Found) }
+    ensures { IfOk result
+        (λ answer. outcome_of answer ≡ said (broken_text (map finding_seen findings.now)) Ending.Found) }
 {
     let mut out = Vec::new(alloc);
     write_findings(findings, &mut out)?;
@@ -68,7 +72,8 @@ fn answer_sound(
     outside: &[Path],
     may_lines: &[MayLine],
 ) -> Result<RunOutput, AllocError>
-    ensures { IfOk result (λ answer. outcome_of answer ≡ said (sound_text outside.now (map may_seen may_lines.now)) Ending.Fine) }
+    ensures { IfOk result
+        (λ answer. outcome_of answer ≡ said (sound_text outside.now (map may_seen may_lines.now)) Ending.Fine) }
 {
     let mut out = Vec::new(alloc);
     write_notes(outside, &mut out)?;

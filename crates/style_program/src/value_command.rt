@@ -28,8 +28,10 @@ pub fn answer_value<'a>(
 ) -> Result<RunOutput, RunHalt<'a>>
     ensures answer { (files : List ℕ → Option (List ℕ)) (asked : List (List ℕ)) → IfOk result (λ answer.
         HasOutcome files (value_run (test images.now) (test scripts.now) text.now) asked asked (outcome_of answer)) }
-    ensures halt { (files : List ℕ → Option (List ℕ)) (count : ℕ) (failed : Option (List ℕ)) (asked : List (List ℕ)) → IfErr result (λ halt.
-        HaltsAt files (value_run (test images.now) (test scripts.now) text.now) count count failed failed asked asked halt) }
+    ensures halt { (files : List ℕ → Option (List ℕ)) (count : ℕ) (failed : Option (List ℕ)) (asked : List (List ℕ))
+        → IfErr result (λ halt.
+        HaltsAt files (value_run (test images.now) (test scripts.now) text.now) count count failed failed asked
+        asked halt) }
 {
     let json = parse_json(alloc, &Subject::Expression, text.as_bytes())?;
     let read = read_expr(alloc, &json)?;
@@ -43,7 +45,8 @@ fn answer_expression(
     images: &dyn HostOp,
     scripts: &dyn HostOp,
 ) -> Result<RunOutput, AllocError>
-    ensures { IfOk result (λ answer. outcome_of answer ≡ expression_outcome (test images.now) (test scripts.now) (reading_of read)) }
+    ensures { IfOk result
+        (λ answer. outcome_of answer ≡ expression_outcome (test images.now) (test scripts.now) (reading_of read)) }
 {
     match read {
         Ok(Reading::Inside(expression)) => {

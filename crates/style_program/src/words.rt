@@ -2,7 +2,9 @@
 
 ghost use Rattle.std.specs.Prelude.{◌≡◌, ◌≤◌, length, map, string_bytes, option_map, Ok, IfOk, nat_eq, if◌then◌else◌};
 ghost use Rattle.fixed_num.specs.Decimal.{read_text};
-ghost use Rattle.style_program.specs.Words.{asked, asked_alone, asked_command, asked_lint, asked_of_one, asked_of_more, asked_styles, asked_with, asked_with_script, features_named, shown_words, source_and_tile, tiles_named, are_allowed, count_of};
+ghost use Rattle.style_program.specs.Words.{asked, asked_alone, asked_command, asked_lint, asked_of_one, asked_of_more};
+ghost use Rattle.style_program.specs.Words.{asked_styles, asked_with, asked_with_script, features_named, shown_words};
+ghost use Rattle.style_program.specs.Words.{source_and_tile, tiles_named, are_allowed, count_of};
 ghost use Rattle.style_program.specs.WordsView.{answer_asked, asked_by, eval_words, tile_word};
 
 use crate::value_command::zero;

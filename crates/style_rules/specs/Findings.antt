@@ -1,12 +1,15 @@
 -- The findings of a document, and what is reported of a document without findings.
 use Rattle.std.specs.Prelude.{ℕ, ◌+◌, List, [], ◌∷◌, ◌++◌, Bool, if◌then◌else◌}
 use Rattle.std.specs.List.{list_any}
-use Rattle.decimal_json.specs.Tree.{Tree, null, boolean, number, text, list, object, Trees, no_trees, tree, Fields, no_fields, field}
+use Rattle.decimal_json.specs.Tree.{Tree, null, boolean, number, text, list, object, Trees, no_trees, tree, Fields}
+use Rattle.decimal_json.specs.Tree.{no_fields, field}
 use Rattle.decimal_json.specs.declared.paths.PathPart.{PathPart}
 use Rattle.decimal_json.specs.declared.paths.PathPart.TheVariants.{Key, Index}
 use Rattle.prop_values.specs.Faults.{holds}
 use Rattle.prop_values.specs.declared.fault.EvalFault.{EvalFault}
-use Rattle.prop_values.specs.declared.fault.EvalFault.TheVariants.{WrongType, NotColor, NotNumberText, IndexOutside, IndexNotWhole, DivideByZero, Overflow, ColorRange, NotOrdered, NotInEnum}
+use Rattle.prop_values.specs.declared.fault.EvalFault.TheVariants.{WrongType, NotColor, NotNumberText, IndexOutside}
+use Rattle.prop_values.specs.declared.fault.EvalFault.TheVariants.{IndexNotWhole, DivideByZero, Overflow, ColorRange}
+use Rattle.prop_values.specs.declared.fault.EvalFault.TheVariants.{NotOrdered, NotInEnum}
 use Rattle.prop_values.specs.declared.fault.FaultSet.{FaultSet}
 use Rattle.style_rules.specs.Places.{mark_at}
 use Rattle.style_rules.specs.declared.diagnostics.Mark.{Mark}
@@ -73,7 +76,8 @@ notes document = notes_in (reports document)
 
 -- in order of number
 abbrev pub every_fault : List EvalFault
-every_fault = WrongType ∷ NotColor ∷ NotNumberText ∷ IndexOutside ∷ IndexNotWhole ∷ DivideByZero ∷ Overflow ∷ ColorRange ∷ NotOrdered ∷ NotInEnum ∷ []
+every_fault = WrongType ∷ NotColor ∷ NotNumberText ∷ IndexOutside ∷ IndexNotWhole ∷ DivideByZero ∷ Overflow ∷
+    ColorRange ∷ NotOrdered ∷ NotInEnum ∷ []
 
 abbrev pub has_faults : FaultSet → Bool
 has_faults fs = list_any (holds fs) every_fault

@@ -8,7 +8,8 @@ use Rattle.property_tables.specs.declared.property_row.Place.TheVariants as plac
 use Rattle.value_forms.specs.LayerTypes.{tested_type}
 use Rattle.style_rules.specs.Findings.{reports_or}
 use Rattle.style_rules.specs.LayerContext.{LayerContext}
-use Rattle.style_rules.specs.Levels.{fields_reports, fields_or_none, items_or_none, named_reports, layers_reports, property_reports}
+use Rattle.style_rules.specs.Levels.{fields_reports, fields_or_none, items_or_none, named_reports, layers_reports}
+use Rattle.style_rules.specs.Levels.{property_reports}
 use Rattle.style_rules.specs.Places.{least_broken, unless_broken, properties_mark, used_in}
 use Rattle.style_rules.specs.Rules
 use Rattle.style_rules.specs.Values.{filter_mark}
@@ -42,21 +43,31 @@ member_key key =
 -- of a member of the document, by its `sources`
 abbrev pub root_keyed_reports : Option Fields → RootKey → List PathPart → Tree → List Diagnostic
 root_keyed_reports sources roots.Version path t = reports_or (unless_broken 3 (Rules.is_version_8 t)) path []
-root_keyed_reports sources roots.Sources path t = reports_or (unless_broken 4 (Rules.are_sources t)) path (fields_reports (named_reports (codes "sources") path) (fields_or_none t))
-root_keyed_reports sources roots.Layers path t = reports_or (unless_broken 5 (Rules.are_layers t)) path (layers_reports sources (used_in (items_or_none t)) path 0 (items_or_none t))
-root_keyed_reports sources roots.State path t = reports_or (unless_broken 22 (Rules.are_globals t)) path (fields_reports (named_reports (codes "state") path) (fields_or_none t))
+root_keyed_reports sources roots.Sources path t =
+    reports_or (unless_broken 4 (Rules.are_sources t)) path
+    (fields_reports (named_reports (codes "sources") path) (fields_or_none t))
+root_keyed_reports sources roots.Layers path t =
+    reports_or (unless_broken 5 (Rules.are_layers t)) path
+    (layers_reports sources (used_in (items_or_none t)) path 0 (items_or_none t))
+root_keyed_reports sources roots.State path t =
+    reports_or (unless_broken 22 (Rules.are_globals t)) path
+    (fields_reports (named_reports (codes "state") path) (fields_or_none t))
 root_keyed_reports sources roots.Other path t = []
 
 abbrev pub placed_reports : LayerContext → Place → List PathPart → Tree → List Diagnostic
 placed_reports context place path t =
-    reports_or (properties_mark (tested_type context.type) t) path (fields_reports (property_reports (tested_type context.type) (Some place) path) (fields_or_none t))
+    reports_or (properties_mark (tested_type context.type) t) path
+    (fields_reports (property_reports (tested_type context.type) (Some place) path) (fields_or_none t))
 
 -- of a member of a layer, by the ids of the layers before
 abbrev pub keyed_reports : LayerContext → (List ℕ → Bool) → MemberKey → List PathPart → Tree → List Diagnostic
-keyed_reports context used members.Id path t = reports_or (least_broken ((7, Rules.is_id t) ∷ (8, Rules.is_new_id used t) ∷ [])) path []
+keyed_reports context used members.Id path t =
+    reports_or (least_broken ((7, Rules.is_id t) ∷ (8, Rules.is_new_id used t) ∷ [])) path []
 keyed_reports context used members.Type path t = reports_or (unless_broken 9 (Rules.is_type t)) path []
-keyed_reports context used members.Source path t = reports_or (least_broken ((10, Rules.is_source_name context t) ∷ (11, Rules.has_such_source context) ∷ [])) path []
-keyed_reports context used members.SourceLayer path t = reports_or (unless_broken 12 (Rules.is_source_layer context t)) path []
+keyed_reports context used members.Source path t =
+    reports_or (least_broken ((10, Rules.is_source_name context t) ∷ (11, Rules.has_such_source context) ∷ [])) path []
+keyed_reports context used members.SourceLayer path t =
+    reports_or (unless_broken 12 (Rules.is_source_layer context t)) path []
 keyed_reports context used members.ZoomLimit path t = reports_or (unless_broken 13 (Rules.is_zoom_limit t)) path []
 keyed_reports context used members.Layout path t = placed_reports context places.Layout path t
 keyed_reports context used members.Paint path t = placed_reports context places.Paint path t

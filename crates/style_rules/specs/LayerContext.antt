@@ -9,7 +9,8 @@ use Rattle.value_forms.specs.LayerTypes.{layer_type, is_background}
 
 -- the types of sources
 abbrev pub source_types : List (List ℕ)
-source_types = codes "vector" ∷ codes "raster" ∷ codes "raster-dem" ∷ codes "geojson" ∷ codes "image" ∷ codes "video" ∷ []
+source_types = codes "vector" ∷ codes "raster" ∷ codes "raster-dem" ∷ codes "geojson" ∷ codes "image" ∷
+    codes "video" ∷ []
 
 -- a member of `sources` that is well formed
 abbrev pub is_source : Tree → Bool

@@ -1,7 +1,8 @@
 -- What is reported of a document, level by level, as the code walks it. It is what `reports` of Findings gives.
 use Rattle.std.specs.Prelude.{◌≡◌, ℕ, ◌+◌, List, [], ◌∷◌, ◌++◌, codes, Bool, ◌||◌, Option, Some, None, if◌then◌else◌}
 use Rattle.std.specs.Str.{bytes_eq}
-use Rattle.decimal_json.specs.Tree.{members_of, Tree, list, object, Trees, no_trees, tree, Fields, no_fields, field, fields_of}
+use Rattle.decimal_json.specs.Tree.{members_of, Tree, list, object, Trees, no_trees, tree, Fields, no_fields, field}
+use Rattle.decimal_json.specs.Tree.{fields_of}
 use Rattle.decimal_json.specs.Sound.{HasDistinctKeys}
 use Rattle.decimal_json.specs.declared.paths.PathPart.{PathPart}
 use Rattle.decimal_json.specs.declared.paths.PathPart.TheVariants.{Key, Index}
@@ -12,7 +13,8 @@ use Rattle.style_parts.specs.Parts.{sources_of, layers_of, is_layers}
 use Rattle.value_forms.specs.LayerTypes.{tested_type, place_named}
 use Rattle.style_rules.specs.Findings.{reports_or, reports}
 use Rattle.style_rules.specs.LayerContext.{LayerContext, context_of}
-use Rattle.style_rules.specs.Places.{root_mark, root_member_mark, named_mark, layer_mark, member_mark, property_mark, used_in}
+use Rattle.style_rules.specs.Places.{root_mark, root_member_mark, named_mark, layer_mark, member_mark, property_mark}
+use Rattle.style_rules.specs.Places.{used_in}
 use Rattle.style_rules.specs.declared.diagnostics.Diagnostic.{Diagnostic}
 
 -- what is reported of each member of an object
@@ -33,15 +35,19 @@ abbrev pub property_reports : Option LayerType → Option Place → List PathPar
 property_reports tested place path name t = reports_or (property_mark tested place name t) (path ++ Key name ∷ []) []
 
 abbrev pub member_below : LayerContext → Option Place → List PathPart → Tree → List Diagnostic
-member_below context (Some place) path t = fields_reports (property_reports (tested_type context.type) (Some place) path) (fields_or_none t)
+member_below context (Some place) path t =
+    fields_reports (property_reports (tested_type context.type) (Some place) path) (fields_or_none t)
 member_below context None path t = []
 
 abbrev pub member_reports : LayerContext → (List ℕ → Bool) → List PathPart → List ℕ → Tree → List Diagnostic
 member_reports context used path m t =
-    reports_or (member_mark context used m t) (path ++ Key m ∷ []) (member_below context (place_named m) (path ++ Key m ∷ []) t)
+    reports_or (member_mark context used m t) (path ++ Key m ∷ [])
+    (member_below context (place_named m) (path ++ Key m ∷ []) t)
 
 abbrev pub context_reports : LayerContext → (List ℕ → Bool) → List PathPart → Tree → List Diagnostic
-context_reports context used path layer = reports_or (layer_mark context layer) path (fields_reports (member_reports context used path) (fields_or_none layer))
+context_reports context used path layer =
+    reports_or (layer_mark context layer) path
+    (fields_reports (member_reports context used path) (fields_or_none layer))
 
 abbrev pub layer_reports : Option Fields → (List ℕ → Bool) → List PathPart → Tree → List Diagnostic
 layer_reports sources used path layer = context_reports (context_of sources layer) used path layer
@@ -56,15 +62,19 @@ named_reports key path name t = reports_or (named_mark key t) (path ++ Key name 
 
 abbrev pub root_member_below : Tree → List ℕ → List PathPart → Tree → List Diagnostic
 root_member_below document k path t =
-    if is_layers k then layers_reports (sources_of document) (used_in (layers_of document)) path 0 (items_or_none t) else
-    if bytes_eq k (codes "sources") || bytes_eq k (codes "state") then fields_reports (named_reports k path) (fields_or_none t) else
+    if is_layers k then layers_reports (sources_of document) (used_in (layers_of document)) path 0
+    (items_or_none t) else
+    if bytes_eq k (codes "sources") || bytes_eq k (codes "state")
+    then fields_reports (named_reports k path) (fields_or_none t) else
     []
 
 abbrev pub root_member_reports : Tree → List ℕ → Tree → List Diagnostic
-root_member_reports document k t = reports_or (root_member_mark k t) (Key k ∷ []) (root_member_below document k (Key k ∷ []) t)
+root_member_reports document k t =
+    reports_or (root_member_mark k t) (Key k ∷ []) (root_member_below document k (Key k ∷ []) t)
 
 abbrev pub document_reports : Tree → List Diagnostic
-document_reports document = reports_or (root_mark document) [] (fields_reports (root_member_reports document) (fields_or_none document))
+document_reports document =
+    reports_or (root_mark document) [] (fields_reports (root_member_reports document) (fields_or_none document))
 
 -- each pair is a member of the tree
 abbrev pub AreMembers : Tree → List (List ℕ × Tree) → Type 0
@@ -79,4 +89,6 @@ HasDistinctMembers _ = Unit {0}
 
 -- The walk goes by these levels, where the keys of the root differ.
 abbrev pub WalksByLevels : Type 0
-WalksByLevels = (members : List (List ℕ × Tree)) → HasDistinctKeys members → reports (object (fields_of members)) ≡ document_reports (object (fields_of members))
+WalksByLevels =
+    (members : List (List ℕ × Tree)) → HasDistinctKeys members →
+    reports (object (fields_of members)) ≡ document_reports (object (fields_of members))

@@ -1,6 +1,7 @@
 -- What is reported of each place of a document, by its path. Of two rules that a place breaks the lesser
 -- counts.
-use Rattle.std.specs.Prelude.{ℕ, zero, suc, ◌-◌, List, length, take, drop, [], ◌∷◌, codes, Bool, false, ◌||◌, Option, Some, None, is_some, if◌then◌else◌}
+use Rattle.std.specs.Prelude.{ℕ, zero, suc, ◌-◌, List, length, take, drop, [], ◌∷◌, codes, Bool, false, ◌||◌, Option}
+use Rattle.std.specs.Prelude.{Some, None, is_some, if◌then◌else◌}
 use Rattle.std.specs.Str.{bytes_eq}
 use Rattle.std.specs.Option.{option_and_then}
 use Rattle.decimal_json.specs.Tree.{Tree, Trees, no_trees, tree}
@@ -66,10 +67,13 @@ abbrev pub member_mark : LayerContext → (List ℕ → Bool) → List ℕ → T
 member_mark context used key t =
     if bytes_eq key (codes "id") then least_broken ((7, Rules.is_id t) ∷ (8, Rules.is_new_id used t) ∷ []) else
     if bytes_eq key (codes "type") then unless_broken 9 (Rules.is_type t) else
-    if bytes_eq key (codes "source") then least_broken ((10, Rules.is_source_name context t) ∷ (11, Rules.has_such_source context) ∷ []) else
+    if bytes_eq key (codes "source")
+    then least_broken ((10, Rules.is_source_name context t) ∷ (11, Rules.has_such_source context) ∷ []) else
     if bytes_eq key (codes "source-layer") then unless_broken 12 (Rules.is_source_layer context t) else
-    if bytes_eq key (codes "minzoom") || bytes_eq key (codes "maxzoom") then unless_broken 13 (Rules.is_zoom_limit t) else
-    if bytes_eq key (codes "layout") || bytes_eq key (codes "paint") then properties_mark (tested_type context.type) t else
+    if bytes_eq key (codes "minzoom") || bytes_eq key (codes "maxzoom")
+    then unless_broken 13 (Rules.is_zoom_limit t) else
+    if bytes_eq key (codes "layout") || bytes_eq key (codes "paint")
+    then properties_mark (tested_type context.type) t else
     if bytes_eq key (codes "filter") then filter_mark t else
     Nothing
 
@@ -81,12 +85,14 @@ transition_suffix = codes "-transition"
 
 abbrev pub before_suffix : List ℕ → List ℕ → Option (List ℕ)
 before_suffix suffix name =
-    if bytes_eq (drop (length name - length suffix) name) suffix then Some (take (length name - length suffix) name) else None
+    if bytes_eq (drop (length name - length suffix) name) suffix
+    then Some (take (length name - length suffix) name) else None
 
 -- a transition of a row of `paint`
 abbrev pub is_transition_name : LayerType → Place → List ℕ → Bool
 is_transition_name type Layout name = false
-is_transition_name type Paint name = is_some (option_and_then (row_of type Paint) (before_suffix transition_suffix name))
+is_transition_name type Paint name =
+    is_some (option_and_then (row_of type Paint) (before_suffix transition_suffix name))
 
 -- V14: a name is that of a row, an unread one, or that of a transition
 abbrev pub unnamed_mark : LayerType → Place → List ℕ → Tree → Mark

@@ -1,6 +1,7 @@
 -- The rules on a document but for those on the values of properties and on filters, in their order. Each is a
 -- test, which holds where the rule does not apply. Source: own.
-use Rattle.std.specs.Prelude.{ℕ, suc, pos, List, [], ◌∷◌, codes, nat_le, Bool, true, false, ◌&&◌, ◌||◌, not, Option, Some, None, is_some, Result, Ok, Err}
+use Rattle.std.specs.Prelude.{ℕ, suc, pos, List, [], ◌∷◌, codes, nat_le, Bool, true, false, ◌&&◌, ◌||◌, not, Option}
+use Rattle.std.specs.Prelude.{Some, None, is_some, Result, Ok, Err}
 use Rattle.decimal_json.specs.Tree.{Tree, list, Trees, no_trees, tree, Fields, field_at}
 use Rattle.decimal_json.specs.Accessors.{member, has, is_object, is_text, text_in}
 use Rattle.prop_values.specs.Data.{Data}

@@ -1,6 +1,7 @@
 -- What is reported of the value of a property or a filter: that it breaks a rule, that it is outside, or
 -- which faults its evaluation may have.
-use Rattle.std.specs.Prelude.{ℕ, [], Bool, ◌&&◌, ◌||◌, not, Option, Some, None, is_some, is_none, Ok, Err, if◌then◌else◌}
+use Rattle.std.specs.Prelude.{ℕ, [], Bool, ◌&&◌, ◌||◌, not, Option, Some, None, is_some, is_none, Ok, Err}
+use Rattle.std.specs.Prelude.{if◌then◌else◌}
 use Rattle.decimal_json.specs.Tree.{Tree}
 use Rattle.prop_values.specs.Faults.{no_faults}
 use Rattle.prop_values.specs.declared.fault.FaultSet.{FaultSet}

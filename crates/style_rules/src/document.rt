@@ -8,9 +8,11 @@ ghost use Rattle.style_parts.specs.Parts.{sources_of, is_id_of};
 ghost use Rattle.style_rules.specs.CodeView.{fields_at, has_name};
 ghost use Rattle.style_rules.specs.Findings.{reports, reports_or};
 ghost use Rattle.style_rules.specs.Keys.{root_keyed_reports};
-ghost use Rattle.style_rules.specs.Levels.{AreMembers, root_member_reports, fields_reports, named_reports, layers_reports, fields_or_none, items_or_none};
+ghost use Rattle.style_rules.specs.Levels.{AreMembers, root_member_reports, fields_reports, named_reports};
+ghost use Rattle.style_rules.specs.Levels.{layers_reports, fields_or_none, items_or_none};
 ghost use Rattle.style_rules.specs.Places.{unless_broken, used_in};
-ghost use Rattle.style_rules.specs.Rules.{has_root_members, is_version_8, are_sources, are_globals, is_global, are_layers, is_new_id, is_transition};
+ghost use Rattle.style_rules.specs.Rules.{has_root_members, is_version_8, are_sources, are_globals, is_global};
+ghost use Rattle.style_rules.specs.Rules.{are_layers, is_new_id, is_transition};
 
 use crate::diagnostics::Diagnostics;
 use crate::keys::{RootKey, root_key};
@@ -70,7 +72,8 @@ fn report_root_members<'x>(
 ) -> Result<(), AllocError>
     requires sources { fields_at sources ≡ sources_of (object (fields_of root.now)) }
     requires members { AreMembers (object (fields_of root.now)) (members_view members.now) }
-    ensures { OnOk result (reports.new ≡ reports.old ++ fields_reports (root_member_reports (object (fields_of root.now))) (fields members.now)) }
+    ensures { OnOk result (reports.new
+        ≡ reports.old ++ fields_reports (root_member_reports (object (fields_of root.now))) (fields members.now)) }
 {
     for member in members {
         report_root_member(alloc, reports, root, sources, member)?;
@@ -141,7 +144,8 @@ fn report_sources<'x>(
     sources: &'x Json,
     here: &'x Here<'x>,
 ) -> Result<(), AllocError>
-    ensures { OnOk result (reports.new ≡ reports.old ++ reports_or (unless_broken 4 (are_sources (tree_of sources.now))) (path_of here.now)
+    ensures { OnOk result (reports.new
+        ≡ reports.old ++ reports_or (unless_broken 4 (are_sources (tree_of sources.now))) (path_of here.now)
         (fields_reports (named_reports (codes "sources") (path_of here.now)) (fields_or_none (tree_of sources.now)))) }
 {
     match sources {
@@ -156,7 +160,8 @@ fn report_each_source<'x>(
     sources: &'x [Member],
     here: &'x Here<'x>,
 ) -> Result<(), AllocError>
-    ensures { OnOk result (reports.new ≡ reports.old ++ fields_reports (named_reports (codes "sources") (path_of here.now)) (fields sources.now)) }
+    ensures { OnOk result (reports.new
+        ≡ reports.old ++ fields_reports (named_reports (codes "sources") (path_of here.now)) (fields sources.now)) }
 {
     for source in sources {
         let there = Here::Key(source.key.as_str(), here);
@@ -171,7 +176,8 @@ fn report_globals<'x>(
     globals: &'x Json,
     here: &'x Here<'x>,
 ) -> Result<(), AllocError>
-    ensures { OnOk result (reports.new ≡ reports.old ++ reports_or (unless_broken 22 (are_globals (tree_of globals.now))) (path_of here.now)
+    ensures { OnOk result (reports.new
+        ≡ reports.old ++ reports_or (unless_broken 22 (are_globals (tree_of globals.now))) (path_of here.now)
         (fields_reports (named_reports (codes "state") (path_of here.now)) (fields_or_none (tree_of globals.now)))) }
 {
     match globals {
@@ -186,7 +192,8 @@ fn report_each_global<'x>(
     globals: &'x [Member],
     here: &'x Here<'x>,
 ) -> Result<(), AllocError>
-    ensures { OnOk result (reports.new ≡ reports.old ++ fields_reports (named_reports (codes "state") (path_of here.now)) (fields globals.now)) }
+    ensures { OnOk result (reports.new
+        ≡ reports.old ++ fields_reports (named_reports (codes "state") (path_of here.now)) (fields globals.now)) }
 {
     for global in globals {
         let there = Here::Key(global.key.as_str(), here);
@@ -212,7 +219,8 @@ fn report_layers<'x>(
     layers: &'x Json,
     here: &'x Here<'x>,
 ) -> Result<(), AllocError>
-    ensures { OnOk result (reports.new ≡ reports.old ++ reports_or (unless_broken 5 (are_layers (tree_of layers.now))) (path_of here.now)
+    ensures { OnOk result (reports.new
+        ≡ reports.old ++ reports_or (unless_broken 5 (are_layers (tree_of layers.now))) (path_of here.now)
         (layers_reports (fields_at sources.entry) (used_in (items_or_none (tree_of layers.now))) (path_of here.now) 0
         (items_or_none (tree_of layers.now)))) }
 {
@@ -229,8 +237,10 @@ fn report_list<'x>(
     layers: &'x [Json],
     here: &'x Here<'x>,
 ) -> Result<(), AllocError>
-    ensures { OnOk result (reports.new ≡ reports.old ++ reports_or (unless_broken 5 (are_layers (list (trees layers.now)))) (path_of here.now)
-        (layers_reports (fields_at sources.entry) (used_in (trees layers.now)) (path_of here.now) 0 (trees layers.now))) }
+    ensures { OnOk result (reports.new
+        ≡ reports.old ++ reports_or (unless_broken 5 (are_layers (list (trees layers.now)))) (path_of here.now)
+        (layers_reports (fields_at sources.entry) (used_in (trees layers.now)) (path_of here.now) 0
+        (trees layers.now))) }
 {
     if !are_layers(layers) {
         return reports.report_broken(alloc, here, 5);
@@ -253,7 +263,8 @@ fn report_each_layer<'x>(
     here: &'x Here<'x>,
 ) -> Result<(), AllocError>
     ensures { OnOk result (reports.new ≡ reports.old
-        ++ layers_reports (fields_at sources.entry) (used_in (trees layers.now)) (path_of here.now) 0 (trees layers.now)) }
+        ++ layers_reports (fields_at sources.entry) (used_in (trees layers.now)) (path_of here.now) 0
+        (trees layers.now)) }
 {
     let mut used = Entries::new(alloc);
     for (i, layer) in layers.iter().enumerate() {

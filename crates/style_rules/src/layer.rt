@@ -10,7 +10,8 @@ ghost use Rattle.style_rules.specs.Keys.{keyed_reports, placed_reports};
 ghost use Rattle.style_rules.specs.LayerParts.{layer_rule};
 ghost use Rattle.style_rules.specs.Levels.{fields_reports, layer_reports, member_reports};
 ghost use Rattle.style_rules.specs.Places.{least_broken};
-ghost use Rattle.style_rules.specs.Rules.{is_id, is_type, is_new_id, is_source_name, has_such_source, is_source_layer, is_zoom_limit};
+ghost use Rattle.style_rules.specs.Rules.{is_id, is_type, is_new_id, is_source_name, has_such_source, is_source_layer};
+ghost use Rattle.style_rules.specs.Rules.{is_zoom_limit};
 ghost use Rattle.style_rules.specs.Values.{filter_mark};
 
 use crate::diagnostics::Diagnostics;
@@ -69,7 +70,8 @@ fn report_members<'x>(
 ) -> Result<(), AllocError>
     requires { HasDistinctKeys (members_view members.now) }
     ensures { OnOk result (reports.new ≡ reports.old
-        ++ layer_reports (fields_at sources.entry) (has_name used.now) (path_of here.now) (object (fields members.now))) }
+        ++ layer_reports (fields_at sources.entry) (has_name used.now) (path_of here.now)
+        (object (fields members.now))) }
 {
     let parts = parts_of(members);
     let context = context_of(sources, &parts);
@@ -96,7 +98,8 @@ fn report_each_member<'x>(
     here: &'x Here<'x>,
 ) -> Result<(), AllocError>
     ensures { OnOk result (reports.new ≡ reports.old
-        ++ fields_reports (member_reports (context_seen within.now.layer) (has_name within.now.used.now) (path_of here.now))
+        ++ fields_reports
+        (member_reports (context_seen within.now.layer) (has_name within.now.used.now) (path_of here.now))
         (fields members.now)) }
 {
     for member in members {
@@ -203,7 +206,8 @@ fn report_filter(
     filter: &Json,
     here: &Here<'_>,
 ) -> Result<(), AllocError>
-    ensures { OnOk result (reports.new ≡ reports.old ++ reports_or (filter_mark (tree_of filter.now)) (path_of here.now) []) }
+    ensures { OnOk result (reports.new
+        ≡ reports.old ++ reports_or (filter_mark (tree_of filter.now)) (path_of here.now) []) }
 {
     let mark = filter_mark(alloc, filter)?;
     reports.report(alloc, here, mark)
@@ -217,7 +221,8 @@ fn report_id(
     here: &Here<'_>,
 ) -> Result<(), AllocError>
     ensures { OnOk result (reports.new ≡ reports.old ++ reports_or (least_broken
-        ((7, is_id (tree_of id.now)) ∷ (8, is_new_id (has_name used.now) (tree_of id.now)) ∷ [])) (path_of here.now) []) }
+        ((7, is_id (tree_of id.now)) ∷ (8, is_new_id (has_name used.now) (tree_of id.now)) ∷ []))
+        (path_of here.now) []) }
 {
     if !id.is_text() {
         return reports.report_broken(alloc, here, 7);
@@ -233,7 +238,8 @@ fn report_source(
     here: &Here<'_>,
 ) -> Result<(), AllocError>
     ensures { OnOk result (reports.new ≡ reports.old ++ reports_or (least_broken
-        ((10, is_source_name (context_seen context.now) (tree_of source.now)) ∷ (11, has_such_source (context_seen context.now)) ∷ []))
+        ((10, is_source_name (context_seen context.now) (tree_of source.now)) ∷
+        (11, has_such_source (context_seen context.now)) ∷ []))
         (path_of here.now) []) }
 {
     if !context.is_source_name(source) {

@@ -32,7 +32,8 @@ pub fn property_findings<'x>(
     properties: &'x Here<'x>,
 ) -> Result<Findings, AllocError>
     ensures { IfOk result (λ found. map finding_seen found ≡ findings_in
-        (property_reports (tested_type layer_type) (Some place) (path_of properties.now) name.now (tree_of value.now))) }
+        (property_reports (tested_type layer_type) (Some place) (path_of properties.now) name.now
+        (tree_of value.now))) }
 {
     match tested_type(layer_type) {
         Some(layer_type) => {
@@ -66,7 +67,8 @@ pub fn layer_findings<'x>(
     here: &'x Here<'x>,
 ) -> Result<Findings, AllocError>
     ensures { IfOk result (λ found. map finding_seen found ≡ findings_in
-        (layer_reports (sources_of (tree_of document.now)) (has_name used.now) (path_of here.now) (tree_of layer.now))) }
+        (layer_reports (sources_of (tree_of document.now)) (has_name used.now) (path_of here.now)
+        (tree_of layer.now))) }
 {
     let mut reports = Diagnostics::new(alloc, false);
     report_layer(alloc, &mut reports, sources_of(document), used, layer, here)?;

@@ -23,8 +23,10 @@ pub(crate) fn report_properties<'x>(
     properties: &'x Json,
     here: &'x Here<'x>,
 ) -> Result<(), AllocError>
-    ensures { OnOk result (reports.new ≡ reports.old ++ reports_or (properties_mark layer_type (tree_of properties.now)) (path_of here.now)
-        (fields_reports (property_reports layer_type (Some place) (path_of here.now)) (fields_or_none (tree_of properties.now)))) }
+    ensures { OnOk result (reports.new
+        ≡ reports.old ++ reports_or (properties_mark layer_type (tree_of properties.now)) (path_of here.now)
+        (fields_reports (property_reports layer_type (Some place) (path_of here.now))
+        (fields_or_none (tree_of properties.now)))) }
 {
     match layer_type {
         Some(layer_type) => report_tested(alloc, reports, layer_type, place, properties, here),
@@ -40,8 +42,10 @@ fn report_tested<'x>(
     properties: &'x Json,
     here: &'x Here<'x>,
 ) -> Result<(), AllocError>
-    ensures { OnOk result (reports.new ≡ reports.old ++ reports_or (properties_mark (Some layer_type) (tree_of properties.now)) (path_of here.now)
-        (fields_reports (property_reports (Some layer_type) (Some place) (path_of here.now)) (fields_or_none (tree_of properties.now)))) }
+    ensures { OnOk result (reports.new
+        ≡ reports.old ++ reports_or (properties_mark (Some layer_type) (tree_of properties.now)) (path_of here.now)
+        (fields_reports (property_reports (Some layer_type) (Some place) (path_of here.now))
+        (fields_or_none (tree_of properties.now)))) }
 {
     match properties {
         Json::Object(members) => {
@@ -60,7 +64,8 @@ fn report_each_property<'x>(
     here: &'x Here<'x>,
 ) -> Result<(), AllocError>
     ensures { OnOk result (reports.new ≡ reports.old
-        ++ fields_reports (property_reports (Some layer_type) (Some place) (path_of here.now)) (fields properties.now)) }
+        ++ fields_reports (property_reports (Some layer_type) (Some place) (path_of here.now))
+        (fields properties.now)) }
 {
     for property in properties {
         report_property(alloc, reports, layer_type, place, property, here)?;
@@ -77,7 +82,8 @@ fn report_property<'x>(
     properties: &'x Here<'x>,
 ) -> Result<(), AllocError>
     ensures { OnOk result (reports.new ≡ reports.old
-        ++ property_reports (Some layer_type) (Some place) (path_of properties.now) property.now.key (tree_of property.now.value)) }
+        ++ property_reports (Some layer_type) (Some place) (path_of properties.now) property.now.key
+        (tree_of property.now.value)) }
 {
     let name = property.key.as_str();
     let here = Here::Key(name, properties);

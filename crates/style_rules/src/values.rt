@@ -7,7 +7,8 @@ ghost use Rattle.expr_syntax.specs.ReadView.{reading_of};
 ghost use Rattle.legacy_functions.specs.Form.{form};
 ghost use Rattle.legacy_functions.specs.View.{function_of, row_of};
 ghost use Rattle.style_rules.specs.CodeView.{judged_mark};
-ghost use Rattle.style_rules.specs.Values.{value_mark, literal_mark, read_mark, expression_mark, rule_of, function_mark, function_reads};
+ghost use Rattle.style_rules.specs.Values.{value_mark, literal_mark, read_mark, expression_mark, rule_of};
+ghost use Rattle.style_rules.specs.Values.{function_mark, function_reads};
 
 use crate::diagnostics::Mark;
 use crate::possible_faults::PossibleFaults;
@@ -55,7 +56,8 @@ pub(crate) fn expression_mark(
     row: Option<&Row>,
     json: &Json,
 ) -> Result<Mark, AllocError>
-    ensures { IfOk result (λ mark. mark ≡ expression_mark want.now (option_map (λ r. row_seen r.now) row.entry) (tree_of json.now)) }
+    ensures { IfOk result
+        (λ mark. mark ≡ expression_mark want.now (option_map (λ r. row_seen r.now) row.entry) (tree_of json.now)) }
 {
     let read = read_expr(alloc, json)?;
     read_mark(alloc, want, row, read)
@@ -69,7 +71,8 @@ fn read_mark(
     row: Option<&Row>,
     read: Result<Reading, SynFault>,
 ) -> Result<Mark, AllocError>
-    ensures { IfOk result (λ mark. mark ≡ read_mark want.now (option_map (λ r. row_seen r.now) row.entry) (reading_of read)) }
+    ensures { IfOk result
+        (λ mark. mark ≡ read_mark want.now (option_map (λ r. row_seen r.now) row.entry) (reading_of read)) }
 {
     match read {
         Ok(Reading::Inside(expression)) => { Ok(typed_mark(check(alloc, &expression, want, row)?)) }
@@ -100,7 +103,8 @@ fn rule_of(code: TypeCode) -> u8
 }
 
 fn function_mark(alloc: Global, row: &Row, json: &Json) -> Result<Mark, AllocError>
-    ensures { IfOk result (λ mark. mark ≡ function_mark (row_seen row.now) (form (row_seen row.now) (tree_of json.now))) }
+    ensures { IfOk result
+        (λ mark. mark ≡ function_mark (row_seen row.now) (form (row_seen row.now) (tree_of json.now))) }
 {
     match read(alloc, json, row)? {
         Ok(FunctionReading::Inside(function)) => inside_mark(alloc, row, function),

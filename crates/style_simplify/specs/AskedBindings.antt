@@ -1,5 +1,6 @@
 -- A `let` without the bindings that its body does not ask for; of a repeated name the last is asked for. Source: own.
-use Rattle.std.specs.Prelude.{ℕ, ◌+◌, ◌-◌, ◌/◌, nat_eq, List, [], ◌∷◌, map, slice_set, Bool, true, false, ◌&&◌, ◌||◌, Option, Some, None, if◌then◌else◌}
+use Rattle.std.specs.Prelude.{ℕ, ◌+◌, ◌-◌, ◌/◌, nat_eq, List, [], ◌∷◌, map, slice_set, Bool, true, false, ◌&&◌, ◌||◌}
+use Rattle.std.specs.Prelude.{Option, Some, None, if◌then◌else◌}
 use Rattle.std.specs.List.{slice_get}
 use Rattle.prop_values.specs.declared.kinds.Want.{Want}
 use Rattle.expr_syntax.specs.NameIndex.{last_place}
@@ -38,9 +39,11 @@ is_asked_at marks i = nat_eq i 0 || mark_or_not (slice_get marks ((i - 1) / 2))
 
 abbrev pub asked_elements : List Bool → ℕ → List SimpleElement → List SimpleElement
 asked_elements marks i [] = []
-asked_elements marks i (e ∷ es) = if is_asked_at marks i then e ∷ asked_elements marks (i + 1) es else asked_elements marks (i + 1) es
+asked_elements marks i (e ∷ es) =
+    if is_asked_at marks i then e ∷ asked_elements marks (i + 1) es else asked_elements marks (i + 1) es
 
-abbrev pub shorter_by_marks : List Bool → List (List ℕ) → Want → List SimpleElement → SimpleElement → Option SimpleElement
+abbrev pub shorter_by_marks : List Bool → List (List ℕ) → Want → List SimpleElement → SimpleElement →
+    Option SimpleElement
 shorter_by_marks marks names want bindings body =
     if all_marked marks then None
     else if some_marked marks then Some (let_of names want (asked_elements marks 0 bindings) body)

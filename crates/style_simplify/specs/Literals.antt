@@ -1,5 +1,6 @@
 -- Literals among simplified elements: what is written, its value, and its kind where it is. Source: own.
-use Rattle.std.specs.Prelude.{ℕ, nat_le, ℤ, unsigned_abs, List, [], Bool, false, codes, Option, Some, None, Result, Ok, Err, if◌then◌else◌}
+use Rattle.std.specs.Prelude.{ℕ, nat_le, ℤ, unsigned_abs, List, [], Bool, false, codes, Option, Some, None, Result, Ok}
+use Rattle.std.specs.Prelude.{Err, if◌then◌else◌}
 use Rattle.std.specs.Str.{bytes_eq}
 use Rattle.decimal_json.specs.Tree.{Tree, null, boolean, number, text, list, object, Trees, tree}
 use Rattle.fixed_num.specs.Number.{bound}
@@ -42,7 +43,8 @@ kind_of_value want None = None
 
 -- a literal as it is written, under a want
 abbrev pub literal_element : Want → Tree → SimpleElement
-literal_element want t = record { tree = t; is_part = false; kind = kind_of_value want (literal_value t); asks = []; reads = false }
+literal_element want t =
+    record { tree = t; is_part = false; kind = kind_of_value want (literal_value t); asks = []; reads = false }
 
 -- a number as a literal; one past the bound is read by none
 abbrev pub number_literal : ℤ → Option Tree

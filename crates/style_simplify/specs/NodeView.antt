@@ -16,7 +16,8 @@ use Rattle.expr_syntax.specs.declared.parts.FormatPiece.{FormatPiece}
 use Rattle.expr_types.specs.ScopeView.{scope_of}
 use Rattle.expr_types.specs.Typing.{argument_want}
 use Rattle.style_simplify.specs.Choices.{NodeChoices}
-use Rattle.style_simplify.specs.Simple.{choices, choices_in, elements, format_choices, let_body, body_among, let_simple, node_choices, plain_choices, piece_elements, simple_element}
+use Rattle.style_simplify.specs.Simple.{choices, choices_in, elements, format_choices, let_body, body_among, let_simple}
+use Rattle.style_simplify.specs.Simple.{node_choices, plain_choices, piece_elements, simple_element}
 use Rattle.style_simplify.specs.SimpleElements.{SimpleElement}
 use Rattle.style_simplify.specs.View.{simples_of}
 use Rattle.style_simplify.specs.declared.simplifying.SimpleContext.{SimpleContext}
@@ -41,7 +42,8 @@ abbrev pub argument_here : Operator → ℕ → ℕ → List Expr → ℕ → Op
 argument_here op n i es k = if is_part (element_place (row (operator_name op)).layout n i) then None else slice_get es k
 
 abbrev pub argument_at : SimpleContext → ℕ → ℕ → Expr → Tree → SimpleElement
-argument_at c m k e t = simple_element false (choices (term_of e)) t (argument_want c.op.now m k c.want) (scope_of c.scope.now)
+argument_at c m k e t =
+    simple_element false (choices (term_of e)) t (argument_want c.op.now m k c.want) (scope_of c.scope.now)
 
 -- the elements of a node of n elements and m arguments, from a place on
 abbrev pub elements_at : SimpleContext → ℕ → ℕ → ℕ → ℕ → List Expr → List Json → List SimpleElement

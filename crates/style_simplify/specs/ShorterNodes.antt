@@ -1,6 +1,7 @@
 -- What `case`, `all`, `any`, `coalesce` and `match` become by the literals among their arguments; none where no
 -- literal decides. Source: own.
-use Rattle.std.specs.Prelude.{◌+◌, ◌-◌, List, [], ◌∷◌, length, take, Bool, true, false, ◌&&◌, ◌||◌, Option, Some, None, if◌then◌else◌}
+use Rattle.std.specs.Prelude.{◌+◌, ◌-◌, List, [], ◌∷◌, length, take, Bool, true, false, ◌&&◌, ◌||◌, Option, Some, None}
+use Rattle.std.specs.Prelude.{if◌then◌else◌}
 use Rattle.std.specs.List.{slice_get}
 use Rattle.decimal_json.specs.Tree.{Tree, null, boolean, number, text, list, object}
 use Rattle.prop_values.specs.Data.{Data}

@@ -1,6 +1,7 @@
 -- The simplified expression: arguments first, and then the first rule that may be used, once. The term that a
 -- tree reads as says what its elements are. Source: own.
-use Rattle.std.specs.Prelude.{ℕ, ◌+◌, ◌-◌, nat_eq, nat_lt, List, [], ◌∷◌, length, take, drop, Bool, true, false, ◌||◌, Option, Some, None, if◌then◌else◌, slice_set, slice_index_or}
+use Rattle.std.specs.Prelude.{ℕ, ◌+◌, ◌-◌, nat_eq, nat_lt, List, [], ◌∷◌, length, take, drop, Bool, true, false, ◌||◌}
+use Rattle.std.specs.Prelude.{Option, Some, None, if◌then◌else◌, slice_set, slice_index_or}
 use Rattle.std.specs.List.{slice_get}
 use Rattle.decimal_json.specs.Accessors.{member}
 use Rattle.decimal_json.specs.Editing.{replaced_members}
@@ -29,7 +30,8 @@ use Rattle.expr_types.specs.Typing.{KindScope, frame, argument_want}
 use Rattle.style_simplify.specs.AskedBindings.{shorter_let}
 use Rattle.style_simplify.specs.Choices.{NodeChoices, choices_of, chosen}
 use Rattle.style_simplify.specs.ShorterNodes.{shorter}
-use Rattle.style_simplify.specs.SimpleElements.{SimpleElement, part, argument_kinds, all_asks, some_reads, kind_by, node_of, let_of}
+use Rattle.style_simplify.specs.SimpleElements.{SimpleElement, part, argument_kinds, all_asks, some_reads, kind_by}
+use Rattle.style_simplify.specs.SimpleElements.{node_of, let_of}
 
 -- what becomes of a tree, under a want, in the names around it
 abbrev pub Simple : Type 0
@@ -85,15 +87,18 @@ body_among names want scope ks s u =
     if nat_eq (length names) (length ks) then Some (simple_element false s u want (frame names ks ∷ scope)) else None
 
 -- the body, none where a binding has a type fault
-abbrev pub let_body : List (List ℕ) → Want → KindScope → Option (List Kind) → List Simple → Option Tree → Option SimpleElement
+abbrev pub let_body : List (List ℕ) → Want → KindScope → Option (List Kind) → List Simple → Option Tree →
+    Option SimpleElement
 let_body names want scope (Some ks) (s ∷ ss) (Some u) = body_among names want scope ks s u
 let_body names want scope _ _ _ = None
 
 abbrev pub let_choices : List (List ℕ) → Want → List SimpleElement → Option SimpleElement → Tree → NodeChoices
-let_choices names want bindings (Some body) t = choices_of want (let_of names want bindings body) (shorter_let names want bindings body)
+let_choices names want bindings (Some body) t =
+    choices_of want (let_of names want bindings body) (shorter_let names want bindings body)
 let_choices names want bindings None t = as_it_is want (unread t)
 
-abbrev pub let_with : List (List ℕ) → Want → KindScope → List SimpleElement → List Simple → Option Tree → Tree → NodeChoices
+abbrev pub let_with : List (List ℕ) → Want → KindScope → List SimpleElement → List Simple → Option Tree → Tree →
+    NodeChoices
 let_with names want scope bindings ss last t =
     let_choices names want bindings (let_body names want scope (argument_kinds bindings) ss last) t
 
@@ -127,7 +132,8 @@ piece_element None s ts scope = unread null
 
 abbrev pub piece_elements : List FormatPiece → ℕ → List Simple → List Tree → KindScope → List SimpleElement
 piece_elements pieces k [] ts scope = []
-piece_elements pieces k (s ∷ ss) ts scope = piece_element (slice_get pieces k) s ts scope ∷ piece_elements pieces (k + 1) ss ts scope
+piece_elements pieces k (s ∷ ss) ts scope =
+    piece_element (slice_get pieces k) s ts scope ∷ piece_elements pieces (k + 1) ss ts scope
 
 abbrev pub with_option : List ℕ → Tree → Tree → Tree
 with_option key u (object fs) = object (fields_of (replaced_members key u (members_of fs)))
@@ -156,12 +162,14 @@ format_of op pieces want ts es = record {
 }
 
 abbrev pub format_choices : Operator → List FormatPiece → List Simple → List Tree → Want → KindScope → NodeChoices
-format_choices op pieces ss ts want scope = as_it_is want (format_of op pieces want ts (piece_elements pieces 0 ss ts scope))
+format_choices op pieces ss ts want scope =
+    as_it_is want (format_of op pieces want ts (piece_elements pieces 0 ss ts scope))
 
 -- ---- nodes
 
 abbrev pub var_element : List ℕ → Want → KindScope → Tree → SimpleElement
-var_element name want scope t = record { tree = t; is_part = false; kind = name_kind scope name want; asks = name ∷ []; reads = false }
+var_element name want scope t =
+    record { tree = t; is_part = false; kind = name_kind scope name want; asks = name ∷ []; reads = false }
 
 -- A `global-state` node reads as a `get`.
 abbrev pub global_element : Want → Tree → SimpleElement

@@ -1,6 +1,7 @@
 -- The elements of a simplified node: as they are written, and what is known of those that are arguments.
 -- Source: own.
-use Rattle.std.specs.Prelude.{ℕ, List, [], ◌∷◌, ◌++◌, map, Bool, true, false, ◌||◌, is_some, Option, Some, None, if◌then◌else◌}
+use Rattle.std.specs.Prelude.{ℕ, List, [], ◌∷◌, ◌++◌, map, Bool, true, false, ◌||◌, is_some, Option, Some, None}
+use Rattle.std.specs.Prelude.{if◌then◌else◌}
 use Rattle.decimal_json.specs.Tree.{Tree, list, trees_of}
 use Rattle.prop_values.specs.declared.kinds.Kind.{Kind}
 use Rattle.prop_values.specs.declared.kinds.Want.{Want}
@@ -71,7 +72,8 @@ node_of op want reads es = record {
 -- the names that are asked for, without those that are bound
 abbrev pub without : List (List ℕ) → List (List ℕ) → List (List ℕ)
 without names [] = []
-without names (asked ∷ others) = if is_some (last_place 0 names asked) then without names others else asked ∷ without names others
+without names (asked ∷ others) =
+    if is_some (last_place 0 names asked) then without names others else asked ∷ without names others
 
 abbrev pub body_kind : Want → Option (List Kind) → Option Kind → Option Kind
 body_kind want (Some ks) (Some k) = Some (branch_kind want k)

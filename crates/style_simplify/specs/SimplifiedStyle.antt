@@ -1,6 +1,7 @@
 -- The simplified document: each property and filter that is an expression is replaced by its simplified form. All
 -- else stays: order, names, legacy forms, token texts, what is outside, number texts. Source: own.
-use Rattle.std.specs.Prelude.{ℕ, ◌+◌, List, [], ◌∷◌, codes, Bool, true, false, not, ◌&&◌, ◌||◌, is_some, Option, Some, None, Ok, Err, if◌then◌else◌}
+use Rattle.std.specs.Prelude.{ℕ, ◌+◌, List, [], ◌∷◌, codes, Bool, true, false, not, ◌&&◌, ◌||◌, is_some, Option, Some}
+use Rattle.std.specs.Prelude.{None, Ok, Err, if◌then◌else◌}
 use Rattle.std.specs.List.{slice_get}
 use Rattle.std.specs.Str.{bytes_eq}
 use Rattle.decimal_json.specs.Accessors.{member}
@@ -108,7 +109,8 @@ filter_path i = parts.Key (codes "layers") ∷ parts.Index i ∷ parts.Key (code
 abbrev pub never_from : ℕ → List Tree → List Tree → List (List PathPart)
 never_from i [] after = []
 never_from i (layer ∷ layers) after =
-    if became_false layer (slice_get after i) then filter_path i ∷ never_from (i + 1) layers after else never_from (i + 1) layers after
+    if became_false layer (slice_get after i) then filter_path i ∷ never_from (i + 1) layers after else
+    never_from (i + 1) layers after
 
 -- The paths of the filters that are false in the one document and not in the other.
 abbrev pub never_passed : Tree → Tree → List (List PathPart)

@@ -10,7 +10,8 @@ use Rattle.style_simplify.specs.declared.element.SimpleElement.{SimpleElement as
 use Rattle.style_simplify.specs.declared.choices.NodeChoices.{NodeChoices as CodeChoices}
 
 abbrev pub element_seen : CodeElement → SimpleElement
-element_seen e = record { tree = tree_of e.json; is_part = e.is_part; kind = e.kind; asks = e.asks.items; reads = e.reads }
+element_seen e =
+    record { tree = tree_of e.json; is_part = e.is_part; kind = e.kind; asks = e.asks.items; reads = e.reads }
 
 abbrev pub elements_seen : List CodeElement → List SimpleElement
 elements_seen = map element_seen

@@ -1,7 +1,8 @@
 //! A `let` without the bindings that its body does not ask for.
 
 ghost use Rattle.std.specs.Prelude.{◌≡◌, IfOk, option_map};
-ghost use Rattle.style_simplify.specs.AskedBindings.{unmarked, asked_marks, all_marked, some_marked, is_asked_at, asked_elements, shorter_by_marks, shorter_let};
+ghost use Rattle.style_simplify.specs.AskedBindings.{unmarked, asked_marks, all_marked, some_marked, is_asked_at};
+ghost use Rattle.style_simplify.specs.AskedBindings.{asked_elements, shorter_by_marks, shorter_let};
 ghost use Rattle.style_simplify.specs.View.{element_seen, elements_seen};
 
 use crate::element::{SimpleElement, copy_of, let_of};

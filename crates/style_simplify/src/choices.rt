@@ -28,7 +28,8 @@ pub(crate) fn choices_of(
     node: SimpleElement,
     shorter: Option<SimpleElement>,
 ) -> Result<NodeChoices, AllocError>
-    ensures { IfOk result (λ made. choices_seen made ≡ choices_of want.now (element_seen node) (option_map element_seen shorter)) }
+    ensures { IfOk result
+        (λ made. choices_seen made ≡ choices_of want.now (element_seen node) (option_map element_seen shorter)) }
 {
     let literal = folded(alloc, want, &node)?;
     Ok(NodeChoices {

@@ -2,7 +2,8 @@
 
 ghost use Rattle.std.specs.Prelude.{◌≡◌, true, IfOk, option_map};
 ghost use Rattle.decimal_json.specs.View.{tree_of};
-ghost use Rattle.style_simplify.specs.ShorterNodes.{turn_at, open_pairs, is_literal_turn, some_condition, case_of, shorter_case};
+ghost use Rattle.style_simplify.specs.ShorterNodes.{turn_at, open_pairs, is_literal_turn, some_condition, case_of};
+ghost use Rattle.style_simplify.specs.ShorterNodes.{shorter_case};
 ghost use Rattle.style_simplify.specs.View.{element_seen, elements_seen};
 ghost use Rattle.style_simplify.specs.declared.conditions.CaseTurn.TheVariants.{Condition};
 
@@ -96,7 +97,8 @@ fn case_of(
     head: &SimpleElement,
     elements: &[SimpleElement],
 ) -> Result<SimpleElement, AllocError>
-    ensures { IfOk result (λ made. element_seen made ≡ case_of want.now (element_seen head.now) (elements_seen elements.now)) }
+    ensures { IfOk result
+        (λ made. element_seen made ≡ case_of want.now (element_seen head.now) (elements_seen elements.now)) }
 {
     match elements {
         [] => headed(alloc, &Operator::Case, want, head, elements),

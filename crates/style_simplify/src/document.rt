@@ -19,11 +19,12 @@ pub struct Simplified {
     pub never: Vec<Path>,
 }
 
-/// The document with each value and filter that is an expression replaced by its simplified form. Asks a document without
-/// findings.
+/// The document with each value and filter that is an expression replaced by its simplified form. Asks a document
+/// without findings.
 pub fn simplify(alloc: Global, document: &Json) -> Result<Simplified, AllocError>
     ensures document { IfOk result (λ made. tree_of made.document ≡ simplified (tree_of document.now)) }
-    ensures never { IfOk result (λ made. made.never.items ≡ never_passed (tree_of document.now) (simplified (tree_of document.now))) }
+    ensures never { IfOk result
+        (λ made. made.never.items ≡ never_passed (tree_of document.now) (simplified (tree_of document.now))) }
 {
     let made = simplify_document(alloc, document)?;
     let never = never_passed(alloc, document, &made)?;

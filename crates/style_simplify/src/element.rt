@@ -3,7 +3,8 @@
 ghost use Rattle.std.specs.Prelude.{◌≡◌, ◌++◌, map, IfOk, OnOk, option_map};
 ghost use Rattle.decimal_json.specs.View.{tree_of};
 ghost use Rattle.style_simplify.specs.Simple.{unread};
-ghost use Rattle.style_simplify.specs.SimpleElements.{part, tree_in, argument_kinds, all_asks, some_reads, kind_by, node_of, without, body_kind, let_of};
+ghost use Rattle.style_simplify.specs.SimpleElements.{part, tree_in, argument_kinds, all_asks, some_reads, kind_by};
+ghost use Rattle.style_simplify.specs.SimpleElements.{node_of, without, body_kind, let_of};
 ghost use Rattle.style_simplify.specs.View.{element_seen, elements_seen};
 
 use decimal_json::{Items, Json, Text, copy};
@@ -200,7 +201,8 @@ pub(crate) fn let_of(
     bindings: Vec<SimpleElement>,
     body: SimpleElement,
 ) -> Result<SimpleElement, AllocError>
-    ensures { IfOk result (λ made. element_seen made ≡ let_of names.now want.now (elements_seen bindings.items) (element_seen body)) }
+    ensures { IfOk result
+        (λ made. element_seen made ≡ let_of names.now want.now (elements_seen bindings.items) (element_seen body)) }
 {
     let kinds = argument_kinds(alloc, bindings.as_slice())?;
     let kind = body_kind(want, kinds, body.kind);

@@ -6,7 +6,8 @@ ghost use Rattle.prop_values.specs.ViewParts.{evaluated_of};
 ghost use Rattle.expr_syntax.specs.ReadView.{reading_of};
 ghost use Rattle.expr_syntax.specs.TermView.{term_of};
 ghost use Rattle.eval_face.specs.Meaning.{mean};
-ghost use Rattle.style_simplify.specs.Folding.{folding_want, unread_world, bare_or_none, literal_of_reading, literal_of, is_closed, as_literal, folded};
+ghost use Rattle.style_simplify.specs.Folding.{folding_want, unread_world, bare_or_none, literal_of_reading};
+ghost use Rattle.style_simplify.specs.Folding.{literal_of, is_closed, as_literal, folded};
 ghost use Rattle.style_simplify.specs.View.{element_seen};
 
 use crate::element::SimpleElement;

@@ -10,7 +10,8 @@ ghost use Rattle.expr_syntax.specs.Operators.{operator_name};
 ghost use Rattle.expr_syntax.specs.Reading.{is_part};
 ghost use Rattle.expr_syntax.specs.Rows.{element_place};
 ghost use Rattle.expr_types.specs.ScopeView.{scope_of};
-ghost use Rattle.style_simplify.specs.Simple.{global_element, is_any_read, is_global_name, is_script, operator_reads, unread, var_element};
+ghost use Rattle.style_simplify.specs.Simple.{global_element, is_any_read, is_global_name, is_script, operator_reads};
+ghost use Rattle.style_simplify.specs.Simple.{unread, var_element};
 ghost use Rattle.style_simplify.specs.View.{element_seen, simples_of};
 
 use crate::element::{SimpleElement, unread};
@@ -106,7 +107,8 @@ pub(crate) fn var_element(
     scope: &KindScope<'_>,
     items: &[Json],
 ) -> Result<SimpleElement, AllocError>
-    ensures { IfOk result (λ made. element_seen made ≡ var_element name.now want.now (scope_of scope.now) (list (trees items.now))) }
+    ensures { IfOk result
+        (λ made. element_seen made ≡ var_element name.now want.now (scope_of scope.now) (list (trees items.now))) }
 {
     let mut asks = Vec::new(alloc);
     asks.push(name.share()?)?;

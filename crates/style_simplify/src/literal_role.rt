@@ -4,7 +4,9 @@ ghost use Rattle.std.specs.Prelude.{◌≡◌, ◌∷◌, false, IfOk, Some, opt
 ghost use Rattle.decimal_json.specs.Tree.{list};
 ghost use Rattle.decimal_json.specs.View.{tree_of, trees};
 ghost use Rattle.expr_syntax.specs.Elements.{second};
-ghost use Rattle.style_simplify.specs.ShorterNodes.{flag_role, condition_role, choice_role, is_container, role_of, is_deciding, is_open, is_coalesce, some_role, undecided, joined, shorter_join};
+ghost use Rattle.style_simplify.specs.ShorterNodes.{flag_role, condition_role, choice_role, is_container, role_of};
+ghost use Rattle.style_simplify.specs.ShorterNodes.{is_deciding, is_open, is_coalesce, some_role, undecided, joined};
+ghost use Rattle.style_simplify.specs.ShorterNodes.{shorter_join};
 ghost use Rattle.style_simplify.specs.SimpleElements.{node_of};
 ghost use Rattle.style_simplify.specs.View.{element_seen, elements_seen};
 
@@ -159,7 +161,8 @@ fn joined(
     head: &SimpleElement,
     elements: &[SimpleElement],
 ) -> Result<SimpleElement, AllocError>
-    ensures { IfOk result (λ made. element_seen made ≡ joined op.now want.now (element_seen head.now) (elements_seen elements.now)) }
+    ensures { IfOk result
+        (λ made. element_seen made ≡ joined op.now want.now (element_seen head.now) (elements_seen elements.now)) }
 {
     match elements {
         [] => {

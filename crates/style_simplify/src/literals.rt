@@ -5,7 +5,8 @@ ghost use Rattle.decimal_json.specs.Tree.{list};
 ghost use Rattle.decimal_json.specs.View.{tree_of, trees};
 ghost use Rattle.prop_values.specs.View.{data_of};
 ghost use Rattle.expr_syntax.specs.Elements.{second};
-ghost use Rattle.style_simplify.specs.Literals.{begins_with, is_literal_node, value_at, literal_value, kind_of_value, literal_element, number_literal, bare_literal};
+ghost use Rattle.style_simplify.specs.Literals.{begins_with, is_literal_node, value_at, literal_value, kind_of_value};
+ghost use Rattle.style_simplify.specs.Literals.{literal_element, number_literal, bare_literal};
 ghost use Rattle.style_simplify.specs.Simple.{literal_at};
 ghost use Rattle.style_simplify.specs.View.{element_seen};
 

@@ -5,7 +5,8 @@ ghost use Rattle.std.specs.List.{slice_get};
 ghost use Rattle.decimal_json.specs.View.{tree_of, tree_at, items_view};
 ghost use Rattle.style_parts.specs.Parts.{layers_of};
 ghost use Rattle.style_simplify.specs.Simple.{listed};
-ghost use Rattle.style_simplify.specs.SimplifiedStyle.{became_false, filter_of, filter_path, is_false, never_from, never_passed};
+ghost use Rattle.style_simplify.specs.SimplifiedStyle.{became_false, filter_of, filter_path, is_false, never_from};
+ghost use Rattle.style_simplify.specs.SimplifiedStyle.{never_passed};
 
 use decimal_json::{Json, Path, PathPart, Text};
 use std::alloc::{AllocError, Global};

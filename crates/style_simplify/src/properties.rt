@@ -33,7 +33,8 @@ fn simplify_tested(
     place: Place,
     properties: &Json,
 ) -> Result<Json, AllocError>
-    ensures { IfOk result (λ made. tree_of made ≡ with_values (simplified_property layer_type place) (tree_of properties.now)) }
+    ensures { IfOk result
+        (λ made. tree_of made ≡ with_values (simplified_property layer_type place) (tree_of properties.now)) }
 {
     match properties {
         Json::Object(members) => {

@@ -3,7 +3,8 @@
 ghost use Rattle.std.specs.Prelude.{◌≡◌, Some, IfOk, option_map};
 ghost use Rattle.decimal_json.specs.View.{tree_of, tree_at, items_view};
 ghost use Rattle.expr_types.specs.ArgumentPaths.{role_key};
-ghost use Rattle.style_simplify.specs.Simple.{format_of, is_content, piece_tree, put_in, put_piece, put_pieces, with_option};
+ghost use Rattle.style_simplify.specs.Simple.{format_of, is_content, piece_tree, put_in, put_piece, put_pieces};
+ghost use Rattle.style_simplify.specs.Simple.{with_option};
 ghost use Rattle.style_simplify.specs.View.{element_seen, elements_seen};
 
 use crate::element::{SimpleElement, all_asks, argument_kinds, kind_by, some_reads};

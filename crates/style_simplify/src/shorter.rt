@@ -28,7 +28,8 @@ fn argument_count(elements: &[SimpleElement]) -> usize
 
 // The argument of a number, counted from 0.
 fn argument_at(number: usize, elements: &[SimpleElement]) -> Option<&SimpleElement>
-    ensures { option_map (λ e. element_seen e.now) result ≡ slice_get (arguments_in (elements_seen elements.now)) number }
+    ensures { option_map (λ e. element_seen e.now) result
+        ≡ slice_get (arguments_in (elements_seen elements.now)) number }
 {
     let mut before = number;
     for element in elements {
@@ -70,7 +71,8 @@ fn shorter_match(
     labels: &Labels,
     elements: &[SimpleElement],
 ) -> Result<Option<SimpleElement>, AllocError>
-    ensures { IfOk result (λ made. option_map element_seen made ≡ shorter_match labels.now (elements_seen elements.now)) }
+    ensures { IfOk result
+        (λ made. option_map element_seen made ≡ shorter_match labels.now (elements_seen elements.now)) }
 {
     match elements {
         [] => Ok(None),
@@ -109,7 +111,8 @@ pub(crate) fn shorter(
     want: &Want,
     elements: &[SimpleElement],
 ) -> Result<Option<SimpleElement>, AllocError>
-    ensures { IfOk result (λ made. option_map element_seen made ≡ shorter op.now want.now (elements_seen elements.now)) }
+    ensures { IfOk result
+        (λ made. option_map element_seen made ≡ shorter op.now want.now (elements_seen elements.now)) }
 {
     match elements {
         [] => Ok(None),

@@ -9,8 +9,10 @@ ghost use Rattle.expr_types.specs.ScopeView.{scope_of};
 ghost use Rattle.style_simplify.specs.AskedBindings.{shorter_let};
 ghost use Rattle.style_simplify.specs.Choices.{choices_of};
 ghost use Rattle.style_simplify.specs.SimpleElements.{let_of};
-ghost use Rattle.style_simplify.specs.Simple.{choices, choices_from, let_choices, piece_at, piece_element, simple_element};
-ghost use Rattle.style_simplify.specs.NodeView.{node_at, inside_at, plain_at, let_at, format_at, argument_here, argument_at, elements_at, body_at, body_in, pieces_at};
+ghost use Rattle.style_simplify.specs.Simple.{choices, choices_from, let_choices, piece_at, piece_element};
+ghost use Rattle.style_simplify.specs.Simple.{simple_element};
+ghost use Rattle.style_simplify.specs.NodeView.{node_at, inside_at, plain_at, let_at, format_at, argument_here};
+ghost use Rattle.style_simplify.specs.NodeView.{argument_at, elements_at, body_at, body_in, pieces_at};
 ghost use Rattle.style_simplify.specs.View.{element_seen, elements_seen, choices_seen};
 
 use crate::asked_bindings::shorter_let;
@@ -76,7 +78,8 @@ fn simple_element<'x>(
     scope: &'x KindScope<'x>,
 ) -> Result<SimpleElement, AllocError>
     ensures { IfOk result (λ made. element_seen made
-        ≡ simple_element is_content (choices (term_of expression.now)) (tree_of json.now) want.now (scope_of scope.now)) }
+        ≡ simple_element is_content (choices (term_of expression.now)) (tree_of json.now) want.now
+        (scope_of scope.now)) }
 {
     let found = choices(alloc, expression, json, want, &*scope)?;
     Ok(chosen(is_content, found))
@@ -158,7 +161,8 @@ fn elements<'x>(
     given: &'x [Expr],
     items: &[Json],
 ) -> Result<Vec<SimpleElement>, AllocError>
-    ensures { IfOk result (λ made. elements_seen made.items ≡ elements_at context.now count arguments 0 0 given.now items.now) }
+    ensures { IfOk result
+        (λ made. elements_seen made.items ≡ elements_at context.now count arguments 0 0 given.now items.now) }
 {
     let mut made = Vec::new(context.alloc);
     let mut place = 0;
@@ -186,7 +190,8 @@ fn argument_element<'x>(
     item: &Json,
 ) -> Result<SimpleElement, AllocError>
     requires short { place < 2 ^ 60 }
-    ensures { IfOk result (λ made. element_seen made ≡ argument_at context.now arguments place argument.now (tree_of item.now)) }
+    ensures { IfOk result
+        (λ made. element_seen made ≡ argument_at context.now arguments place argument.now (tree_of item.now)) }
 {
     let want = argument_want(context.op, arguments, place, &context.want);
     simple_element(context.alloc, false, argument, item, &want, &*context.scope)
@@ -261,7 +266,8 @@ fn body_element<'x>(
     body: &'x Expr,
     json: &Json,
 ) -> Result<Option<SimpleElement>, AllocError>
-    ensures { IfOk result (λ made. option_map element_seen made ≡ body_in context.now names.now kinds.now body.now (tree_of json.now)) }
+    ensures { IfOk result
+        (λ made. option_map element_seen made ≡ body_in context.now names.now kinds.now body.now (tree_of json.now)) }
 {
     if names.len() != kinds.len() {
         return Ok(None);
@@ -301,7 +307,8 @@ fn piece_elements<'x>(
     arguments: &'x [Expr],
     items: &[Json],
 ) -> Result<Vec<SimpleElement>, AllocError>
-    ensures { IfOk result (λ made. elements_seen made.items ≡ pieces_at context.now pieces.now 0 arguments.now items.now) }
+    ensures { IfOk result
+        (λ made. elements_seen made.items ≡ pieces_at context.now pieces.now 0 arguments.now items.now) }
 {
     let mut made = Vec::new(context.alloc);
     for (place, argument) in arguments.iter().enumerate() {
@@ -361,7 +368,8 @@ fn choices_from(
     reads: bool,
     elements: Vec<SimpleElement>,
 ) -> Result<NodeChoices, AllocError>
-    ensures { IfOk result (λ made. choices_seen made ≡ choices_from op.now want.now reads (elements_seen elements.items)) }
+    ensures { IfOk result
+        (λ made. choices_seen made ≡ choices_from op.now want.now reads (elements_seen elements.items)) }
 {
     let shorter = shorter(alloc, op, want, elements.as_slice())?;
     let node = node_of(alloc, op, want, reads, elements)?;
@@ -377,7 +385,8 @@ fn let_choices(
     items: &[Json],
 ) -> Result<NodeChoices, AllocError>
     ensures { IfOk result (λ made. choices_seen made
-        ≡ let_choices names.now context.now.want (elements_seen bindings.items) (option_map element_seen body) (list (trees items.now))) }
+        ≡ let_choices names.now context.now.want (elements_seen bindings.items) (option_map element_seen body)
+        (list (trees items.now))) }
 {
     match body {
         Some(body) => choices_with(context, names, bindings, body),
@@ -396,7 +405,8 @@ fn choices_with(
     body: SimpleElement,
 ) -> Result<NodeChoices, AllocError>
     ensures { IfOk result (λ made. choices_seen made
-        ≡ choices_of context.now.want (let_of names.now context.now.want (elements_seen bindings.items) (element_seen body))
+        ≡ choices_of context.now.want
+        (let_of names.now context.now.want (elements_seen bindings.items) (element_seen body))
         (shorter_let names.now context.now.want (elements_seen bindings.items) (element_seen body))) }
 {
     let alloc = context.alloc;

@@ -4,7 +4,8 @@ ghost use Rattle.std.specs.Prelude.{◌≡◌, IfOk};
 ghost use Rattle.decimal_json.specs.View.{tree_of};
 ghost use Rattle.expr_syntax.specs.ReadView.{reading_of};
 ghost use Rattle.property_tables.specs.RowView.{row_seen};
-ghost use Rattle.style_simplify.specs.SimplifiedStyle.{accepted_or_node, expression_read, filter_read, is_accepted, simplified_filter, simplified_value, unless_legacy};
+ghost use Rattle.style_simplify.specs.SimplifiedStyle.{accepted_or_node, expression_read, filter_read, is_accepted};
+ghost use Rattle.style_simplify.specs.SimplifiedStyle.{simplified_filter, simplified_value, unless_legacy};
 ghost use Rattle.style_simplify.specs.View.{choices_seen};
 ghost use Rattle.value_forms.specs.Forms.{is_token_text};
 
@@ -38,7 +39,8 @@ fn expression_read(
     json: &Json,
     read: Result<Reading, SynFault>,
 ) -> Result<Json, AllocError>
-    ensures { IfOk result (λ made. tree_of made ≡ expression_read (row_seen row.now) (tree_of json.now) (reading_of read)) }
+    ensures { IfOk result
+        (λ made. tree_of made ≡ expression_read (row_seen row.now) (tree_of json.now) (reading_of read)) }
 {
     match read {
         Ok(Reading::Inside(expression)) => {

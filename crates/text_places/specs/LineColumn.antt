@@ -1,5 +1,5 @@
--- The line and the column of a place in a text, both from 1. A line is ended by a LF, which is 10. A column is a character: of the bytes of
--- a character in UTF-8 all but the first are from 128 to 191. Source: own; RFC 3629 §3.
+-- The line and the column of a place in a text, both from 1. A line is ended by a LF, which is 10. A column is a
+-- character: of the bytes of a character in UTF-8 all but the first are from 128 to 191. Source: own; RFC 3629 §3.
 use Rattle.std.specs.Prelude.{ℕ, ◌+◌, List, [], ◌∷◌, Bool, ◌==◌, ◌&&◌, nat_le, if◌then◌else◌}
 use Rattle.text_places.specs.declared.place.TextPlace.{TextPlace}
 

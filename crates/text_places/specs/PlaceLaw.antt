@@ -30,7 +30,8 @@ abbrev pub BeginsWithValue : Tree → List ℕ → Type 0
 BeginsWithValue t b = (k : ℕ) × (q : List ℕ) × SpellsValue k all_rules t b q
 
 abbrev pub BeginsWithMember : (key : List ℕ) → Tree → List ℕ → Type 0
-BeginsWithMember key t b = (k : ℕ) × (taken : List (List ℕ)) × (q : List ℕ) × Pair taken all_rules key (SpellsValue k all_rules t) b q
+BeginsWithMember key t b =
+    (k : ℕ) × (taken : List (List ℕ)) × (q : List ℕ) × Pair taken all_rules key (SpellsValue k all_rules t) b q
 
 -- the text of what this part leads to
 abbrev pub BeginsWithPart : PathPart → Tree → List ℕ → Type 0
@@ -43,7 +44,9 @@ BeginsWith [] t b = BeginsWithValue t b
 BeginsWith (part ∷ []) t b = BeginsWithPart part t b
 BeginsWith (part ∷ next ∷ path) t b = BeginsWith (next ∷ path) t b
 
--- Where a text spells a tree that has a value at a path, the bytes from the place of the path on begin with the text of the value, and
--- where it is a member with its name, a colon and the value.
+-- Where a text spells a tree that has a value at a path, the bytes from the place of the path on begin with the text of
+-- the value, and where it is a member with its name, a colon and the value.
 abbrev pub PlacesSpellTheirValues : Type 0
-PlacesSpellTheirValues = (text : List ℕ) (t v : Tree) (path : List PathPart) → Spells all_rules text t → value_at path t ≡ Some v → BeginsWith path v (from_place text t path)
+PlacesSpellTheirValues =
+    (text : List ℕ) (t v : Tree) (path : List PathPart) → Spells all_rules text t → value_at path t ≡ Some v →
+    BeginsWith path v (from_place text t path)

@@ -1,9 +1,10 @@
--- What follows the parts of a JSON text, by the tree that it spells. The bytes before are those of a text that spells it.
--- Source: RFC 8259 §2 to §7.
+-- What follows the parts of a JSON text, by the tree that it spells. The bytes before are those of a text that spells
+-- it. Source: RFC 8259 §2 to §7.
 use Rattle.std.specs.Prelude.{ℕ, List, [], ◌∷◌, Bool, true, false, ◌==◌, drop, length, if◌then◌else◌}
 use Rattle.json_tokens.specs.Sequence.{is_space}
 use Rattle.decimal_json.specs.Grammar.{word_of}
-use Rattle.decimal_json.specs.Tree.{Tree, null, boolean, number, text, list, object, Trees, no_trees, tree, Fields, no_fields, field}
+use Rattle.decimal_json.specs.Tree.{Tree, null, boolean, number, text, list, object, Trees, no_trees, tree, Fields}
+use Rattle.decimal_json.specs.Tree.{no_fields, field}
 
 -- after white space
 abbrev pub after_spaces : List ℕ → List ℕ
@@ -14,7 +15,8 @@ after_spaces (c ∷ b) = if is_space c then after_spaces b else c ∷ b
 abbrev pub after_mark : List ℕ → List ℕ
 after_mark b = after_spaces (drop 1 b)
 
--- after the rest of a string: its closing quotation mark, which is 34. A reverse solidus, which is 92, escapes the next byte.
+-- after the rest of a string: its closing quotation mark, which is 34. A reverse solidus, which is 92, escapes the next
+-- byte.
 abbrev pub after_closing : (escaped : Bool) → List ℕ → List ℕ
 after_closing escaped [] = []
 after_closing true (c ∷ b) = after_closing false b

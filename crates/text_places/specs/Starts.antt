@@ -36,7 +36,8 @@ keys_of (field k t fs) = k ∷ keys_of fs
 -- these are the starts of the parts of a value at these bytes, and of the members of an object the keys are indexed
 abbrev pub AreStarts : Starts → Tree → List ℕ → Type 0
 AreStarts starts (list ts) b = slices_seen starts.parts.items ≡ item_starts ts (after_mark b)
-AreStarts starts (object fs) b = (slices_seen starts.parts.items ≡ member_starts fs (after_mark b)) × IsIndexed starts.index (keys_of fs)
+AreStarts starts (object fs) b =
+    (slices_seen starts.parts.items ≡ member_starts fs (after_mark b)) × IsIndexed starts.index (keys_of fs)
 AreStarts starts _ b = Unit {0}
 
 -- one step down by a part that may be there

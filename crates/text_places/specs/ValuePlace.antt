@@ -1,4 +1,5 @@
--- Where the value at a path is in a JSON text, by the tree that the text spells. A place is given by the bytes from there on.
+-- Where the value at a path is in a JSON text, by the tree that the text spells. A place is given by the bytes from
+-- there on.
 use Rattle.std.specs.Prelude.{ℕ, zero, suc, List, [], ◌∷◌, Option, Some, None, option_map, unwrap_or, if◌then◌else◌}
 use Rattle.std.specs.Str.{bytes_eq}
 use Rattle.decimal_json.specs.Tree.{Tree, list, object, Trees, no_trees, tree, Fields, no_fields, field}
@@ -6,7 +7,8 @@ use Rattle.decimal_json.specs.declared.paths.PathPart.{PathPart}
 use Rattle.decimal_json.specs.declared.paths.PathPart.TheVariants.{Key, Index}
 use Rattle.text_places.specs.Skipping.{after_mark, after_spaces, member_value, next_item, next_member}
 
--- A value in a text: the bytes from its name on, or from the value on where it is no member, and those from the value on.
+-- A value in a text: the bytes from its name on, or from the value on where it is no member, and those from the value
+-- on.
 pub record PlacedValue : Type 0 where
   pub value : Tree
   pub name : List ℕ
@@ -22,7 +24,8 @@ item_at (suc i) (tree t ts) b = item_at i ts (next_item t b)
 abbrev pub member_at : List ℕ → Fields → List ℕ → Option PlacedValue
 member_at key no_fields b = None
 member_at key (field k t fs) b =
-    if bytes_eq k key then Some (record { value = t; name = b; at = member_value b }) else member_at key fs (next_member t b)
+    if bytes_eq k key then Some (record { value = t; name = b; at = member_value b }) else
+    member_at key fs (next_member t b)
 
 -- one step down from a value at these bytes
 abbrev pub part_at : PathPart → Tree → List ℕ → Option PlacedValue

@@ -1,8 +1,10 @@
 //! A walk down a tree and its text, to the places of paths.
 
-ghost use Rattle.std.specs.Prelude.{◌≡◌, ◌+◌, ◌<◌, ◌≤◌, ◌^◌, ◌++◌, true, drop, length, option_map, replicate, slice_get, take, IfOk, OnOk, IfSome};
+ghost use Rattle.std.specs.Prelude.{◌≡◌, ◌+◌, ◌<◌, ◌≤◌, ◌^◌, ◌++◌, true, drop, length, option_map, replicate};
+ghost use Rattle.std.specs.Prelude.{slice_get, take, IfOk, OnOk, IfSome};
 ghost use Rattle.decimal_json.specs.View.{tree_of};
-ghost use Rattle.text_places.specs.Starts.{AreAlike, AreStarts, first_part, lefts_below, paths_seen, placed_seen, step_at};
+ghost use Rattle.text_places.specs.Starts.{AreAlike, AreStarts, first_part, lefts_below, paths_seen, placed_seen};
+ghost use Rattle.text_places.specs.Starts.{step_at};
 
 use crate::starts::{PlacedJson, Starts, part_of, starts_of};
 use decimal_json::{Path, PathPart};
@@ -17,7 +19,8 @@ pub(crate) fn find_places(
     depth: usize,
     found: &mut Vec<usize>,
 ) -> Result<(), AllocError>
-    ensures { OnOk result (found.new.items ≡ found.old.items ++ lefts_below depth (placed_seen placed.now) (paths_seen paths.now)) }
+    ensures { OnOk result (found.new.items
+        ≡ found.old.items ++ lefts_below depth (placed_seen placed.now) (paths_seen paths.now)) }
 {
     let starts = starts_of(*found.allocator(), placed.json, placed.value)?;
     let mut at = 0;
@@ -40,7 +43,8 @@ fn find_next(
 ) -> Result<usize, AllocError>
     requires starts { AreStarts starts.now (tree_of placed.now.json.now) placed.now.value.now }
     requires within { at < length paths.now }
-    ensures left { IfOk result (λ end. found.new.items ++ lefts_below depth (placed_seen placed.now) (paths_seen (drop end paths.now))
+    ensures left { IfOk result
+        (λ end. found.new.items ++ lefts_below depth (placed_seen placed.now) (paths_seen (drop end paths.now))
         ≡ found.old.items ++ lefts_below depth (placed_seen placed.now) (paths_seen (drop at paths.now))) }
     ensures further { IfOk result (λ end. at < end) }
     ensures within { IfOk result (λ end. end ≤ length paths.now) }
@@ -63,7 +67,8 @@ fn find_run(
     requires starts { AreStarts starts.now (tree_of placed.now.json.now) placed.now.value.now }
     requires alike { AreAlike depth (first_part depth (paths_seen run.now)) (paths_seen run.now) }
     requires some { 0 < length run.now }
-    ensures { OnOk result (found.new.items ≡ found.old.items ++ lefts_below depth (placed_seen placed.now) (paths_seen run.now)) }
+    ensures { OnOk result (found.new.items
+        ≡ found.old.items ++ lefts_below depth (placed_seen placed.now) (paths_seen run.now)) }
 {
     match step_of(&*placed, &*starts, run[0], depth) {
         Some(next) => find_places(&next, &*run, depth + 1, found),

@@ -21,7 +21,8 @@ pub(crate) struct CountedPlace {
     place: TextPlace,
 }
 
-/// The line and column of the byte at a place of a text, or of the end of the text. Time is linear in the bytes before it. Source: own.
+/// The line and column of the byte at a place of a text, or of the end of the text. Time is linear in the bytes before
+/// it. Source: own.
 pub fn byte_place(text: &[u8], at: usize) -> TextPlace
     requires { at ≤ length text.now }
     ensures { result ≡ after_bytes first_place (take at text.now) }

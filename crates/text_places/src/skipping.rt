@@ -3,7 +3,8 @@
 ghost use Rattle.std.specs.Prelude.{◌≡◌, drop, false};
 ghost use Rattle.json_tokens.specs.Sequence.{is_space};
 ghost use Rattle.decimal_json.specs.View.{tree_of, trees, fields};
-ghost use Rattle.text_places.specs.Skipping.{after_closing, after_items, after_mark, after_members, after_spaces, after_string, after_value, member_value, next_item, next_member};
+ghost use Rattle.text_places.specs.Skipping.{after_closing, after_items, after_mark, after_members, after_spaces};
+ghost use Rattle.text_places.specs.Skipping.{after_string, after_value, member_value, next_item, next_member};
 
 use decimal_json::{Json, Member};
 

@@ -71,7 +71,8 @@ fn members_started<'a>(
     members: &Members,
     text: &'a [u8],
 ) -> Result<Starts<'a>, AllocError>
-    ensures starts { IfOk result (λ starts. slices_seen starts.parts.items ≡ member_starts (fields_of members.now) text.now) }
+    ensures starts { IfOk result
+        (λ starts. slices_seen starts.parts.items ≡ member_starts (fields_of members.now) text.now) }
     ensures index { IfOk result (λ starts. IsIndexed starts.index (keys_of (fields_of members.now))) }
 {
     let index = index_of(alloc, members);
@@ -173,7 +174,8 @@ fn started_member<'a>(
     starts: &[&'a [u8]],
     place: usize,
 ) -> Option<PlacedJson<'a>>
-    ensures { (b key : List ℕ) → place_from 0 key (member_keys members.now) ≡ Some place → slices_seen starts.now ≡ member_starts (fields members.now) b
+    ensures { (b key : List ℕ) → place_from 0 key (member_keys members.now) ≡ Some place
+        → slices_seen starts.now ≡ member_starts (fields members.now) b
         → option_map placed_seen result ≡ member_at key (fields members.now) b }
 {
     if place >= members.len() {

@@ -12,8 +12,8 @@ use std::alloc::{AllocError, Global};
 
 /// The line and column of the member or value at each path of a tree, in the text that spells it.
 ///
-/// Of a member it is the place of its name, of an item or the root that of the value. Time is linear in the text where the paths
-/// are in its order. Source: own.
+/// Of a member it is the place of its name, of an item or the root that of the value. Time is linear in the text where
+/// the paths are in its order. Source: own.
 #[tactic(auto, using(crate::proofs::PathLaws::places_of_lefts))]
 pub fn text_places(
     alloc: Global,
@@ -21,7 +21,8 @@ pub fn text_places(
     json: &Json,
     paths: &[&Path],
 ) -> Result<Vec<TextPlace>, AllocError>
-    ensures { IfOk result (λ places. places.items ≡ map (text_place text.now (tree_of json.now)) (paths_seen paths.now)) }
+    ensures { IfOk result
+        (λ places. places.items ≡ map (text_place text.now (tree_of json.now)) (paths_seen paths.now)) }
 {
     let first = after_spaces(text);
     let placed = PlacedJson {

@@ -6,4 +6,5 @@ use Rattle.tile_listing.specs.Extents.{extents_of}
 
 -- as many extents as layers
 abbrev pub EachLayerHasItsExtent : Type 0
-EachLayerHasItsExtent = (b : List ℕ) (layers : List TileLayer) → tile_of b ≡ Ok layers → length (extents_of b) ≡ length layers
+EachLayerHasItsExtent =
+    (b : List ℕ) (layers : List TileLayer) → tile_of b ≡ Ok layers → length (extents_of b) ≡ length layers

@@ -19,7 +19,8 @@ extent_after extent number payload = if nat_eq number 5 then last_else extent (n
 
 -- the extent of a layer after these fields
 abbrev pub extent_from : (extent : ℕ) → List WireField → ℕ
-extent_from extent fields = last_else extent (flat_map (λ (field : WireField). number_held field.payload) (fields_of_number 5 fields))
+extent_from extent fields =
+    last_else extent (flat_map (λ (field : WireField). number_held field.payload) (fields_of_number 5 fields))
 
 -- the extent that a field of a tile adds
 abbrev pub extents_in : (number : ℕ) → Payload → List ℕ

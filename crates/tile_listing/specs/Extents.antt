@@ -1,5 +1,5 @@
--- The extents of the layers of a tile, which a reader of its features does not keep. Source: Vector Tile 2.1 §4.1 and the table of
--- the message Layer.
+-- The extents of the layers of a tile, which a reader of its features does not keep. Source: Vector Tile 2.1 §4.1 and
+-- the table of the message Layer.
 use Rattle.std.specs.Prelude.{ℕ, List, [], ◌∷◌, flat_map, map}
 use Rattle.proto_wire.specs.Message.{Payload, varint, bits64, bytes, bits32, WireField, content_of}
 use Rattle.tile_reader.specs.Format.{fields_of_number, last_else}
@@ -18,7 +18,8 @@ number_held (bits32 n) = []
 
 -- of the fields 5 of a layer the last holds
 abbrev pub extent_of : List WireField → ℕ
-extent_of fields = last_else default_extent (flat_map (λ (field : WireField). number_held field.payload) (fields_of_number 5 fields))
+extent_of fields =
+    last_else default_extent (flat_map (λ (field : WireField). number_held field.payload) (fields_of_number 5 fields))
 
 -- the extent of the layer that these bytes are
 abbrev pub extent_in : List ℕ → ℕ

@@ -1,5 +1,5 @@
--- The listing of a tile, line by line: its layers, their features and the properties of these, each in the order of the tile.
--- Source: own.
+-- The listing of a tile, line by line: its layers, their features and the properties of these, each in the order of the
+-- tile. Source: own.
 use Rattle.std.specs.Prelude.{ℕ, ◌+◌, List, [], ◌∷◌, ◌++◌, flat_map, codes, decimal, get_or}
 use Rattle.decimal_json.specs.JsonText.{text_json}
 use Rattle.listing_text.specs.Listing.{line, feature_line, feature_margin}
@@ -33,7 +33,8 @@ layer_lines layer extent = layer_line layer.name extent ++ features_lines 0 laye
 -- Layers, of which the first is at this place, with their extents.
 abbrev pub layers_lines : (extents : List ℕ) → ℕ → List TileLayer → List ℕ
 layers_lines extents place [] = []
-layers_lines extents place (layer ∷ layers) = layer_lines layer (get_or extents place default_extent) ++ layers_lines extents (place + 1) layers
+layers_lines extents place (layer ∷ layers) =
+    layer_lines layer (get_or extents place default_extent) ++ layers_lines extents (place + 1) layers
 
 -- The lines of the tile of these layers, which was read from these bytes.
 abbrev pub tile_listing : (bytes : List ℕ) → List TileLayer → List ℕ

@@ -41,7 +41,8 @@ fn next_field<'a>(fields: &mut Fields<'a>) -> Option<Field<'a>>
 
 // Adds the extent of the layer that a field of a tile holds, if it holds one.
 fn add_extent(field: Field<'_>, extents: &mut Vec<u64>) -> Result<(), AllocError>
-    ensures { OnOk result (extents.new.items ≡ extents.old.items ++ extents_in field.entry.number (payload_seen field.entry.wire)) }
+    ensures { OnOk result (extents.new.items
+        ≡ extents.old.items ++ extents_in field.entry.number (payload_seen field.entry.wire)) }
 {
     if field.number == 3 {
         extents.push(extent_in(content_of(field.wire)))?;

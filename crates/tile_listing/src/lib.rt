@@ -8,9 +8,9 @@
 //! //     "class" "minor"
 //! ```
 //!
-//! What is promised: `write_tile` appends exactly the lines that `specs/TileListing.antt` defines, by the layers of the tile and the
-//! extents that its bytes say; a layer of a tile has its own extent (`each_layer_has_its_extent`). Time is linear in the bytes and
-//! the text. A key or text that many features have in common is written for each of them.
+//! What is promised: `write_tile` appends exactly the lines that `specs/TileListing.antt` defines, by the layers of the
+//! tile and the extents that its bytes say; a layer of a tile has its own extent (`each_layer_has_its_extent`). Time is
+//! linear in the bytes and the text. A key or text that many features have in common is written for each of them.
 //!
 //! The text to believe is in `specs/`: `Extents`, `TileListing`. Law of it: `ExtentLaw`.
 #![tactic(auto)]

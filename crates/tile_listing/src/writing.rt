@@ -6,7 +6,8 @@ ghost use Rattle.prop_values.specs.ValueText.{listed_text};
 ghost use Rattle.prop_values.specs.View.{data_of};
 ghost use Rattle.prop_values.specs.ViewParts.{entries_view};
 ghost use Rattle.tile_listing.specs.Extents.{default_extent};
-ghost use Rattle.tile_listing.specs.TileListing.{feature_lines, features_lines, layer_line, layer_lines, layers_lines, property_line, tile_listing};
+ghost use Rattle.tile_listing.specs.TileListing.{feature_lines, features_lines, layer_line, layer_lines, layers_lines};
+ghost use Rattle.tile_listing.specs.TileListing.{property_line, tile_listing};
 
 use crate::extents::{DEFAULT_EXTENT, extents_of};
 use decimal_json::write_text;
@@ -116,7 +117,8 @@ fn write_property(key: &str, value: &Value, out: &mut Vec<u8>) -> Result<(), All
     Ok(())
 }
 
-// Appends the listed text of a value. Tiles have numbers, texts and booleans alone, which take no memory except in `out`.
+// Appends the listed text of a value. Tiles have numbers, texts and booleans alone, which take no memory except in
+// `out`.
 fn write_value(value: &Value, out: &mut Vec<u8>) -> Result<(), AllocError>
     ensures { OnOk result (out.new.items ≡ out.old.items ++ listed_text (data_of value.now)) }
 {

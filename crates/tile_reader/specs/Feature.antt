@@ -1,5 +1,6 @@
 -- A feature of a layer. Source: Vector Tile 2.1 §4.2 and the table of the message Feature.
-use Rattle.std.specs.Prelude.{ℕ, zero, suc, List, [], ◌∷◌, ◌++◌, length, Option, Some, None, Result, Ok, Err, if◌then◌else◌, nat_eq}
+use Rattle.std.specs.Prelude.{ℕ, zero, suc, List, [], ◌∷◌, ◌++◌, length, Option, Some, None, Result, Ok, Err}
+use Rattle.std.specs.Prelude.{if◌then◌else◌, nat_eq}
 use Rattle.proto_wire.specs.declared.wire.WireKind.{WireKind}
 use Rattle.proto_wire.specs.Varint.{varint_at}
 use Rattle.proto_wire.specs.Message.{Payload, varint, bits64, bytes, bits32, WireField}
@@ -81,8 +82,10 @@ shape_of at n =
 -- what a field adds to a feature; of an id and of a type the last holds
 abbrev pub feature_field : FeatureMember → Tagged → WireField → Result Tagged TileFault
 feature_field Id feature field = number_in field.at field.payload then λ n. Ok (record feature { id = Some n })
-feature_field Tags feature field = tags_in field.at field.payload then λ ns. Ok (record feature { tags = feature.tags ++ ns })
-feature_field Shape feature field = number_in field.at field.payload then λ n. shape_of field.at n then λ s. Ok (record feature { shape = s })
+feature_field Tags feature field =
+    tags_in field.at field.payload then λ ns. Ok (record feature { tags = feature.tags ++ ns })
+feature_field Shape feature field =
+    number_in field.at field.payload then λ n. shape_of field.at n then λ s. Ok (record feature { shape = s })
 feature_field Geometry feature field = geometry_in field.at field.payload then λ _. Ok feature
 feature_field Unknown feature field = Ok feature
 

@@ -1,7 +1,8 @@
 -- The first fault of bytes that are no tile, in the words of the format: what is before it is fine, and it is
 -- the fault of what comes next. The reading order is that of the bytes; what a layer lacks is at its end,
 -- then the tags of its features. Source: own.
-use Rattle.std.specs.Prelude.{◌≡◌, ◌≢◌, ℕ, ◌%◌, ◌≤◌, ◌⊎◌, List, [], ◌∷◌, ◌++◌, length, true, false, Option, Some, None, Ok, Err}
+use Rattle.std.specs.Prelude.{◌≡◌, ◌≢◌, ℕ, ◌%◌, ◌≤◌, ◌⊎◌, List, [], ◌∷◌, ◌++◌, length, true, false, Option, Some, None}
+use Rattle.std.specs.Prelude.{Ok, Err}
 use Rattle.std.specs.Str.{is_utf8}
 use Rattle.proto_wire.specs.declared.wire.WireKind.{WireKind}
 use Rattle.proto_wire.specs.declared.field.WireFault.{WireFault}
@@ -21,7 +22,8 @@ use Rattle.tile_reader.specs.Value.{value_member}
 use Rattle.tile_reader.specs.Feature.{Tagged}
 use Rattle.tile_reader.specs.Names.{names}
 use Rattle.tile_reader.specs.Tile.{is_compressed}
-use Rattle.tile_reader.specs.Format.{Each, Hold, last_of, IsNumber, IsBytes, IsText, HoldsMessage, Says, known_fields, IsValue, AreFeatureFields, ArePairs, IsLayer, HaveNewNames}
+use Rattle.tile_reader.specs.Format.{Each, Hold, last_of, IsNumber, IsBytes, IsText, HoldsMessage, Says, known_fields}
+use Rattle.tile_reader.specs.Format.{IsValue, AreFeatureFields, ArePairs, IsLayer, HaveNewNames}
 
 -- a fault of this kind at this place
 abbrev pub IsAt : TileKind → ℕ → TileFault → Type 0
@@ -29,11 +31,13 @@ IsAt kind at fault = fault ≡ record { kind = kind; at = at }
 
 -- The first fault of a message: the fields before it hold what they should, and next is a field with that
 -- fault, or bytes that are no field.
-abbrev pub FirstIn : {X : Type 0} → (List WireField → X → Type 0) → (X → WireField → TileFault → Type 0) → ℕ → List ℕ → TileFault → Type 0
+abbrev pub FirstIn : {X : Type 0} → (List WireField → X → Type 0) → (X → WireField → TileFault → Type 0) → ℕ → List ℕ →
+    TileFault → Type 0
 FirstIn {X} Held Breaks at b fault =
     (before : List WireField) × (so_far : X) × Held before so_far
     × (((wire : WireFault) × AreFields at b before (Some wire) × (fault ≡ broken wire))
-    ⊎ ((field : WireField) × (after : List WireField) × (end : Option WireFault) × AreFields at b (before ++ field ∷ after) end × Breaks so_far field fault))
+    ⊎ ((field : WireField) × (after : List WireField) × (end : Option WireFault)
+    × AreFields at b (before ++ field ∷ after) end × Breaks so_far field fault))
 
 -- the field is no varint, no bytes
 abbrev pub NoNumber : WireField → Type 0
@@ -54,7 +58,8 @@ BreaksText field fault =
 -- What the fields of a value say so far: nothing, or one thing.
 abbrev pub HaveSaid : List WireField → Option Data → Type 0
 HaveSaid fields None = known_fields fields ≡ []
-HaveSaid fields (Some value) = (only : WireField) × (known_fields fields ≡ only ∷ []) × Says (value_member only.number) only value
+HaveSaid fields (Some value) =
+    (only : WireField) × (known_fields fields ≡ only ∷ []) × Says (value_member only.number) only value
 
 -- a second field of a value
 abbrev pub IsSecond : Option Data → WireField → TileFault → Type 0
@@ -65,20 +70,27 @@ IsSecond before field fault = ((value : Data) × (before ≡ Some value)) × IsA
 abbrev pub BreaksSaying : ValueMember → Option Data → WireField → TileFault → Type 0
 BreaksSaying member.String before field fault =
     (NoBytes field × IsAt kind.FieldType field.at fault)
-    ⊎ ((text : List ℕ) × IsBytes field text × (IsSecond before field fault ⊎ ((before ≡ None) × (is_utf8 text ≡ false) × IsAt kind.Utf8 field.at fault)))
+    ⊎ ((text : List ℕ) × IsBytes field text
+    × (IsSecond before field fault ⊎ ((before ≡ None) × (is_utf8 text ≡ false) × IsAt kind.Utf8 field.at fault)))
 BreaksSaying member.Float before field fault =
-    (((n : ℕ) → field.payload ≢ bits32 n) × IsAt kind.FieldType field.at fault) ⊎ ((n : ℕ) × (field.payload ≡ bits32 n) × IsAt kind.FloatValue field.at fault)
+    (((n : ℕ) → field.payload ≢ bits32 n) × IsAt kind.FieldType field.at fault)
+    ⊎ ((n : ℕ) × (field.payload ≡ bits32 n) × IsAt kind.FloatValue field.at fault)
 BreaksSaying member.Double before field fault =
-    (((n : ℕ) → field.payload ≢ bits64 n) × IsAt kind.FieldType field.at fault) ⊎ ((n : ℕ) × (field.payload ≡ bits64 n) × IsAt kind.FloatValue field.at fault)
+    (((n : ℕ) → field.payload ≢ bits64 n) × IsAt kind.FieldType field.at fault)
+    ⊎ ((n : ℕ) × (field.payload ≡ bits64 n) × IsAt kind.FloatValue field.at fault)
 BreaksSaying member.Unknown before field fault = ⊥
-BreaksSaying other before field fault = BreaksNumber field fault ⊎ ((n : ℕ) × IsNumber field n × IsSecond before field fault)
+BreaksSaying other before field fault =
+    BreaksNumber field fault ⊎ ((n : ℕ) × IsNumber field n × IsSecond before field fault)
 
 -- the first fault of a field that is to be a value
 abbrev pub BreaksValue : WireField → TileFault → Type 0
 BreaksValue field fault =
     (NoBytes field × IsAt kind.FieldType field.at fault)
-    ⊎ ((content : List ℕ) × IsBytes field content × FirstIn HaveSaid (λ said inner. BreaksSaying (value_member inner.number) said inner) (content_start field) content fault)
-    ⊎ ((fields : List WireField) × HoldsMessage field fields × (known_fields fields ≡ []) × IsAt kind.ValueKind field.at fault)
+    ⊎ ((content : List ℕ) × IsBytes field content
+    × FirstIn HaveSaid (λ said inner. BreaksSaying (value_member inner.number) said inner) (content_start field)
+    content fault)
+    ⊎ ((fields : List WireField) × HoldsMessage field fields × (known_fields fields ≡ [])
+    × IsAt kind.ValueKind field.at fault)
 
 -- the bytes begin with these varints, and what comes next is broken: there is more, and it begins with no
 -- varint
@@ -91,8 +103,10 @@ abbrev pub BreaksFeatureField : WireField → TileFault → Type 0
 BreaksFeatureField field fault =
     ((field.number ≡ 1) × BreaksNumber field fault)
     ⊎ ((field.number ≡ 2) × ((NoNumber field × NoBytes field × IsAt kind.FieldType field.at fault)
-    ⊎ ((content : List ℕ) × IsBytes field content × (ns : List ℕ) × (wire : WireKind) × BreaksPacked content ns wire × IsAt (kind.Wire wire) field.at fault)))
-    ⊎ ((field.number ≡ 3) × (BreaksNumber field fault ⊎ ((n : ℕ) × IsNumber field n × (4 ≤ n) × IsAt kind.GeometryType field.at fault)))
+    ⊎ ((content : List ℕ) × IsBytes field content × (ns : List ℕ) × (wire : WireKind) × BreaksPacked content ns wire
+    × IsAt (kind.Wire wire) field.at fault)))
+    ⊎ ((field.number ≡ 3)
+    × (BreaksNumber field fault ⊎ ((n : ℕ) × IsNumber field n × (4 ≤ n) × IsAt kind.GeometryType field.at fault)))
     ⊎ ((field.number ≡ 4) × NoNumber field × NoBytes field × IsAt kind.FieldType field.at fault)
 
 -- what the fields of a feature hold so far
@@ -108,7 +122,8 @@ AreSoFar fields so_far = AreFeatureFields fields so_far.id so_far.kind so_far.ta
 abbrev pub BreaksFeature : WireField → TileFault → Type 0
 BreaksFeature field fault =
     (NoBytes field × IsAt kind.FieldType field.at fault)
-    ⊎ ((content : List ℕ) × IsBytes field content × FirstIn AreSoFar (λ _ inner. BreaksFeatureField inner) (content_start field) content fault)
+    ⊎ ((content : List ℕ) × IsBytes field content
+    × FirstIn AreSoFar (λ _ inner. BreaksFeatureField inner) (content_start field) content fault)
 
 -- a feature before its tags are looked up, with the place of its field
 pub record IsTagged (field : WireField) (tagged : Tagged) : Type 0 where
@@ -148,14 +163,16 @@ BreaksLayerField field fault =
 abbrev pub BreaksTags : List (List ℕ) → List Data → Tagged → TileFault → Type 0
 BreaksTags keys values tagged fault =
     ((length tagged.tags % 2 ≡ 1) × IsAt kind.OddTags tagged.at fault)
-    ⊎ ((length tagged.tags % 2 ≢ 1) × ((pairs : List (List ℕ × Data)) → ArePairs keys values tagged.tags pairs → ⊥) × IsAt kind.TagIndex tagged.at fault)
+    ⊎ ((length tagged.tags % 2 ≢ 1) × ((pairs : List (List ℕ × Data)) → ArePairs keys values tagged.tags pairs → ⊥)
+    × IsAt kind.TagIndex tagged.at fault)
 
 -- the fault of the first feature whose tags have one
 abbrev pub BreaksFeatures : List (List ℕ) → List Data → List Tagged → TileFault → Type 0
 BreaksFeatures keys values [] fault = ⊥
 BreaksFeatures keys values (tagged ∷ others) fault =
     BreaksTags keys values tagged fault
-    ⊎ (((pairs : List (List ℕ × Data)) × ArePairs keys values tagged.tags pairs) × BreaksFeatures keys values others fault)
+    ⊎ (((pairs : List (List ℕ × Data)) × ArePairs keys values tagged.tags pairs)
+    × BreaksFeatures keys values others fault)
 
 -- What a layer lacks at its end, after layers of these names: its name, its version, a new name, and then the
 -- tags of a feature.
@@ -173,8 +190,10 @@ BreaksEnd earlier layer at fault =
 abbrev pub BreaksLayer : List (List ℕ) → WireField → TileFault → Type 0
 BreaksLayer earlier field fault =
     (NoBytes field × IsAt kind.FieldType field.at fault)
-    ⊎ ((content : List ℕ) × IsBytes field content × FirstIn AreLayerSoFar (λ _ inner. BreaksLayerField inner) (content_start field) content fault)
-    ⊎ ((fields : List WireField) × HoldsMessage field fields × (layer : LayerSoFar) × AreLayerSoFar fields layer × BreaksEnd earlier layer field.at fault)
+    ⊎ ((content : List ℕ) × IsBytes field content
+    × FirstIn AreLayerSoFar (λ _ inner. BreaksLayerField inner) (content_start field) content fault)
+    ⊎ ((fields : List WireField) × HoldsMessage field fields × (layer : LayerSoFar) × AreLayerSoFar fields layer
+    × BreaksEnd earlier layer field.at fault)
 
 -- the layers so far
 abbrev pub AreLayersSoFar : List WireField → List TileLayer → Type 0
@@ -184,4 +203,6 @@ AreLayersSoFar fields layers = Hold 3 IsLayer fields layers × HaveNewNames [] l
 abbrev pub IsFirstFault : List ℕ → TileFault → Type 0
 IsFirstFault b fault =
     ((is_compressed b ≡ true) × IsAt kind.Compressed 0 fault)
-    ⊎ ((is_compressed b ≡ false) × FirstIn AreLayersSoFar (λ layers field inner. (field.number ≡ 3) × BreaksLayer (names layers) field inner) 0 b fault)
+    ⊎ ((is_compressed b ≡ false)
+    × FirstIn AreLayersSoFar (λ layers field inner. (field.number ≡ 3) × BreaksLayer (names layers) field inner) 0
+    b fault)

@@ -1,7 +1,8 @@
 -- What a tile is in the words of its format: said of the lists of fields, and not of the order in which a
 -- reader meets them. This is the text to believe; `tile_of` is the function that it determines.
 -- Source: Vector Tile 2.1 §4, Protocol Buffers "Encoding".
-use Rattle.std.specs.Prelude.{◌≡◌, ◌≢◌, ℕ, pos, ◌⊎◌, not, List, [], ◌∷◌, ◌++◌, map, Bool, true, false, Option, Some, None, Ok, if◌then◌else◌, nat_eq, slice_get}
+use Rattle.std.specs.Prelude.{◌≡◌, ◌≢◌, ℕ, pos, ◌⊎◌, not, List, [], ◌∷◌, ◌++◌, map, Bool, true, false, Option, Some}
+use Rattle.std.specs.Prelude.{None, Ok, if◌then◌else◌, nat_eq, slice_get}
 use Rattle.std.specs.Str.{is_utf8, bytes_eq}
 use Rattle.proto_wire.specs.Varint.{varint_at}
 use Rattle.proto_wire.specs.Message.{varint, bytes, WireField, content_start}
@@ -13,14 +14,16 @@ use Rattle.tile_reader.specs.declared.tile.Shape.TheVariants as shapes
 use Rattle.tile_reader.specs.declared.tile.Feature.{Feature}
 use Rattle.tile_reader.specs.declared.tile.TileLayer.{TileLayer}
 use Rattle.tile_reader.specs.declared.value.ValueMember.{ValueMember}
-use Rattle.tile_reader.specs.declared.value.ValueMember.TheVariants.{String, Float, Double, Int, Uint, Sint, Flag, Unknown}
+use Rattle.tile_reader.specs.declared.value.ValueMember.TheVariants.{String, Float, Double, Int, Uint, Sint, Flag}
+use Rattle.tile_reader.specs.declared.value.ValueMember.TheVariants.{Unknown}
 use Rattle.tile_reader.specs.Value.{whole, from_int, from_zigzag, value_member}
 use Rattle.tile_reader.specs.Tile.{is_compressed}
 
 -- the fields of this number, in order
 abbrev pub fields_of_number : ℕ → List WireField → List WireField
 fields_of_number number [] = []
-fields_of_number number (field ∷ fields) = if nat_eq field.number number then field ∷ fields_of_number number fields else fields_of_number number fields
+fields_of_number number (field ∷ fields) =
+    if nat_eq field.number number then field ∷ fields_of_number number fields else fields_of_number number fields
 
 -- the things one by one are the others
 abbrev pub OneByOne : {A B : Type 0} → (A → B → Type 0) → List A → List B → Type 0
@@ -64,7 +67,8 @@ IsText field text = IsBytes field text × (is_utf8 text ≡ true)
 
 -- the field holds a message, which has these fields and nothing else
 abbrev pub HoldsMessage : WireField → List WireField → Type 0
-HoldsMessage field fields = (content : List ℕ) × IsBytes field content × AreFields (content_start field) content fields None
+HoldsMessage field fields =
+    (content : List ℕ) × IsBytes field content × AreFields (content_start field) content fields None
 
 -- The field says that a value is this, by the table of its fields: 1 string, 4 int, 5 uint, 6 sint, 7 bool.
 -- Fields 2 and 3, a float and a double, say nothing that a tile may hold.
@@ -85,7 +89,8 @@ is_known member = true
 -- the fields of a value that are not skipped
 abbrev pub known_fields : List WireField → List WireField
 known_fields [] = []
-known_fields (field ∷ fields) = if is_known (value_member field.number) then field ∷ known_fields fields else known_fields fields
+known_fields (field ∷ fields) =
+    if is_known (value_member field.number) then field ∷ known_fields fields else known_fields fields
 
 -- The field is this value of a layer: a message with exactly one of the seven fields.
 abbrev pub IsValue : WireField → Data → Type 0
@@ -120,7 +125,8 @@ IsGeometry field = ((n : ℕ) × IsNumber field n) ⊎ ((content : List ℕ) × 
 
 -- The fields are those of a feature: its id is the last field 1, its tags are those of the fields 2 in order,
 -- its type is the last field 3, and fields 4 are geometry.
-pub record AreFeatureFields (fields : List WireField) (id : Option ℕ) (kind : shape.Shape) (tags : List ℕ) : Type 0 where
+pub record AreFeatureFields (fields : List WireField) (id : Option ℕ) (kind : shape.Shape)
+    (tags : List ℕ) : Type 0 where
   pub id_fields : (ids : List ℕ) × Hold 1 IsNumber fields ids × (id ≡ last_of ids)
   pub tag_fields : (parts : List (List ℕ)) × Hold 2 AreTags fields parts × (tags ≡ concatenation parts)
   pub kind_fields : (kinds : List shape.Shape) × Hold 3 IsShape fields kinds × (kind ≡ last_else shapes.Unknown kinds)
@@ -136,7 +142,8 @@ ArePairs keys values tags pairs = ⊥
 -- the value of the last of these pairs with this key, or another where there is none
 abbrev pub last_value : List ℕ → Data → List (List ℕ × Data) → Data
 last_value key other [] = other
-last_value key other (pair ∷ pairs) = if bytes_eq pair.0 key then last_value key pair.1 pairs else last_value key other pairs
+last_value key other (pair ∷ pairs) =
+    if bytes_eq pair.0 key then last_value key pair.1 pairs else last_value key other pairs
 
 -- the pairs of other keys
 abbrev pub without_key : List ℕ → List (List ℕ × Data) → List (List ℕ × Data)
@@ -168,7 +175,8 @@ pub record AreLayerFields (fields : List WireField) (layer : TileLayer) : Type 0
       × (values : List Data) × Hold 4 IsValue fields values
       × Hold 2 (IsFeature keys values) fields layer.features
   pub extents : (extents : List ℕ) × Hold 5 IsNumber fields extents
-  pub versions : (versions : List ℕ) × Hold 15 IsNumber fields versions × ((last_of versions ≡ Some 1) ⊎ (last_of versions ≡ Some 2))
+  pub versions : (versions : List ℕ) × Hold 15 IsNumber fields versions
+      × ((last_of versions ≡ Some 1) ⊎ (last_of versions ≡ Some 2))
 
 -- the field is this layer
 abbrev pub IsLayer : WireField → TileLayer → Type 0
@@ -177,7 +185,8 @@ IsLayer field layer = (fields : List WireField) × HoldsMessage field fields × 
 -- no layer has the name of an earlier one
 abbrev pub HaveNewNames : List (List ℕ) → List TileLayer → Type 0
 HaveNewNames earlier [] = Unit {0}
-HaveNewNames earlier (layer ∷ layers) = Each (λ name. name ≢ layer.name) earlier × HaveNewNames (earlier ++ layer.name ∷ []) layers
+HaveNewNames earlier (layer ∷ layers) =
+    Each (λ name. name ≢ layer.name) earlier × HaveNewNames (earlier ++ layer.name ∷ []) layers
 
 -- The bytes are the tile of these layers: they are not compressed, they are a message, and its fields 3 are
 -- the layers.

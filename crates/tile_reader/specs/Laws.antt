@@ -17,7 +17,8 @@ TilesAreRead = (b : List ℕ) (layers : List TileLayer) → (tile_of b ≡ Ok la
 
 -- All bytes are a tile or have a first fault,
 abbrev pub TileOrFault : Type 0
-TileOrFault = (b : List ℕ) → ((layers : List TileLayer) × IsTile b layers) ⊎ ((fault : TileFault) × (tile_of b ≡ Err fault))
+TileOrFault = (b : List ℕ) → ((layers : List TileLayer) × IsTile b layers)
+    ⊎ ((fault : TileFault) × (tile_of b ≡ Err fault))
 
 -- not both,
 abbrev pub NeverBoth : Type 0

@@ -8,7 +8,8 @@ use Rattle.tile_reader.specs.declared.fault.TileKind.TheVariants as kind
 use Rattle.tile_reader.specs.declared.fault.TileFault.{TileFault}
 use Rattle.tile_reader.specs.declared.tile.TileLayer.{TileLayer}
 use Rattle.tile_reader.specs.declared.layer.LayerMember.{LayerMember}
-use Rattle.tile_reader.specs.declared.layer.LayerMember.TheVariants.{Name, Feature, Key, Value, Extent, Version, Unknown}
+use Rattle.tile_reader.specs.declared.layer.LayerMember.TheVariants.{Name, Feature, Key, Value, Extent, Version}
+use Rattle.tile_reader.specs.declared.layer.LayerMember.TheVariants.{Unknown}
 use Rattle.tile_reader.specs.Message.{message}
 use Rattle.tile_reader.specs.Read.{refused, ◌then◌, read_fields, number_in, bytes_in, text_in}
 use Rattle.tile_reader.specs.Value.{value_at}
@@ -37,9 +38,15 @@ layer_member number =
 -- what a field adds to a layer; of a name and of a version the last holds, and the extent is not kept
 abbrev pub layer_field : LayerMember → LayerFields → WireField → Result LayerFields TileFault
 layer_field Name parts field = text_in field.at field.payload then λ s. Ok (record parts { name = Some s })
-layer_field Feature parts field = bytes_in field.at field.payload then λ b. feature_at field.at (content_start field) b then λ feature. Ok (record parts { features = parts.features ++ feature ∷ [] })
+layer_field Feature parts field =
+    bytes_in field.at field.payload
+    then λ b. feature_at field.at (content_start field) b
+    then λ feature. Ok (record parts { features = parts.features ++ feature ∷ [] })
 layer_field Key parts field = text_in field.at field.payload then λ s. Ok (record parts { keys = parts.keys ++ s ∷ [] })
-layer_field Value parts field = bytes_in field.at field.payload then λ b. value_at field.at (content_start field) b then λ value. Ok (record parts { values = parts.values ++ value ∷ [] })
+layer_field Value parts field =
+    bytes_in field.at field.payload
+    then λ b. value_at field.at (content_start field) b
+    then λ value. Ok (record parts { values = parts.values ++ value ∷ [] })
 layer_field Extent parts field = number_in field.at field.payload then λ _. Ok parts
 layer_field Version parts field = number_in field.at field.payload then λ n. Ok (record parts { version = Some n })
 layer_field Unknown parts field = Ok parts
@@ -70,7 +77,8 @@ new_name at earlier name = if list_any (bytes_eq name) earlier then refused kind
 abbrev pub layer_end : ℕ → List (List ℕ) → LayerFields → Result TileLayer TileFault
 layer_end at earlier parts =
     name_of at parts.name then λ name. version_of at parts.version then λ _. new_name at earlier name then λ _.
-    features_of parts.keys parts.values [] parts.features then λ features. Ok (record { name = name; features = features })
+    features_of parts.keys parts.values [] parts.features
+    then λ features. Ok (record { name = name; features = features })
 
 -- the layer after layers of these names, whose tag is at `at` and whose content begins at `start`
 abbrev pub layer_at : ℕ → ℕ → List (List ℕ) → List ℕ → Result TileLayer TileFault

@@ -1,5 +1,6 @@
 -- How the keys of a layer are numbered so that the properties of a feature compare numbers and no texts.
-use Rattle.std.specs.Prelude.{◌≡◌, ℕ, ◌<◌, ◌⊎◌, suc, List, [], ◌∷◌, length, map, Option, Some, None, option_map, if◌then◌else◌, cond, nat_eq, slice_index, slice_index_or}
+use Rattle.std.specs.Prelude.{◌≡◌, ℕ, ◌<◌, ◌⊎◌, suc, List, [], ◌∷◌, length, map, Option, Some, None, option_map}
+use Rattle.std.specs.Prelude.{if◌then◌else◌, cond, nat_eq, slice_index, slice_index_or}
 use Rattle.std.specs.Str.{bytes_eq}
 use Rattle.std.specs.Borrow.{Bor}
 use Rattle.std.specs.BTreeMap.{BTreeMap, get_by}
@@ -15,7 +16,9 @@ text_place text (first ∷ texts) = if bytes_eq text first then Some 0 else opti
 
 -- each text's number is the place of the first text that equals it
 abbrev pub AreFirsts : List ℕ → List (List ℕ) → Type 0
-AreFirsts firsts texts = (length firsts ≡ length texts) × ((i : ℕ) → i < length texts → text_place (slice_index_or texts i []) texts ≡ Some (slice_index firsts i))
+AreFirsts firsts texts =
+    (length firsts ≡ length texts)
+    × ((i : ℕ) → i < length texts → text_place (slice_index_or texts i []) texts ≡ Some (slice_index firsts i))
 
 -- the pair that two indices are
 abbrev pub pair_seen : List (List ℕ) → List Data → ℕ × ℕ → List ℕ × Data
@@ -38,7 +41,8 @@ put_pair pair (first ∷ pairs) = if nat_eq pair.0 first.0 then pair ∷ pairs e
 -- each pair is an index of a key, the first of its text, and an index of a value
 abbrev pub AreInside : List ℕ → ℕ → List (ℕ × ℕ) → Type 0
 AreInside firsts values [] = Unit {0}
-AreInside firsts values (pair ∷ pairs) = (pair.0 < length firsts) × (slice_index firsts pair.0 ≡ pair.0) × (pair.1 < values) × AreInside firsts values pairs
+AreInside firsts values (pair ∷ pairs) =
+    (pair.0 < length firsts) × (slice_index firsts pair.0 ≡ pair.0) × (pair.1 < values) × AreInside firsts values pairs
 
 -- an index of a key and one of a value
 abbrev pub IndicesWithin : ℕ → ℕ → ℕ × ℕ → Type 0
@@ -60,4 +64,5 @@ AreTextPlaces places texts = (text : List ℕ) → find_text places text ≡ tex
 abbrev pub NotesFirst : BTreeMap (Bor (List ℕ)) ℕ → BTreeMap (Bor (List ℕ)) ℕ → List ℕ → ℕ → ℕ → Type 0
 NotesFirst old new text place first =
     ((find_text old text ≡ Some first) × ((q : List ℕ) → find_text new q ≡ find_text old q))
-    ⊎ ((find_text old text ≡ None) × (first ≡ place) × ((q : List ℕ) → find_text new q ≡ cond (bytes_eq text q) (Some place) (find_text old q)))
+    ⊎ ((find_text old text ≡ None) × (first ≡ place)
+    × ((q : List ℕ) → find_text new q ≡ cond (bytes_eq text q) (Some place) (find_text old q)))

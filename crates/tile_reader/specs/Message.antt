@@ -30,7 +30,8 @@ from_front at (Ok (field, rest)) others = field_before field (others field rest)
 abbrev pub fields_within : ℕ → ℕ → List ℕ → Message
 fields_within most at [] = no_fields
 fields_within zero at (c ∷ b) = no_fields
-fields_within (suc most) at (c ∷ b) = from_front at (field_at at (c ∷ b)) (λ field rest. fields_within most field.end rest)
+fields_within (suc most) at (c ∷ b) =
+    from_front at (field_at at (c ∷ b)) (λ field rest. fields_within most field.end rest)
 
 -- The fields of bytes that are at this offset. A field has at least one byte, so there are no more fields
 -- than bytes.

@@ -1,5 +1,6 @@
 -- The properties of a feature, by the keys and values of its layer. Source: Vector Tile 2.1 §4.4.
-use Rattle.std.specs.Prelude.{ℕ, ◌%◌, List, [], ◌∷◌, ◌++◌, length, Option, Some, None, Result, Ok, if◌then◌else◌, nat_eq, slice_get}
+use Rattle.std.specs.Prelude.{ℕ, ◌%◌, List, [], ◌∷◌, ◌++◌, length, Option, Some, None, Result, Ok, if◌then◌else◌}
+use Rattle.std.specs.Prelude.{nat_eq, slice_get}
 use Rattle.std.specs.Str.{bytes_eq}
 use Rattle.prop_values.specs.Data.{Data}
 use Rattle.tile_reader.specs.declared.fault.TileKind.TheVariants.{TagIndex, OddTags}
@@ -19,7 +20,8 @@ pair_before None value pairs = None
 abbrev pub named : List (List ℕ) → List Data → List ℕ → Option (List (List ℕ × Data))
 named keys values [] = Some []
 named keys values (key ∷ []) = Some []
-named keys values (key ∷ value ∷ tags) = pair_before (slice_get keys key) (slice_get values value) (named keys values tags)
+named keys values (key ∷ value ∷ tags) =
+    pair_before (slice_get keys key) (slice_get values value) (named keys values tags)
 
 -- a pair among earlier ones: in the place of its key, or at the end
 abbrev pub put : List ℕ × Data → List (List ℕ × Data) → List (List ℕ × Data)
@@ -38,9 +40,12 @@ with_pairs tagged (Some pairs) = Ok (record { id = tagged.id; shape = tagged.sha
 
 -- a feature of a layer: its tags are pairs, and each index has its key or value
 abbrev pub feature_of : List (List ℕ) → List Data → Tagged → Result Feature TileFault
-feature_of keys values tagged = if nat_eq (length tagged.tags % 2) 1 then refused OddTags tagged.at else with_pairs tagged (named keys values tagged.tags)
+feature_of keys values tagged =
+    if nat_eq (length tagged.tags % 2) 1 then refused OddTags tagged.at else
+    with_pairs tagged (named keys values tagged.tags)
 
 -- the features of a layer in order, after earlier ones, up to the first fault
 abbrev pub features_of : List (List ℕ) → List Data → List Feature → List Tagged → Result (List Feature) TileFault
 features_of keys values earlier [] = Ok earlier
-features_of keys values earlier (tagged ∷ others) = feature_of keys values tagged then λ feature. features_of keys values (earlier ++ feature ∷ []) others
+features_of keys values earlier (tagged ∷ others) =
+    feature_of keys values tagged then λ feature. features_of keys values (earlier ++ feature ∷ []) others

@@ -1,5 +1,6 @@
 -- The properties of features as ranges of the pairs of their layer.
-use Rattle.std.specs.Prelude.{◌≡◌, ℕ, ◌+◌, ◌<◌, ◌≤◌, List, [], ◌∷◌, length, map, take, drop, Option, Some, None, slice_index_or}
+use Rattle.std.specs.Prelude.{◌≡◌, ℕ, ◌+◌, ◌<◌, ◌≤◌, List, [], ◌∷◌, length, map, take, drop, Option, Some, None}
+use Rattle.std.specs.Prelude.{slice_index_or}
 use Rattle.std.specs.Borrow.{Bor}
 use Rattle.key_index.specs.Index.{IsIndexed}
 use Rattle.prop_values.specs.Data.{Data}
@@ -26,7 +27,8 @@ pair_keys keys = map (λ (pair : ℕ × ℕ). slice_index_or keys pair.0 [])
 -- The pairs are there, each has its key and its value, and no key occurs twice.
 pub record IsRange (keys : List (List ℕ)) (values : List Data) (pairs : List (ℕ × ℕ)) (first count : ℕ) : Type 0 where
   pub within : first + count ≤ length pairs
-  pub inside : (i : ℕ) → i < length (range pairs first count) → IndicesWithin (length keys) (length values) (slice_index_or (range pairs first count) i (0, 0))
+  pub inside : (i : ℕ) → i < length (range pairs first count) →
+      IndicesWithin (length keys) (length values) (slice_index_or (range pairs first count) i (0, 0))
   pub distinct : HasDistinctKeys (pairs_seen keys values (range pairs first count))
 
 -- a feature whose properties are a range of these pairs, from the first one on, and whose id is at the front of these

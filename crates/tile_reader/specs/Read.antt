@@ -23,7 +23,8 @@ abbrev pub ◌then◌ : {A B : Type 0} → Result A TileFault → (A → Result 
 (Err fault) then next = Err fault
 
 -- what fields make of a state one after the other, each by this step, up to the first fault
-abbrev pub along : {S : Type 0} → (S → WireField → Result S TileFault) → S → List WireField → Option WireFault → Result S TileFault
+abbrev pub along : {S : Type 0} → (S → WireField → Result S TileFault) → S → List WireField → Option WireFault →
+    Result S TileFault
 along step s [] None = Ok s
 along step s [] (Some fault) = Err (broken fault)
 along step s (field ∷ fields) fault = step s field then λ next. along step next fields fault

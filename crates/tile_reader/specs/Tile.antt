@@ -12,7 +12,9 @@ use Rattle.tile_reader.specs.Names.{names}
 -- what a field adds to a tile
 abbrev pub tile_step : List TileLayer → WireField → Result (List TileLayer) TileFault
 tile_step layers field =
-    if nat_eq field.number 3 then (bytes_in field.at field.payload then λ b. layer_at field.at (content_start field) (names layers) b then λ layer. Ok (layers ++ layer ∷ []))
+    if nat_eq field.number 3
+    then (bytes_in field.at field.payload
+    then λ b. layer_at field.at (content_start field) (names layers) b then λ layer. Ok (layers ++ layer ∷ []))
     else Ok layers
 
 -- the bytes begin as a gzip file. Source: RFC 1952 §2.3.1.

@@ -1,12 +1,14 @@
 -- A value of a layer. Source: Vector Tile 2.1 §4.1 and the table of the message Value.
-use Rattle.std.specs.Prelude.{ℕ, ◌+◌, ◌-◌, ◌/◌, ◌%◌, ◌^◌, ℤ, pos, neg_ℤ, ◌*ℤ◌, List, not, Option, Some, None, Result, Ok, if◌then◌else◌, nat_eq, nat_lt}
+use Rattle.std.specs.Prelude.{ℕ, ◌+◌, ◌-◌, ◌/◌, ◌%◌, ◌^◌, ℤ, pos, neg_ℤ, ◌*ℤ◌, List, not, Option, Some, None, Result}
+use Rattle.std.specs.Prelude.{Ok, if◌then◌else◌, nat_eq, nat_lt}
 use Rattle.proto_wire.specs.Message.{WireField}
 use Rattle.prop_values.specs.Data.{Data}
 use Rattle.prop_values.specs.Data as held
 use Rattle.tile_reader.specs.declared.fault.TileKind.TheVariants.{ValueKind, FloatValue}
 use Rattle.tile_reader.specs.declared.fault.TileFault.{TileFault}
 use Rattle.tile_reader.specs.declared.value.ValueMember.{ValueMember}
-use Rattle.tile_reader.specs.declared.value.ValueMember.TheVariants.{String, Float, Double, Int, Uint, Sint, Flag, Unknown}
+use Rattle.tile_reader.specs.declared.value.ValueMember.TheVariants.{String, Float, Double, Int, Uint, Sint, Flag}
+use Rattle.tile_reader.specs.declared.value.ValueMember.TheVariants.{Unknown}
 use Rattle.tile_reader.specs.Message.{message}
 use Rattle.tile_reader.specs.Read.{refused, ◌then◌, read_fields, number_in, bytes_in, bits64_in, bits32_in, text_of}
 
@@ -46,13 +48,20 @@ float_at at bits = bits then λ _. refused FloatValue at
 -- What a field adds to a value: its wire type, then that there was no field before it, then that a text is
 -- UTF-8.
 abbrev pub value_field : ValueMember → Option Data → WireField → Result (Option Data) TileFault
-value_field String before field = bytes_in field.at field.payload then λ b. first_field field.at before then λ _. text_of field.at b then λ s. Ok (Some (held.text s))
+value_field String before field =
+    bytes_in field.at field.payload
+    then λ b. first_field field.at before then λ _. text_of field.at b then λ s. Ok (Some (held.text s))
 value_field Float before field = float_at field.at (bits32_in field.at field.payload)
 value_field Double before field = float_at field.at (bits64_in field.at field.payload)
-value_field Int before field = number_in field.at field.payload then λ n. first_field field.at before then λ _. Ok (Some (whole (from_int n)))
-value_field Uint before field = number_in field.at field.payload then λ n. first_field field.at before then λ _. Ok (Some (whole (pos n)))
-value_field Sint before field = number_in field.at field.payload then λ n. first_field field.at before then λ _. Ok (Some (whole (from_zigzag n)))
-value_field Flag before field = number_in field.at field.payload then λ n. first_field field.at before then λ _. Ok (Some (held.boolean (not (nat_eq n 0))))
+value_field Int before field =
+    number_in field.at field.payload then λ n. first_field field.at before then λ _. Ok (Some (whole (from_int n)))
+value_field Uint before field =
+    number_in field.at field.payload then λ n. first_field field.at before then λ _. Ok (Some (whole (pos n)))
+value_field Sint before field =
+    number_in field.at field.payload then λ n. first_field field.at before then λ _. Ok (Some (whole (from_zigzag n)))
+value_field Flag before field =
+    number_in field.at field.payload
+    then λ n. first_field field.at before then λ _. Ok (Some (held.boolean (not (nat_eq n 0))))
 value_field Unknown before field = Ok before
 
 -- at the end of a value that value is there; else the fault is at the value's tag

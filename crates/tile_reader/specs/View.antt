@@ -1,5 +1,6 @@
 -- What the definitions see of the values that the reader makes.
-use Rattle.std.specs.Prelude.{◌≡◌, ℕ, ◌+◌, pos, List, [], ◌∷◌, length, take, drop, map, Option, Some, None, option_map, Result, Ok, Err}
+use Rattle.std.specs.Prelude.{◌≡◌, ℕ, ◌+◌, pos, List, [], ◌∷◌, length, take, drop, map, Option, Some, None, option_map}
+use Rattle.std.specs.Prelude.{Result, Ok, Err}
 use Rattle.std.specs.Borrow.{Bor}
 use Rattle.proto_wire.specs.Reading.{ReaderState}
 use Rattle.proto_wire.specs.View.{field_seen}
@@ -63,7 +64,8 @@ tagged_seen feature tags =
 -- features whose tags are one after the other
 abbrev pub tagged_all : List TaggedFeature → List ℕ → List Tagged
 tagged_all [] tags = []
-tagged_all (feature ∷ features) tags = tagged_seen feature (take feature.count tags) ∷ tagged_all features (drop feature.count tags)
+tagged_all (feature ∷ features) tags =
+    tagged_seen feature (take feature.count tags) ∷ tagged_all features (drop feature.count tags)
 
 -- how many tags features have
 abbrev pub count_of_tags : List TaggedFeature → ℕ

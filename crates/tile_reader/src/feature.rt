@@ -1,7 +1,8 @@
 ghost use Rattle.std.specs.Prelude.{◌≡◌, ℕ, ◌+◌, ◌++◌, ◌^◌, ◌<◌, ◌≤◌, length, take, drop, IfOk, OnOk, Ok};
 ghost use Rattle.proto_wire.specs.View.{field_seen, payload_seen};
 ghost use Rattle.tile_reader.specs.Read.{◌then◌};
-ghost use Rattle.tile_reader.specs.Feature.{feature_member, feature_step, feature_at, packed, placed, tags_in, geometry_in, shape_of};
+ghost use Rattle.tile_reader.specs.Feature.{feature_member, feature_step, feature_at, packed, placed, tags_in};
+ghost use Rattle.tile_reader.specs.Feature.{geometry_in, shape_of};
 ghost use Rattle.tile_reader.specs.View.{GivesRead, GivesOrLacks, Leaves, tagged_seen};
 
 use crate::fault::{TileFault, TileKind};
@@ -43,7 +44,8 @@ pub(crate) fn read_feature(
     tags: &mut Vec<u64>,
 ) -> Result<TaggedFeature, Halt<TileFault>>
     requires { start + length content.now < 2 ^ 64 }
-    ensures feature { GivesOrLacks (λ feature. tagged_seen feature (drop (length tags.old.items) tags.new.items)) result (feature_at at start content.now) }
+    ensures feature { GivesOrLacks (λ feature. tagged_seen feature (drop (length tags.old.items) tags.new.items)) result
+        (feature_at at start content.now) }
     ensures before { OnOk result (take (length tags.old.items) tags.new.items ≡ tags.old.items) }
     ensures count { IfOk result (λ feature. length tags.old.items + feature.count ≡ length tags.new.items) }
 {
@@ -114,7 +116,8 @@ fn feature_member(number: u32) -> FeatureMember
 
 // Adds the tags of a field, which are packed or single.
 fn add_tags(tags: &mut Vec<u64>, at: usize, wire: Wire<'_>) -> Result<(), Halt<TileFault>>
-    ensures { Leaves tags.new.items result (tags_in at (payload_seen wire.entry) then λ more. Ok (tags.old.items ++ more)) }
+    ensures { Leaves tags.new.items result
+        (tags_in at (payload_seen wire.entry) then λ more. Ok (tags.old.items ++ more)) }
 {
     match wire {
         Wire::Varint(tag) => {

@@ -1,4 +1,5 @@
-ghost use Rattle.std.specs.Prelude.{◌≡◌, ◌↔◌, ◌+◌, ◌≤◌, ◌<◌, ℕ, [], ◌∷◌, ◌++◌, length, map, IfOk, OnOk, IsNone, option_map, slice_index_or};
+ghost use Rattle.std.specs.Prelude.{◌≡◌, ◌↔◌, ◌+◌, ◌≤◌, ◌<◌, ℕ, [], ◌∷◌, ◌++◌, length, map, IfOk, OnOk, IsNone};
+ghost use Rattle.std.specs.Prelude.{option_map, slice_index_or};
 ghost use Rattle.key_index.specs.Index.{IsIndexed};
 ghost use Rattle.key_index.specs.Keys.{place_from};
 ghost use Rattle.prop_values.specs.Data.{pairs_of};
@@ -152,8 +153,10 @@ impl FeatureProperties {
         first: u32,
         count: u32,
     ) -> Result<FeatureProperties, AllocError>
-        requires { IsRange table.now.value.keys.items (map data_of table.now.value.values.items) table.now.value.pairs.items first count }
-        ensures { IfOk result (λ made. made ≡ pairs_seen table.now.value.keys.items (map data_of table.now.value.values.items)
+        requires { IsRange table.now.value.keys.items (map data_of table.now.value.values.items)
+            table.now.value.pairs.items first count }
+        ensures { IfOk result
+            (λ made. made ≡ pairs_seen table.now.value.keys.items (map data_of table.now.value.values.items)
             (range table.now.value.pairs.items first count)) }
     {
         let table = shared_table(alloc, table, first, count)?;
@@ -299,9 +302,11 @@ fn value_at<'a>(
     index: Option<&IndexedKeys>,
     key: &str,
 ) -> Option<&'a Value>
-    requires inside { (i : ℕ) → i < length pairs.now → IndicesWithin (length keys.now) (length values.now) (slice_index_or pairs.now i (0, 0)) }
+    requires inside { (i : ℕ) → i < length pairs.now
+        → IndicesWithin (length keys.now) (length values.now) (slice_index_or pairs.now i (0, 0)) }
     requires index { HasKeys index (pair_keys keys.now pairs.now) }
-    ensures value { option_map (λ v. data_of v.now) result ≡ at_key key.now (pairs_of (pairs_seen keys.now (map data_of values.now) pairs.now)) }
+    ensures value { option_map (λ v. data_of v.now) result
+        ≡ at_key key.now (pairs_of (pairs_seen keys.now (map data_of values.now) pairs.now)) }
     ensures none { IsNone result ↔ LacksKey key.now (pairs_seen keys.now (map data_of values.now) pairs.now) }
 {
     match place_of(keys, pairs, index, key) {
@@ -371,7 +376,8 @@ fn entries(
     values: &[Value],
     pairs: &[(u32, u32)],
 ) -> Result<Entries, AllocError>
-    requires inside { (i : ℕ) → i < length pairs.now → IndicesWithin (length keys.now) (length values.now) (slice_index_or pairs.now i (0, 0)) }
+    requires inside { (i : ℕ) → i < length pairs.now
+        → IndicesWithin (length keys.now) (length values.now) (slice_index_or pairs.now i (0, 0)) }
     requires distinct { HasDistinctKeys (pairs_seen keys.now (map data_of values.now) pairs.now) }
     ensures { IfOk result (λ all. all ≡ pairs_seen keys.now (map data_of values.now) pairs.now) }
 {

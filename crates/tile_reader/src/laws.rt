@@ -1,5 +1,6 @@
 //! What the definitions mean, each law on a function that does nothing.
-ghost use Rattle.tile_reader.specs.Laws.{TilesAreRead, FaultsComeFirst, TileOrFault, NeverBoth, OneTile, MessagesAreCut, KeysDiffer};
+ghost use Rattle.tile_reader.specs.Laws.{TilesAreRead, FaultsComeFirst, TileOrFault, NeverBoth, OneTile};
+ghost use Rattle.tile_reader.specs.Laws.{MessagesAreCut, KeysDiffer};
 
 /// A tile is read exactly where the bytes are that tile in the words of its format, and the fault that is
 /// read is the first one: what is before it has none. All bytes are a tile or have a fault, never both, and

@@ -73,7 +73,8 @@ fn add_field<'a>(
     requires inside { content_length field.wire ≤ end }
     requires room { end < 2 ^ 64 }
     requires tags { HasAllTags parts.old.features.items parts.old.tags.items }
-    ensures step { Leaves (parts_seen parts.new) result (layer_step (parts_seen parts.old) (field_seen field.entry end)) }
+    ensures step { Leaves (parts_seen parts.new) result
+        (layer_step (parts_seen parts.old) (field_seen field.entry end)) }
     ensures tags { OnOk result (HasAllTags parts.new.features.items parts.new.tags.items) }
 {
     let Field { number, at, wire } = field;
@@ -115,7 +116,8 @@ fn add_feature(
     requires room { start + length content.now < 2 ^ 64 }
     requires tags { HasAllTags features.old.items tags.old.items }
     ensures feature { Leaves (tagged_all features.new.items tags.new.items) result
-        (feature_at at start content.now then λ feature. Ok (tagged_all features.old.items tags.old.items ++ feature ∷ [])) }
+        (feature_at at start content.now
+        then λ feature. Ok (tagged_all features.old.items tags.old.items ++ feature ∷ [])) }
     ensures tags { OnOk result (HasAllTags features.new.items tags.new.items) }
 {
     let feature = read_feature(content, start, at, tags)?;

@@ -1,9 +1,12 @@
-ghost use Rattle.std.specs.Prelude.{◌≡◌, ◌⊎◌, ℕ, ◌+◌, ◌^◌, ◌<◌, ◌≤◌, ◌*ℤ◌, pos, ◌↔◌, List, [], ◌∷◌, ◌++◌, length, take, map, IfOk, OnOk, Some, None, IfSome, IfNone, MatchOption, option_map, if◌then◌else◌, unsigned_abs, slice_index_or};
+ghost use Rattle.std.specs.Prelude.{◌≡◌, ◌⊎◌, ℕ, ◌+◌, ◌^◌, ◌<◌, ◌≤◌, ◌*ℤ◌, pos, ◌↔◌, List, [], ◌∷◌, ◌++◌, length, take};
+ghost use Rattle.std.specs.Prelude.{map, IfOk, OnOk, Some, None, IfSome, IfNone, MatchOption, option_map};
+ghost use Rattle.std.specs.Prelude.{if◌then◌else◌, unsigned_abs, slice_index_or};
 ghost use Rattle.prop_values.specs.View.{data_of};
 ghost use Rattle.tile_reader.specs.View.{GivesOrLacks, HasAllTags, tagged_seen, tagged_all, texts_seen, value_seen};
 ghost use Rattle.tile_reader.specs.Ids.{front_id, after_id, own_ids};
 ghost use Rattle.tile_reader.specs.Properties.{put_all, named, feature_of, features_of};
-ghost use Rattle.tile_reader.specs.Lookup.{AreFirsts, AreInside, ArePlaces, pair_place, put_pair, pairs_seen, NotesFirst};
+ghost use Rattle.tile_reader.specs.Lookup.{AreFirsts, AreInside, ArePlaces, pair_place, put_pair, pairs_seen};
+ghost use Rattle.tile_reader.specs.Lookup.{NotesFirst};
 ghost use Rattle.tile_reader.specs.Ranges.{IsRange, AreRanges, feature_in, features_in};
 
 use crate::fault::{TileFault, TileKind};
@@ -55,7 +58,8 @@ pub(crate) fn features(
     tags: Vec<u64>,
 ) -> Result<Features, Halt<TileFault>>
     requires { HasAllTags tagged.items tags.items }
-    ensures { GivesOrLacks (λ all. all) result (features_of (texts_seen keys.now) (map value_seen values.now) [] (tagged_all tagged.items tags.items)) }
+    ensures { GivesOrLacks (λ all. all) result
+        (features_of (texts_seen keys.now) (map value_seen values.now) [] (tagged_all tagged.items tags.items)) }
 {
     let firsts = first_places(alloc, keys)?;
     let texts = texts_of(alloc, keys)?;
@@ -115,7 +119,8 @@ fn taken_features(
     ensures features { GivesOrLacks
         (λ chosen. features_in table.now.keys.now (map data_of table.now.values.now)
         pairs.new.items ids.new.items 0 chosen.items)
-        result (features_of table.now.keys.now (map data_of table.now.values.now) [] (tagged_all tagged.items tags.items)) }
+        result (features_of table.now.keys.now (map data_of table.now.values.now) []
+        (tagged_all tagged.items tags.items)) }
     ensures ranges { IfOk result (λ chosen.
         AreRanges table.now.keys.now (map data_of table.now.values.now) pairs.new.items 0 chosen.items) }
 {

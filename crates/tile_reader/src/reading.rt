@@ -91,7 +91,8 @@ fn add_layer(
     at: usize,
 ) -> Result<(), Halt<TileFault>>
     requires { HasAllTags parts.features.items parts.tags.items }
-    ensures { Leaves tile.new result (layer_end at (names tile.old) (parts_seen parts.entry) then λ layer. Ok (tile.old ++ layer ∷ [])) }
+    ensures { Leaves tile.new result
+        (layer_end at (names tile.old) (parts_seen parts.entry) then λ layer. Ok (tile.old ++ layer ∷ [])) }
 {
     let LayerParts {
         name,

@@ -1,6 +1,7 @@
 ghost use Rattle.std.specs.Prelude.{◌≡◌, ℕ, ◌+◌, ◌^◌, ◌<◌, length, option_map};
 ghost use Rattle.proto_wire.specs.View.{field_seen};
-ghost use Rattle.tile_reader.specs.Value.{value_member, value_field, value_step, value_at, first_field, from_int, from_zigzag};
+ghost use Rattle.tile_reader.specs.Value.{value_member, value_field, value_step, value_at, first_field, from_int};
+ghost use Rattle.tile_reader.specs.Value.{from_zigzag};
 ghost use Rattle.tile_reader.specs.View.{GivesRead, value_seen};
 
 use crate::fault::{TileFault, TileKind};
@@ -50,7 +51,8 @@ pub(crate) fn read_value(content: &[u8], start: usize, at: usize) -> Result<Held
 
 // The value so far, with what a field adds to it.
 fn add_field<'a>(held: Option<Held<'a>>, field: Field<'a>) -> Result<Option<Held<'a>>, TileFault>
-    ensures { (end : ℕ) → GivesRead (option_map value_seen) result (value_step (option_map value_seen held.entry) (field_seen field.entry end)) }
+    ensures { (end : ℕ) → GivesRead (option_map value_seen) result
+        (value_step (option_map value_seen held.entry) (field_seen field.entry end)) }
 {
     let Field { number, at, wire } = field;
     match value_member(number) {

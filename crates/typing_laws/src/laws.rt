@@ -1,6 +1,7 @@
 ghost use Rattle.typing_laws.specs.TypingLaws.{EveryFaultIsListed, EveryValueIsOfItsKind};
 ghost use Rattle.typing_laws.specs.TypingLaws.{NoFaultIsGivenWhereNoneIsListed};
-ghost use Rattle.typing_laws.specs.TypingLaws.{CheckedExpressionsKeepTheLaws, EachNodeHasAPlace, FreeExpressionsKeepTheLaws};
+ghost use Rattle.typing_laws.specs.TypingLaws.{CheckedExpressionsKeepTheLaws, EachNodeHasAPlace};
+ghost use Rattle.typing_laws.specs.TypingLaws.{FreeExpressionsKeepTheLaws};
 
 /// In every world the fault that an expression gives is one of those that are listed for it.
 #[tactic(auto, using(crate::proofs::TermLaws::every_fault_is_listed))]

@@ -1,5 +1,6 @@
 -- The run of a script of a desk: line by line, what is written and what the desk then represents. Source: own.
-use Rattle.std.specs.Prelude.{ℕ, ◌+◌, List, [], ◌∷◌, ◌++◌, codes, Bool, true, false, ◌||◌, Option, Some, None, Result, Ok, Err}
+use Rattle.std.specs.Prelude.{ℕ, ◌+◌, List, [], ◌∷◌, ◌++◌, codes, Bool, true, false, ◌||◌, Option, Some, None, Result}
+use Rattle.std.specs.Prelude.{Ok, Err}
 use Rattle.decimal_json.specs.JsonText.{text_json}
 use Rattle.decimal_json.specs.Tree.{Tree}
 use Rattle.edit_script.specs.declared.command.LineFault.{LineFault}
@@ -12,7 +13,8 @@ use Rattle.script_runs.specs.ScriptLines.{script_lines}
 use Rattle.script_runs.specs.ScriptRun.{ending_by}
 use Rattle.style_layout.specs.Shown.{SourceTile}
 use Rattle.view_desk.specs.DeskLines.{DeskEdit, desk_command}
-use Rattle.view_desk.specs.DeskState.{DeskState, DeskReply, faulty, refused, done, style_reply, view_reply, desk_applied, desk_least, desk_most}
+use Rattle.view_desk.specs.DeskState.{DeskState, DeskReply, faulty, refused, done, style_reply, view_reply}
+use Rattle.view_desk.specs.DeskState.{desk_applied, desk_least, desk_most}
 use Rattle.view_desk.specs.declared.answers.DeskRefusal.{DeskRefusal}
 use Rattle.view_desk.specs.declared.answers.DeskRefusal.TheVariants.{UnknownView, ViewTaken, ZoomRange, ViewLimit}
 

@@ -1,5 +1,6 @@
 -- What a desk represents, and what a line makes of it. Source: own.
-use Rattle.std.specs.Prelude.{ℕ, ℤ, List, [], ◌∷◌, ◌++◌, length, Bool, not, nat_le, Option, Some, None, is_some, Result, Ok, if◌then◌else◌}
+use Rattle.std.specs.Prelude.{ℕ, ℤ, List, [], ◌∷◌, ◌++◌, length, Bool, not, nat_le, Option, Some, None, is_some, Result}
+use Rattle.std.specs.Prelude.{Ok, if◌then◌else◌}
 use Rattle.std.specs.Bool.{then_some}
 use Rattle.std.specs.Str.{bytes_eq}
 use Rattle.edit_script.specs.Edit.{Edit}
@@ -121,8 +122,8 @@ module _ (tiles : List SourceTile) (scripts : List ℕ → Bool) where
 
 -- ---- reports to the test of images
 
--- How many there were, once a line is answered: those of an edit of the style, which are made once however many views show
--- it. What is done in a view, or to the views, reports nothing, and so does a line with a fault. Source: own.
+-- How many there were, once a line is answered: those of an edit of the style, which are made once however many views
+-- show it. What is done in a view, or to the views, reports nothing, and so does a line with a fault. Source: own.
 abbrev pub desk_image_reports_after : (can_change : Bool) → Result DeskEdit LineFault → ℕ → ℕ
 desk_image_reports_after can_change (Ok (of_style edit)) n = tell_count_after can_change edit n
 desk_image_reports_after can_change read n = n

@@ -9,7 +9,8 @@ use Rattle.script_runs.specs.ImageReports.{images_after}
 use Rattle.style_layout.specs.Shown.{SourceTile}
 use Rattle.view_desk.specs.DeskLines.{DeskEdit, open_view, close_view, in_view, of_style, AnswersDeskLine}
 use Rattle.view_desk.specs.DeskRun.{DeskOut, desk_answered, desk_out}
-use Rattle.view_desk.specs.DeskState.{DeskReply, DeskState, faulty, refused, done, style_reply, view_reply, desk_least, desk_most, desk_image_reports_after}
+use Rattle.view_desk.specs.DeskState.{DeskReply, DeskState, faulty, refused, done, style_reply, view_reply, desk_least}
+use Rattle.view_desk.specs.DeskState.{desk_most, desk_image_reports_after}
 use Rattle.view_desk.specs.declared.answers.DeskAnswer.{DeskAnswer}
 use Rattle.view_desk.specs.declared.answers.DeskAnswer.TheVariants.{Fault, Refused, Done, Style, View}
 use Rattle.view_desk.specs.declared.desk.Desk.{Desk}
@@ -45,7 +46,8 @@ answer_seen (View name answer) = view_reply name (reply_seen answer)
 
 -- What a desk represents, with the test of images that is handed in. Source: own.
 abbrev pub desk_state : Desk → (List ℕ → Bool) → DeskState
-desk_state desk has_image = record { style = session_state desk.session has_image; views = map view_seen desk.views.items }
+desk_state desk has_image =
+    record { style = session_state desk.session has_image; views = map view_seen desk.views.items }
 
 abbrev pub desk_tiles : Desk → List SourceTile
 desk_tiles desk = tiles_of desk.session
@@ -67,25 +69,29 @@ module _ (tiles : List SourceTile) (scripts : List ℕ → Bool) (steps_old step
   -- what the bytes of a line give, and the answer
   abbrev pub DeskGives : (can_change : Bool) → DeskState → (line : List ℕ) → DeskState × DeskReply → Type 0
   DeskGives can_change d line given =
-      (read : Result DeskEdit LineFault) × AnswersDeskLine line read × (given ≡ desk_answered tiles scripts can_change d read)
+      (read : Result DeskEdit LineFault) × AnswersDeskLine line read
+      × (given ≡ desk_answered tiles scripts can_change d read)
       × RoseBetween steps_old steps_new (desk_least tiles scripts d read) (desk_most tiles scripts d read)
 
   -- what the bytes of the line of this number give
   abbrev pub DeskLineGives : (can_change : Bool) (number : ℕ) → DeskState → (line : List ℕ) → DeskOut → Type 0
   DeskLineGives can_change number d line out =
-      (read : Result DeskEdit LineFault) × AnswersDeskLine line read × (out ≡ desk_out tiles scripts can_change number d read)
+      (read : Result DeskEdit LineFault) × AnswersDeskLine line read
+      × (out ≡ desk_out tiles scripts can_change number d read)
       × RoseBetween steps_old steps_new (desk_least tiles scripts d read) (desk_most tiles scripts d read)
 
   -- the steps did not rise, or by no more than the bytes of the line say
   abbrev pub StepsAreOfDeskLine : DeskState → (line : List ℕ) → Type 0
   StepsAreOfDeskLine d line =
       (steps_new ≤ steps_old)
-      ⊎ ((read : Result DeskEdit LineFault) × AnswersDeskLine line read × (steps_new ≤ steps_old + desk_most tiles scripts d read))
+      ⊎ ((read : Result DeskEdit LineFault) × AnswersDeskLine line read
+      × (steps_new ≤ steps_old + desk_most tiles scripts d read))
 
 -- The bytes of a line take the number of reports to the test of images from one to another.
 abbrev pub ImageReportsOfDeskLine : (can_change : Bool) → (line : List ℕ) → (before after : ℕ) → Type 0
 ImageReportsOfDeskLine can_change line before after =
-    (read : Result DeskEdit LineFault) × AnswersDeskLine line read × (after ≡ desk_image_reports_after can_change read before)
+    (read : Result DeskEdit LineFault) × AnswersDeskLine line read
+    × (after ≡ desk_image_reports_after can_change read before)
 
 -- What the test of images answers, once a line is answered: an edit of the style makes of it what it makes of it in
 -- a session, and all else leaves it. Source: own.

@@ -1,6 +1,7 @@
 //! A style under edit, with the views in which it is shown.
 
-ghost use Rattle.std.specs.Prelude.{◌≡◌, ◌<◌, ◌≤◌, ◌+◌, ◌⊎◌, ℕ, List, Bool, Ok, is_err, is_some, length, map, false, true, IfOk, IfSome, IsErr, OnErr, OnOk};
+ghost use Rattle.std.specs.Prelude.{◌≡◌, ◌<◌, ◌≤◌, ◌+◌, ◌⊎◌, ℕ, List, Bool, Ok, is_err, is_some, length, map, false};
+ghost use Rattle.std.specs.Prelude.{true, IfOk, IfSome, IsErr, OnErr, OnOk};
 ghost use Rattle.std.specs.List.{position};
 ghost use Rattle.std.specs.Str.{bytes_eq};
 ghost use Rattle.edit_script.specs.View.{command_seen};
@@ -8,8 +9,10 @@ ghost use Rattle.edit_session.specs.Applied.{is_of_view, tell_count_after};
 ghost use Rattle.edit_session.specs.View.{session_state, tiles_of, view_seen, IsSoundSession, IsUsable};
 ghost use Rattle.host_ops.specs.Change.{IsSameTest};
 ghost use Rattle.view_desk.specs.DeskLines as lines;
-ghost use Rattle.view_desk.specs.DeskState.{desk_applied, desk_least, desk_most, desk_over, desk_image_reports_after, opening_refusal, view_named};
-ghost use Rattle.view_desk.specs.View.{answer_seen, desk_command_seen, desk_state, desk_tiles, DeskGives, IsSoundDesk, IsWellSorted, ImageReportsOfDeskLine, StepsAreOfDeskLine};
+ghost use Rattle.view_desk.specs.DeskState.{desk_applied, desk_least, desk_most, desk_over, desk_image_reports_after};
+ghost use Rattle.view_desk.specs.DeskState.{opening_refusal, view_named};
+ghost use Rattle.view_desk.specs.View.{answer_seen, desk_command_seen, desk_state, desk_tiles, DeskGives, IsSoundDesk};
+ghost use Rattle.view_desk.specs.View.{IsWellSorted, ImageReportsOfDeskLine, StepsAreOfDeskLine};
 
 use crate::answers::{DeskAnswer, DeskRefusal};
 use crate::lines::{DeskCommand, read_desk_line};
@@ -29,8 +32,8 @@ pub const DESK_LIMIT: u64 = 1_000_000;
 /// The most views that may be open.
 const MOST_VIEWS: usize = 8;
 
-/// A style over tiles, under edit, and the views in which it is shown, each with the cells that it keeps. `desk_state` is
-/// what a desk represents, for clauses.
+/// A style over tiles, under edit, and the views in which it is shown, each with the cells that it keeps. `desk_state`
+/// is what a desk represents, for clauses.
 pub struct Desk<'a> {
     pub(crate) session: Session<'a>,
     /// In the order in which they were opened.
@@ -71,9 +74,9 @@ impl<'a> Desk<'a> {
         self.session.alloc()
     }
 
-    /// Does what the bytes of a line say, without a line feed, and answers. A line with a fault and one that is refused change
-    /// nothing. A line of the style is done in each view; `steps` rises by listings alone. Once allocation fails every later
-    /// call answers so too.
+    /// Does what the bytes of a line say, without a line feed, and answers. A line with a fault and one that is refused
+    /// change nothing. A line of the style is done in each view; `steps` rises by listings alone. Once allocation fails
+    /// every later call answers so too.
     pub fn line<L: Ledger>(
         &mut self,
         line: &[u8],
@@ -82,13 +85,16 @@ impl<'a> Desk<'a> {
         steps: &mut Steps<L>,
     ) -> Result<DeskAnswer, AllocError>
         requires { IsSoundDesk self.old (test images.old) (test scripts.now) }
-        ensures gives { IfOk result (λ answer. DeskGives (desk_tiles self.old) (test scripts.now) steps.old steps.new (changes images.old)
-            (desk_state self.old (test images.old)) line.now (desk_state self.new (test images.new), answer_seen answer)) }
+        ensures gives { IfOk result
+            (λ answer. DeskGives (desk_tiles self.old) (test scripts.now) steps.old steps.new (changes images.old)
+            (desk_state self.old (test images.old)) line.now
+            (desk_state self.new (test images.new), answer_seen answer)) }
         ensures most { OnErr result (StepsAreOfDeskLine (desk_tiles self.old) (test scripts.now) steps.old steps.new
             (desk_state self.old (test images.old)) line.now) }
         ensures tiles { desk_tiles self.new ≡ desk_tiles self.old }
         ensures changes { changes images.new ≡ changes images.old }
-        ensures count { OnOk result (ImageReportsOfDeskLine (changes images.old) line.now (tell_count images.old) (tell_count images.new)) }
+        ensures count { OnOk result
+            (ImageReportsOfDeskLine (changes images.old) line.now (tell_count images.old) (tell_count images.new)) }
         ensures count_failed { OnErr result ((tell_count images.new ≡ tell_count images.old)
             ⊎ ImageReportsOfDeskLine (changes images.old) line.now (tell_count images.old) (tell_count images.new)) }
         ensures silent { self.old.lacks_memory ≡ true → tell_count images.new ≡ tell_count images.old }
@@ -113,13 +119,16 @@ impl<'a> Desk<'a> {
         steps: &mut Steps<L>,
     ) -> Result<DeskAnswer, AllocError>
         requires { IsSoundDesk self.old (test images.old) (test scripts.now) }
-        ensures gives { IfOk result (λ answer. DeskGives (desk_tiles self.old) (test scripts.now) steps.old steps.new (changes images.old)
-            (desk_state self.old (test images.old)) line.now (desk_state self.new (test images.new), answer_seen answer)) }
+        ensures gives { IfOk result
+            (λ answer. DeskGives (desk_tiles self.old) (test scripts.now) steps.old steps.new (changes images.old)
+            (desk_state self.old (test images.old)) line.now
+            (desk_state self.new (test images.new), answer_seen answer)) }
         ensures most { OnErr result (StepsAreOfDeskLine (desk_tiles self.old) (test scripts.now) steps.old steps.new
             (desk_state self.old (test images.old)) line.now) }
         ensures tiles { desk_tiles self.new ≡ desk_tiles self.old }
         ensures changes { changes images.new ≡ changes images.old }
-        ensures count { OnOk result (ImageReportsOfDeskLine (changes images.old) line.now (tell_count images.old) (tell_count images.new)) }
+        ensures count { OnOk result
+            (ImageReportsOfDeskLine (changes images.old) line.now (tell_count images.old) (tell_count images.new)) }
         ensures count_failed { OnErr result ((tell_count images.new ≡ tell_count images.old)
             ⊎ ImageReportsOfDeskLine (changes images.old) line.now (tell_count images.old) (tell_count images.new)) }
         ensures lent { OnErr result (IsSameTest (test images.old) (test images.new)) }
@@ -141,14 +150,17 @@ impl<'a> Desk<'a> {
         requires desk { IsSoundDesk self.old (test images.old) (test scripts.now) }
         requires command { IsWellSorted command.now }
         ensures answer { IfOk result (λ answer. (desk_state self.new (test images.new), answer_seen answer)
-            ≡ desk_applied (desk_tiles self.old) (test scripts.now) (changes images.old) (desk_state self.old (test images.old))
+            ≡ desk_applied (desk_tiles self.old) (test scripts.now) (changes images.old)
+            (desk_state self.old (test images.old))
             (desk_command_seen command.now)) }
         ensures tiles { desk_tiles self.new ≡ desk_tiles self.old }
         ensures changes { changes images.new ≡ changes images.old }
         ensures count { OnOk result (tell_count images.new
-            ≡ desk_image_reports_after (changes images.old) (Ok (desk_command_seen command.now)) (tell_count images.old)) }
+            ≡ desk_image_reports_after (changes images.old) (Ok (desk_command_seen command.now))
+            (tell_count images.old)) }
         ensures count_failed { OnErr result ((tell_count images.new ≡ tell_count images.old) ⊎ (tell_count images.new
-            ≡ desk_image_reports_after (changes images.old) (Ok (desk_command_seen command.now)) (tell_count images.old))) }
+            ≡ desk_image_reports_after (changes images.old) (Ok (desk_command_seen command.now))
+            (tell_count images.old))) }
         ensures lent { OnErr result (IsSameTest (test images.old) (test images.new)) }
         ensures sound { IsSoundDesk self.new (test images.new) (test scripts.now) }
         ensures least { OnOk result (steps.old + desk_least (desk_tiles self.old) (test scripts.now)
@@ -226,7 +238,8 @@ impl<'a> Desk<'a> {
         requires desk { IsSoundDesk self.old (test images.old) (test scripts.now) }
         requires command { is_of_view (command_seen command.now) ≡ true }
         ensures answer { IfOk result (λ answer. (desk_state self.new (test images.new), answer_seen answer)
-            ≡ desk_applied (desk_tiles self.old) (test scripts.now) (changes images.old) (desk_state self.old (test images.old))
+            ≡ desk_applied (desk_tiles self.old) (test scripts.now) (changes images.old)
+            (desk_state self.old (test images.old))
             (lines.in_view name.now (command_seen command.now))) }
         ensures tiles { desk_tiles self.new ≡ desk_tiles self.old }
         ensures changes { changes images.new ≡ changes images.old }
@@ -234,7 +247,8 @@ impl<'a> Desk<'a> {
         ensures lent { OnErr result (IsSameTest (test images.old) (test images.new)) }
         ensures sound { IsSoundDesk self.new (test images.new) (test scripts.now) }
         ensures least { OnOk result (steps.old + desk_least (desk_tiles self.old) (test scripts.now)
-            (desk_state self.old (test images.old)) (Ok (lines.in_view name.now (command_seen command.now))) ≤ steps.new) }
+            (desk_state self.old (test images.old)) (Ok (lines.in_view name.now (command_seen command.now)))
+            ≤ steps.new) }
         ensures most { steps.new ≤ steps.old + desk_most (desk_tiles self.old) (test scripts.now)
             (desk_state self.old (test images.old)) (Ok (lines.in_view name.now (command_seen command.now))) }
     {
@@ -259,7 +273,8 @@ impl<'a> Desk<'a> {
         requires desk { IsSoundDesk self.old (test images.old) (test scripts.now) }
         requires command { is_of_view (command_seen command.now) ≡ false }
         ensures answer { IfOk result (λ answer. (desk_state self.new (test images.new), answer_seen answer)
-            ≡ desk_applied (desk_tiles self.old) (test scripts.now) (changes images.old) (desk_state self.old (test images.old))
+            ≡ desk_applied (desk_tiles self.old) (test scripts.now) (changes images.old)
+            (desk_state self.old (test images.old))
             (lines.of_style (command_seen command.now))) }
         ensures tiles { desk_tiles self.new ≡ desk_tiles self.old }
         ensures changes { changes images.new ≡ changes images.old }

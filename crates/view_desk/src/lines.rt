@@ -3,7 +3,9 @@
 ghost use Rattle.std.specs.Prelude.{◌≡◌, [], ◌∷◌, IfOk};
 ghost use Rattle.decimal_json.specs.Tree as trees;
 ghost use Rattle.decimal_json.specs.View.{items_view, tree_of};
-ghost use Rattle.view_desk.specs.DeskLines.{AnswersDeskLine, array_command, close_form, command_named, desk_command, is_view_line, is_view_name, nested_command, open_form, style_edit, view_form};
+ghost use Rattle.view_desk.specs.DeskLines.{AnswersDeskLine, array_command, close_form, command_named, desk_command};
+ghost use Rattle.view_desk.specs.DeskLines.{is_view_line, is_view_name, nested_command, open_form, style_edit};
+ghost use Rattle.view_desk.specs.DeskLines.{view_form};
 ghost use Rattle.view_desk.specs.View.{desk_read_seen, IsWellSorted};
 ghost use Rattle.edit_script.specs.View.{read_seen};
 
@@ -71,7 +73,8 @@ fn read_named(
     name: &str,
     elements: &[Json],
 ) -> Result<Result<DeskCommand, LineFault>, AllocError>
-    ensures { IfOk result (λ read. desk_read_seen read ≡ command_named (tree_of line.now) name.now (items_view elements.now)) }
+    ensures { IfOk result
+        (λ read. desk_read_seen read ≡ command_named (tree_of line.now) name.now (items_view elements.now)) }
 {
     match name {
         "open-view" => open_view(elements),

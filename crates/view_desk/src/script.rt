@@ -7,7 +7,8 @@ ghost use Rattle.program_runs.specs.Progress.{IsCut, IsWritten};
 ghost use Rattle.script_runs.specs.ImageReports.{GoesAlong, GoesPartway};
 ghost use Rattle.script_runs.specs.ScriptLines.{script_lines};
 ghost use Rattle.view_desk.specs.DeskRun.{desk_script_run};
-ghost use Rattle.view_desk.specs.View.{desk_line_seen, desk_state, desk_tiles, DeskLineGives, IsSoundDesk, ImageReportsOfDeskLine, ImagesOfDeskLine, StepsAreOfDeskLine};
+ghost use Rattle.view_desk.specs.View.{desk_line_seen, desk_state, desk_tiles, DeskLineGives, IsSoundDesk};
+ghost use Rattle.view_desk.specs.View.{ImageReportsOfDeskLine, ImagesOfDeskLine, StepsAreOfDeskLine};
 
 use crate::answers::line_answer;
 use crate::desk::Desk;
@@ -28,8 +29,8 @@ pub struct DeskLineAnswer {
     pub is_refused: bool,
 }
 
-/// Writes what each line of a script is answered, before the next line is looked at, over a desk that was just opened or is
-/// sound. The text of one answer is in memory at a time.
+/// Writes what each line of a script is answered, before the next line is looked at, over a desk that was just opened
+/// or is sound. The text of one answer is in memory at a time.
 pub fn answer_desk<O: Sink, L: Ledger>(
     desk: Desk<'_>,
     script: &[u8],
@@ -51,7 +52,8 @@ pub fn answer_desk<O: Sink, L: Ledger>(
     ensures changes { changes images.new ≡ changes images.old }
     ensures count { OnOk result (GoesAlong (ImageReportsOfDeskLine (changes images.old)) (script_lines script.now)
         (tell_count images.old) (tell_count images.new)) }
-    ensures count_failed { OnErr result (GoesPartway (ImageReportsOfDeskLine (changes images.old)) (script_lines script.now)
+    ensures count_failed { OnErr result
+        (GoesPartway (ImageReportsOfDeskLine (changes images.old)) (script_lines script.now)
         (tell_count images.old) (tell_count images.new)) }
     ensures images { OnOk result (GoesAlong (ImagesOfDeskLine (changes images.old)) (script_lines script.now)
         (test images.old) (test images.new)) }
@@ -86,7 +88,8 @@ fn write_pieces<O: Sink>(first: &[u8], second: &[u8], out: &mut O) -> Result<(),
     ensures ok { OnOk result (Gains (O.held out.old) (O.held out.new) (first.now ++ second.now)) }
     ensures none_failed { OnOk result (O.faults out.new ≡ O.faults out.old) }
     ensures err { OnErr result (GainsPrefix (O.held out.old) (O.held out.new) (first.now ++ second.now)) }
-    ensures one_failed { OnErr result ((0 < length (first.now ++ second.now)) × (O.faults out.new ≡ raised (O.faults out.old))) }
+    ensures one_failed { OnErr result
+        ((0 < length (first.now ++ second.now)) × (O.faults out.new ≡ raised (O.faults out.old))) }
 {
     write_piece(first, out)?;
     write_piece(second, out)
@@ -104,7 +107,8 @@ fn answer_line<L: Ledger>(
     ensures sound { IsSoundDesk desk.new (test images.new) (test scripts.now) }
     ensures tiles { desk_tiles desk.new ≡ desk_tiles desk.old }
     ensures changes { changes images.new ≡ changes images.old }
-    ensures gives { IfOk result (λ answer. DeskLineGives (desk_tiles desk.old) (test scripts.now) steps.old steps.new (changes images.old)
+    ensures gives { IfOk result
+        (λ answer. DeskLineGives (desk_tiles desk.old) (test scripts.now) steps.old steps.new (changes images.old)
         line.now.number (desk_state desk.old (test images.old)) line.now.bytes.now
         (desk_line_seen (desk_state desk.new (test images.new)) answer)) }
     ensures most { OnErr result (StepsAreOfDeskLine (desk_tiles desk.old) (test scripts.now) steps.old steps.new
@@ -112,7 +116,8 @@ fn answer_line<L: Ledger>(
     ensures count { OnOk result (ImageReportsOfDeskLine (changes images.old) line.now.bytes.now
         (tell_count images.old) (tell_count images.new)) }
     ensures count_failed { OnErr result ((tell_count images.new ≡ tell_count images.old)
-        ⊎ ImageReportsOfDeskLine (changes images.old) line.now.bytes.now (tell_count images.old) (tell_count images.new)) }
+        ⊎ ImageReportsOfDeskLine (changes images.old) line.now.bytes.now (tell_count images.old)
+        (tell_count images.new)) }
     ensures images_failed { OnErr result ((test images.new ≡ test images.old)
         ⊎ ImagesOfDeskLine (changes images.old) line.now.bytes.now (test images.old) (test images.new)) }
 {

@@ -1,7 +1,8 @@
--- Views do not notice one another: the lines of a view are answered as `replay` answers them in a script of the lines of
--- the style and its own alone. So each view keeps its own cells: `stats` gives the number that it would give there.
+-- Views do not notice one another: the lines of a view are answered as `replay` answers them in a script of the lines
+-- of the style and its own alone. So each view keeps its own cells: `stats` gives the number that it would give there.
 -- Source: own.
-use Rattle.std.specs.Prelude.{◌≡◌, ℕ, ◌+◌, ℤ, pos, List, [], ◌∷◌, ◌++◌, length, Bool, false, Option, None, Result, Ok, if◌then◌else◌}
+use Rattle.std.specs.Prelude.{◌≡◌, ℕ, ◌+◌, ℤ, pos, List, [], ◌∷◌, ◌++◌, length, Bool, false, Option, None, Result, Ok}
+use Rattle.std.specs.Prelude.{if◌then◌else◌}
 use Rattle.std.specs.Str.{bytes_eq}
 use Rattle.decimal_json.specs.Tree.{Tree}
 use Rattle.edit_script.specs.Edit.{Edit}
@@ -32,8 +33,8 @@ module _ (tiles : List SourceTile) (scripts : List ℕ → Bool) (can_change : B
   desk_after d [] = d
   desk_after d (t ∷ ts) = desk_after (desk_answered tiles scripts can_change d (desk_line t)).0 ts
 
-  -- What is answered in the view of a name, from the line of this number on until a line closes it, with the numbers of lines. What is
-  -- written after the line `view NAME` is `reply_text` of both.
+  -- What is answered in the view of a name, from the line of this number on until a line closes it, with the numbers of
+  -- lines. What is written after the line `view NAME` is `reply_text` of both.
   abbrev pub view_replies : ℕ → (name : List ℕ) → DeskState → List (Option Tree) → List (ℕ × Reply)
   view_replies number name d [] = []
   view_replies number name d (t ∷ ts) =
@@ -60,7 +61,8 @@ command_in number name read = []
 abbrev pub commands_until_closed : ℕ → (name : List ℕ) → List (Option Tree) → List (ℕ × Edit)
 commands_until_closed number name [] = []
 commands_until_closed number name (t ∷ ts) =
-    if closes name (desk_line t) then [] else command_in number name (desk_line t) ++ commands_until_closed (number + 1) name ts
+    if closes name (desk_line t) then [] else
+    command_in number name (desk_line t) ++ commands_until_closed (number + 1) name ts
 
 -- what `replay` answers to those of numbered commands that belong to a view
 abbrev pub replayed : List SourceTile → (List ℕ → Bool) → Bool → SessionState → List (ℕ × Edit) → List (ℕ × Reply)
@@ -69,8 +71,9 @@ replayed tiles scripts can_change p (c ∷ cs) =
     (if is_of_view c.1 then (c.0, (applied tiles scripts can_change p c.1).1) ∷ [] else [])
     ++ replayed tiles scripts can_change (applied tiles scripts can_change p c.1).0 cs
 
--- For each script, each line of it that opens a view, and the lines after it until the view is closed: what is answered in the view
--- is what `replay` answers at the view's first zoom, to the same lines of the script without those of other views.
+-- For each script, each line of it that opens a view, and the lines after it until the view is closed: what is answered
+-- in the view is what `replay` answers at the view's first zoom, to the same lines of the script without those of other
+-- views.
 abbrev pub EachViewIsAReplay : Type 0
 EachViewIsAReplay =
     (tiles : List SourceTile) (scripts has_image : List ℕ → Bool) (can_change : Bool) (document : Tree)
@@ -78,6 +81,7 @@ EachViewIsAReplay =
     let start = desk_over (opened desk_limit document (pos 0) has_image) in
     desk_line line ≡ Ok (open_view name zoom) →
     opening_refusal (desk_after tiles scripts can_change start before) name zoom ≡ None →
-    view_replies tiles scripts can_change (length before + 2) name (desk_after tiles scripts can_change start (before ++ line ∷ [])) after
+    view_replies tiles scripts can_change (length before + 2) name
+    (desk_after tiles scripts can_change start (before ++ line ∷ [])) after
     ≡ replayed tiles scripts can_change (opened desk_limit document zoom has_image)
     (style_commands 1 before ++ commands_until_closed (length before + 2) name after)
