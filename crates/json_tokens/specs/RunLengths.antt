@@ -25,7 +25,7 @@ one_run p (b ∷ x) [] q (c ∷ r) in_x in_y at_q at_r e =
 one_run p (b ∷ x) (c ∷ y) q r in_x in_y at_q at_r e =
     let same : b ≡ c = cc in
     let left : x ++ q ≡ y ++ r = cc in
-    let both = one_run p x y q r (and_parts (p b) (list_all p x) in_x).1 (and_parts (p c) (list_all p y) in_y).1 at_q
-    at_r left in
+    let both = one_run p x y q r (and_parts (p b) (list_all p x) in_x).1 (and_parts (p c) (list_all p y) in_y).1
+    at_q at_r left in
     let run : x ≡ y = both.0 in
     (cc, both.1)

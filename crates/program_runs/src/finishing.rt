@@ -56,8 +56,8 @@ pub fn write_piece<O: Sink>(piece: &[u8], out: &mut O) -> Result<(), SinkFailed>
 
 /// Writes the line of a file that could not be read.
 pub fn write_unread<E: Sink>(alloc: Global, name: &str, err: &mut E) -> Status
-    ensures status { EndsUnread result (E.held err.old) (E.held err.new) (E.faults err.old) (E.faults err.new)
-        name.now }
+    ensures status { EndsUnread result (E.held err.old) (E.held err.new)
+        (E.faults err.old) (E.faults err.new) name.now }
     ensures front { GainsPrefix (E.held err.old) (E.held err.new) (unread_line name.now) }
 {
     let Ok(line) = unread_line(alloc, name) else {

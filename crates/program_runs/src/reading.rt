@@ -78,9 +78,8 @@ pub fn parse_json<'a>(alloc: Global, what: &Subject<'_>, bytes: &[u8]) -> Result
     ensures on { (files : List ℕ → Option (List ℕ)) (asked : List (List ℕ)) →
         IfOk result (λ json. GoesOn files (parses (subject_text what.now) bytes.now) asked asked (tree_of json)) }
     ensures halt { (files : List ℕ → Option (List ℕ)) (count : ℕ) (failed : Option (List ℕ)) (asked : List (List ℕ)) →
-        IfErr result
-        (λ halt. Halts files (parses (subject_text what.now) bytes.now) count count failed failed asked
-        asked halt) }
+        IfErr result (λ halt. Halts files (parses (subject_text what.now) bytes.now)
+        count count failed failed asked asked halt) }
 {
     json_or_refusal(alloc, what, parse(alloc, bytes)?)
 }
@@ -119,8 +118,8 @@ fn json_or_refusal<'a>(
         IfOk result (λ json. GoesOn files (parses (subject_text what.now) bytes) asked asked (tree_of json)) }
     ensures halt { (files : List ℕ → Option (List ℕ)) (bytes : List ℕ) (count : ℕ) (failed : Option (List ℕ))
         (asked : List (List ℕ)) → Parses bytes parsed →
-        IfErr result
-        (λ halt. Halts files (parses (subject_text what.now) bytes) count count failed failed asked asked halt) }
+        IfErr result (λ halt. Halts files (parses (subject_text what.now) bytes)
+        count count failed failed asked asked halt) }
 {
     match parsed {
         Ok(json) => Ok(json),

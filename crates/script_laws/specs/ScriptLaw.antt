@@ -235,8 +235,8 @@ PossibleEditsAreAccepted =
 -- A value of the global state is always set: `set-global` is never refused, whatever the state is.
 abbrev pub GlobalsAreAlwaysSet : Type 0
 GlobalsAreAlwaysSet =
-    (tiles : List SourceTile) (scripts : List ℕ → Bool) (can_change : Bool) (p : SessionState) (name : List ℕ)
-    (d : Data) →
+    (tiles : List SourceTile) (scripts : List ℕ → Bool) (can_change : Bool) (p : SessionState)
+    (name : List ℕ) (d : Data) →
     applied tiles scripts can_change p (set_global name d) ≡ (presented_after tiles p (set_global name d), done)
 
 -- An edit that removes or moves a layer, or sets its range, is never refused for its cells: none comes.

@@ -55,9 +55,7 @@ help_text =
     line (codes "Exit status, and the line on standard error:") ++
     line (codes "  0  everything was written") ++
     line
-    (codes
-    "  1  value gave a fault, the style is invalid, lint found an error, or a line of the script was refused")
-    ++
+    (codes "  1  value gave a fault, the style is invalid, lint found an error, or a line of the script was refused") ++
     line (codes "  2  usage: unknown command or wrong arguments") ++
     line (codes "  3  refused ..: the expression, style, tile or script is not accepted, and why") ++
     line (codes "  4  read NAME: this file could not be read") ++

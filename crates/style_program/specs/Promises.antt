@@ -46,13 +46,13 @@ pub record KeepsPromises (files : List ℕ → Option (List ℕ)) (run : Run) (s
   pub exact :
       status ≢ NoMemory → Still before.failed_reads after.failed_reads → Still before.failed_outs after.failed_outs
       → Still before.failed_errs after.failed_errs
-      → Completes files run before.asked after.asked status before.out after.out before.err after.err before.steps
-      after.steps
+      → Completes files run before.asked after.asked status before.out after.out before.err after.err
+      before.steps after.steps
   -- So it is after every answer but three, whatever the counts of faults.
   pub completes :
       status ≢ NoMemory → status ≢ ReadFault → status ≢ WriteFault
-      → Completes files run before.asked after.asked status before.out after.out before.err after.err before.steps
-      after.steps
+      → Completes files run before.asked after.asked status before.out after.out before.err after.err
+      before.steps after.steps
   -- In every run what is written is a prefix of what is defined, or of the line of a read that failed.
   pub out_front : OutFront files run before.asked after.asked before.out after.out
   pub err_front : ErrFront files run before.asked after.asked before.failed_reads after.failed_reads after.unread
@@ -64,8 +64,8 @@ pub record KeepsPromises (files : List ℕ → Option (List ℕ)) (run : Run) (s
       after.asked name
       × Gains before.out after.out [] × Gains before.err after.err (unread_line name)
   pub write_fault :
-      status ≡ WriteFault → WriteFails files run before.asked after.asked before.failed_reads after.failed_reads
-      after.unread
+      status ≡ WriteFault → WriteFails files run before.asked after.asked
+      before.failed_reads after.failed_reads after.unread
       before.failed_outs after.failed_outs before.failed_errs after.failed_errs
   -- The first read that fails ends the run, and so does the first write.
   pub reads : EndsAtFailedRead status before.failed_reads after.failed_reads before.unread after.unread

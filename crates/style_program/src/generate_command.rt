@@ -32,15 +32,15 @@ pub fn answer_generate<'a, L: Ledger>(
     steps: &mut Steps<L>,
 ) -> Result<RunOutput, RunHalt<'a>>
     ensures answer { (files : List ℕ → Option (List ℕ)) (asked : List (List ℕ)) → IfOk result (IsAnswered files
-        (generate_run features (test images.old) (test scripts.now) (changes images.old)) asked asked steps.old
-        steps.new) }
+        (generate_run features (test images.old) (test scripts.now) (changes images.old))
+        asked asked steps.old steps.new) }
     ensures halt { (files : List ℕ → Option (List ℕ)) (count : ℕ) (failed : Option (List ℕ)) (asked : List (List ℕ))
         → IfErr result (λ halt. HaltsAt files
         (generate_run features (test images.old) (test scripts.now) (changes images.old)) count count failed failed
         asked asked halt) }
     ensures steps { (files : List ℕ → Option (List ℕ)) (asked : List (List ℕ)) → IfErr result (HaltSteps files
-        (generate_run features (test images.old) (test scripts.now) (changes images.old)) asked asked steps.old
-        steps.new) }
+        (generate_run features (test images.old) (test scripts.now) (changes images.old))
+        asked asked steps.old steps.new) }
 {
     let style = parse_json(alloc, &Subject::Style, GENERATED_STYLE)?;
     refuse_broken(alloc, &style)?;

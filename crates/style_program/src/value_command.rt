@@ -30,8 +30,8 @@ pub fn answer_value<'a>(
         HasOutcome files (value_run (test images.now) (test scripts.now) text.now) asked asked (outcome_of answer)) }
     ensures halt { (files : List ℕ → Option (List ℕ)) (count : ℕ) (failed : Option (List ℕ)) (asked : List (List ℕ))
         → IfErr result (λ halt.
-        HaltsAt files (value_run (test images.now) (test scripts.now) text.now) count count failed failed asked
-        asked halt) }
+        HaltsAt files (value_run (test images.now) (test scripts.now) text.now)
+        count count failed failed asked asked halt) }
 {
     let json = parse_json(alloc, &Subject::Expression, text.as_bytes())?;
     let read = read_expr(alloc, &json)?;

@@ -204,5 +204,5 @@ abbrev pub IsFirstFault : List ℕ → TileFault → Type 0
 IsFirstFault b fault =
     ((is_compressed b ≡ true) × IsAt kind.Compressed 0 fault)
     ⊎ ((is_compressed b ≡ false)
-    × FirstIn AreLayersSoFar (λ layers field inner. (field.number ≡ 3) × BreaksLayer (names layers) field inner) 0
-    b fault)
+    × FirstIn AreLayersSoFar (λ layers field inner. (field.number ≡ 3) × BreaksLayer (names layers) field inner)
+    0 b fault)
