@@ -9,3 +9,4 @@ pub mod FunctionFaultLaws
 pub mod ReportLaws
 pub mod KeyLaws
 pub mod QuietLaws
+pub mod LatePathLaws

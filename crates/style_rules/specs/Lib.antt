@@ -12,3 +12,4 @@ pub mod CodeView
 pub mod LayerParts
 pub mod Keys
 pub mod FunctionFaults
+pub mod LatePaths

@@ -47,6 +47,7 @@ fn note(alloc: Global, report: &mut Report, diagnostic: Diagnostic) -> Result<()
             if is_empty(faults) {
                 return Ok(());
             }
+            let path = path.made(alloc)?;
             report.may_lines.push(MayLine { path, faults })
         }
     }

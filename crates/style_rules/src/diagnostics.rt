@@ -2,11 +2,13 @@
 
 ghost use Rattle.std.specs.Prelude.{◌≡◌, [], ◌∷◌, ◌++◌, OnOk, IfOk};
 ghost use Rattle.decimal_json.specs.View.{path_of};
+ghost use Rattle.decimal_json.specs.declared.paths.PathPart.TheVariants.{Key};
 ghost use Rattle.style_rules.specs.Findings.{reports_or};
 ghost use Rattle.style_rules.specs.Places.{unless_broken};
 
+use crate::late_path::LatePath;
 use crate::possible_faults::PossibleFaults;
-use decimal_json::{Here, Path, PathPart, path_to};
+use decimal_json::{Here, Path, PathPart, Text, path_to};
 use std::alloc::{AllocError, Global};
 use std::marker::Model;
 
@@ -27,7 +29,7 @@ pub(crate) enum Mark {
 pub(crate) enum Diagnostic {
     Finding(Path, u8),
     Note(Path),
-    May(Path, PossibleFaults),
+    May(LatePath, PossibleFaults),
 }
 
 /// What is reported of a document so far.
@@ -75,11 +77,32 @@ impl Diagnostics {
             Mark::Outside => self.all.push(Diagnostic::Note(path_to(alloc, here)?))?,
             Mark::Sound(faults) => {
                 let faults = self.listed(alloc, faults)?;
-                self.all
-                    .push(Diagnostic::May(path_to(alloc, here)?, faults))?
+                let path = LatePath::of(alloc, here)?;
+                self.all.push(Diagnostic::May(path, faults))?
             }
         }
         Ok(())
+    }
+
+    /// Adds what is reported of the member of a name below a place.
+    pub(crate) fn report_member<'x>(
+        &mut self,
+        alloc: Global,
+        name: &'x Text,
+        outer: &'x Here<'x>,
+        mark: Mark,
+    ) -> Result<(), AllocError>
+        ensures { OnOk result (self.new ≡ self.old ++ reports_or mark (path_of outer.now ++ Key name.now ∷ []) []) }
+    {
+        match mark {
+            Mark::Sound(faults) => {
+                let faults = self.listed(alloc, faults)?;
+                let path = LatePath::of_member(alloc, name, outer)?;
+                self.all.push(Diagnostic::May(path, faults))?;
+                Ok(())
+            }
+            other => self.report(alloc, &Here::Key(name.as_str(), outer), other),
+        }
     }
 
     fn listed(&self, alloc: Global, faults: PossibleFaults) -> Result<PossibleFaults, AllocError>

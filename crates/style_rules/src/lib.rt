@@ -21,6 +21,7 @@ mod diagnostics;
 mod document;
 mod filters;
 mod keys;
+mod late_path;
 mod laws;
 mod layer;
 mod layer_context;

@@ -86,9 +86,8 @@ fn report_property<'x>(
         (tree_of property.now.value)) }
 {
     let name = property.key.as_str();
-    let here = Here::Key(name, properties);
     let mark = property_mark(alloc, layer_type, place, name, &property.value)?;
-    reports.report(alloc, &here, mark)
+    reports.report_member(alloc, &property.key, properties, mark)
 }
 
 /// What is reported of the value of a name.
