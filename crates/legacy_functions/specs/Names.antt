@@ -1,9 +1,9 @@
 -- How each of the names is spelled of which expressions are made. Source: own.
 use Rattle.std.specs.Prelude.{ℕ, List, codes}
-use Rattle.legacy_functions.specs.declared.names.Name.{Name}
-use Rattle.legacy_functions.specs.declared.names.Name.TheVariants as names
+use Rattle.legacy_functions.specs.declared.names.CallName.{CallName}
+use Rattle.legacy_functions.specs.declared.names.CallName.TheVariants as names
 
-abbrev pub name_text : Name → List ℕ
+abbrev pub name_text : CallName → List ℕ
 name_text names.Interpolate = codes "interpolate"
 name_text names.Linear = codes "linear"
 name_text names.Zoom = codes "zoom"

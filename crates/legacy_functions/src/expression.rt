@@ -20,7 +20,7 @@ use crate::categories::Categories;
 use crate::function::{
     Body, Category, Function, Input, NumberStop, Output, PropertyRule, Way, ZoomRule,
 };
-use crate::names::{Name, Names};
+use crate::names::{CallName, CallNames};
 use crate::stops::{NumberStops, ZoomRules};
 use crate::tokens::{property_expression, token_expr};
 use decimal_json::{Items, Json, NumText, Text, copy};
@@ -35,7 +35,7 @@ impl Function {
     pub fn to_expr(&self, alloc: Global) -> Result<Json, AllocError>
         ensures { IfOk result (λ made. tree_of made ≡ function_expression (row_of self.now) (function_of self.now)) }
     {
-        let names = Names::of(alloc)?;
+        let names = CallNames::of(alloc)?;
         match &self.body {
             Body::Plain(rule) => match &self.property {
                 Some(_) => rule_expression(alloc, &names, self, rule),
@@ -52,8 +52,8 @@ impl Function {
 // A call that has room for so many arguments.
 pub(crate) fn call(
     alloc: Global,
-    names: &Names,
-    name: Name,
+    names: &CallNames,
+    name: CallName,
     arguments: usize,
 ) -> Result<Items, AllocError>
     ensures { IfOk result (λ items. items ≡ text_tree (name_text name) ∷ []) }
@@ -69,7 +69,12 @@ fn text(alloc: Global, name: &str) -> Result<Json, AllocError>
     Ok(Json::Text(Text::copy_of(alloc, name)?))
 }
 
-fn call_one(alloc: Global, names: &Names, name: Name, element: Json) -> Result<Json, AllocError>
+fn call_one(
+    alloc: Global,
+    names: &CallNames,
+    name: CallName,
+    element: Json,
+) -> Result<Json, AllocError>
     ensures { IfOk result (λ made. tree_of made ≡ call (name_text name) (tree_of element ∷ [])) }
 {
     let mut items = call(alloc, names, name, 1)?;
@@ -79,8 +84,8 @@ fn call_one(alloc: Global, names: &Names, name: Name, element: Json) -> Result<J
 
 fn call_two(
     alloc: Global,
-    names: &Names,
-    name: Name,
+    names: &CallNames,
+    name: CallName,
     first: Json,
     second: Json,
 ) -> Result<Json, AllocError>
@@ -92,25 +97,25 @@ fn call_two(
     Ok(Json::List(items))
 }
 
-fn zoom_json(alloc: Global, names: &Names) -> Result<Json, AllocError>
+fn zoom_json(alloc: Global, names: &CallNames) -> Result<Json, AllocError>
     ensures { IfOk result (λ made. tree_of made ≡ zoom_expression) }
 {
-    Ok(Json::List(call(alloc, names, Name::Zoom, 0)?))
+    Ok(Json::List(call(alloc, names, CallName::Zoom, 0)?))
 }
 
 // ---- outputs and defaults
 
 // An array is in `literal`.
-fn as_literal(alloc: Global, names: &Names, json: Json) -> Result<Json, AllocError>
+fn as_literal(alloc: Global, names: &CallNames, json: Json) -> Result<Json, AllocError>
     ensures { IfOk result (λ made. tree_of made ≡ as_literal (tree_of json)) }
 {
     match json {
-        Json::List(items) => call_one(alloc, names, Name::Literal, Json::List(items)),
+        Json::List(items) => call_one(alloc, names, CallName::Literal, Json::List(items)),
         json => Ok(json),
     }
 }
 
-fn output_expression(alloc: Global, names: &Names, output: &Output) -> Result<Json, AllocError>
+fn output_expression(alloc: Global, names: &CallNames, output: &Output) -> Result<Json, AllocError>
     ensures { IfOk result (λ made. tree_of made ≡ output_expression (output_seen output.now)) }
 {
     match output {
@@ -123,7 +128,11 @@ fn output_expression(alloc: Global, names: &Names, output: &Output) -> Result<Js
 }
 
 // The function's default, else the row's, else null.
-fn default_expression(alloc: Global, names: &Names, function: &Function) -> Result<Json, AllocError>
+fn default_expression(
+    alloc: Global,
+    names: &CallNames,
+    function: &Function,
+) -> Result<Json, AllocError>
     ensures { IfOk result (λ made. tree_of made ≡ default_tree function.now) }
 {
     match &function.fallback {
@@ -198,7 +207,7 @@ fn fonts_json(alloc: Global) -> Result<Json, AllocError>
 // Stops over an expression of a number.
 fn way_expression(
     alloc: Global,
-    names: &Names,
+    names: &CallNames,
     way: &Way,
     input: Json,
     stops: &NumberStops,
@@ -208,14 +217,14 @@ fn way_expression(
     match way {
         Way::Stepped => step_expression(alloc, names, input, stops.as_slice()),
         Way::Even => {
-            let curve = Json::List(call(alloc, names, Name::Linear, 0)?);
+            let curve = Json::List(call(alloc, names, CallName::Linear, 0)?);
             ramp_expression(alloc, names, curve, input, stops.as_slice())
         }
         Way::Curved(base) => {
             let curve = call_one(
                 alloc,
                 names,
-                Name::Exponential,
+                CallName::Exponential,
                 Json::Num(base.spelled().share()?),
             )?;
             ramp_expression(alloc, names, curve, input, stops.as_slice())
@@ -225,7 +234,7 @@ fn way_expression(
 
 fn ramp_expression(
     alloc: Global,
-    names: &Names,
+    names: &CallNames,
     curve: Json,
     input: Json,
     stops: &[NumberStop],
@@ -234,7 +243,7 @@ fn ramp_expression(
         ≡ call (codes "interpolate") (tree_of curve ∷ tree_of input ∷ branch_elements (branches_in stops.now))) }
 {
     let room = stops.len().saturating_mul(2).saturating_add(2);
-    let mut items = call(alloc, names, Name::Interpolate, room)?;
+    let mut items = call(alloc, names, CallName::Interpolate, room)?;
     items.push(curve)?;
     items.push(input)?;
     push_stops(alloc, names, &mut items, stops)?;
@@ -245,7 +254,7 @@ fn ramp_expression(
 #[tactic(auto, using(crate::proofs::ExpressionLaws::step_one, crate::proofs::ExpressionLaws::step_more))]
 fn step_expression(
     alloc: Global,
-    names: &Names,
+    names: &CallNames,
     input: Json,
     stops: &[NumberStop],
 ) -> Result<Json, AllocError>
@@ -256,7 +265,7 @@ fn step_expression(
     if stops.len() == 1 {
         return Ok(first);
     }
-    let mut items = call(alloc, names, Name::Step, stops.len().saturating_mul(2))?;
+    let mut items = call(alloc, names, CallName::Step, stops.len().saturating_mul(2))?;
     items.push(input)?;
     items.push(first)?;
     push_stops(alloc, names, &mut items, &stops[1..])?;
@@ -266,7 +275,7 @@ fn step_expression(
 // Adds inputs with their outputs.
 fn push_stops(
     alloc: Global,
-    names: &Names,
+    names: &CallNames,
     items: &mut Items,
     stops: &[NumberStop],
 ) -> Result<(), AllocError>
@@ -289,7 +298,7 @@ fn push_branch(items: &mut Items, number: &NumText, output: Json) -> Result<(), 
 
 // ---- rules
 
-fn property_json(alloc: Global, names: &Names, function: &Function) -> Result<Json, AllocError>
+fn property_json(alloc: Global, names: &CallNames, function: &Function) -> Result<Json, AllocError>
     ensures { IfOk result (λ made. tree_of made ≡ property_tree function.now) }
 {
     match &function.property {
@@ -301,19 +310,19 @@ fn property_json(alloc: Global, names: &Names, function: &Function) -> Result<Js
 // An expression where the property is of a kind, else the default.
 fn kind_case(
     alloc: Global,
-    names: &Names,
+    names: &CallNames,
     function: &Function,
-    kind: Name,
+    kind: CallName,
     expression: Json,
 ) -> Result<Json, AllocError>
     ensures { IfOk result (λ made. tree_of made
         ≡ kind_case (name_text kind) (property_tree function.now) (tree_of expression) (default_tree function.now)) }
 {
     let property = property_json(alloc, names, function)?;
-    let found = call_one(alloc, names, Name::TypeOf, property)?;
+    let found = call_one(alloc, names, CallName::TypeOf, property)?;
     let wanted = Json::Text(names.text(kind)?);
-    let test = call_two(alloc, names, Name::Equal, found, wanted)?;
-    let mut items = call(alloc, names, Name::Case, 3)?;
+    let test = call_two(alloc, names, CallName::Equal, found, wanted)?;
+    let mut items = call(alloc, names, CallName::Case, 3)?;
     items.push(test)?;
     items.push(expression)?;
     items.push(default_expression(alloc, names, function)?)?;
@@ -323,7 +332,7 @@ fn kind_case(
 // A rule by the property.
 fn rule_expression(
     alloc: Global,
-    names: &Names,
+    names: &CallNames,
     function: &Function,
     rule: &PropertyRule,
 ) -> Result<Json, AllocError>
@@ -334,7 +343,7 @@ fn rule_expression(
         PropertyRule::Numeric(stops) => {
             let input = property_json(alloc, names, function)?;
             let expression = way_expression(alloc, names, &function.way, input, stops)?;
-            kind_case(alloc, names, function, Name::Number, expression)
+            kind_case(alloc, names, function, CallName::Number, expression)
         }
         PropertyRule::Categorical(stops) => categories_expression(
             alloc,
@@ -347,7 +356,7 @@ fn rule_expression(
 
 fn categories_expression(
     alloc: Global,
-    names: &Names,
+    names: &CallNames,
     function: &Function,
     stops: &[Category],
 ) -> Result<Json, AllocError>
@@ -355,7 +364,7 @@ fn categories_expression(
         (category_elements (property_tree function.now) (map category_seen stops.now) ++ default_tree function.now ∷ [])) }
 {
     let room = stops.len().saturating_mul(2).saturating_add(1);
-    let mut items = call(alloc, names, Name::Case, room)?;
+    let mut items = call(alloc, names, CallName::Case, room)?;
     for stop in stops {
         push_category(alloc, names, &mut items, function, stop)?;
     }
@@ -366,7 +375,7 @@ fn categories_expression(
 // Adds the test of an input, and its output.
 fn push_category(
     alloc: Global,
-    names: &Names,
+    names: &CallNames,
     items: &mut Items,
     function: &Function,
     stop: &Category,
@@ -376,7 +385,7 @@ fn push_category(
 {
     let property = property_json(alloc, names, function)?;
     let input = input_json(&stop.input)?;
-    items.push(call_two(alloc, names, Name::Equal, property, input)?)?;
+    items.push(call_two(alloc, names, CallName::Equal, property, input)?)?;
     items.push(output_expression(alloc, names, &stop.output)?)?;
     Ok(())
 }
@@ -394,7 +403,7 @@ fn input_json(input: &Input) -> Result<Json, AllocError>
 // A rule by the zoom.
 fn zoom_rule_expression(
     alloc: Global,
-    names: &Names,
+    names: &CallNames,
     function: &Function,
     rule: &PropertyRule,
 ) -> Result<Json, AllocError>
@@ -413,7 +422,7 @@ fn zoom_rule_expression(
 
 fn zoomed_expression(
     alloc: Global,
-    names: &Names,
+    names: &CallNames,
     function: &Function,
     rules: &ZoomRules,
 ) -> Result<Json, AllocError>
@@ -429,7 +438,7 @@ fn zoomed_expression(
 
 fn zoom_ramp_expression(
     alloc: Global,
-    names: &Names,
+    names: &CallNames,
     function: &Function,
     rules: &[ZoomRule],
 ) -> Result<Json, AllocError>
@@ -437,8 +446,8 @@ fn zoom_ramp_expression(
         (rule_branches (property_tree function.now) (default_tree function.now) (rules_in function.now rules.now))) }
 {
     let room = rules.len().saturating_mul(2).saturating_add(2);
-    let mut items = call(alloc, names, Name::Interpolate, room)?;
-    items.push(Json::List(call(alloc, names, Name::Linear, 0)?))?;
+    let mut items = call(alloc, names, CallName::Interpolate, room)?;
+    items.push(Json::List(call(alloc, names, CallName::Linear, 0)?))?;
     items.push(zoom_json(alloc, names)?)?;
     push_rules(alloc, names, &mut items, function, rules)?;
     Ok(Json::List(items))
@@ -447,7 +456,7 @@ fn zoom_ramp_expression(
 #[tactic(auto, using(crate::proofs::ExpressionLaws::zoom_one, crate::proofs::ExpressionLaws::zoom_more))]
 fn zoom_step_expression(
     alloc: Global,
-    names: &Names,
+    names: &CallNames,
     function: &Function,
     rules: &[ZoomRule],
 ) -> Result<Json, AllocError>
@@ -459,7 +468,7 @@ fn zoom_step_expression(
     if rules.len() == 1 {
         return Ok(first);
     }
-    let mut items = call(alloc, names, Name::Step, rules.len().saturating_mul(2))?;
+    let mut items = call(alloc, names, CallName::Step, rules.len().saturating_mul(2))?;
     items.push(zoom_json(alloc, names)?)?;
     items.push(first)?;
     push_rules(alloc, names, &mut items, function, &rules[1..])?;
@@ -469,7 +478,7 @@ fn zoom_step_expression(
 // Adds zooms with their rules.
 fn push_rules(
     alloc: Global,
-    names: &Names,
+    names: &CallNames,
     items: &mut Items,
     function: &Function,
     rules: &[ZoomRule],
@@ -488,7 +497,7 @@ fn push_rules(
 
 fn identity_expression(
     alloc: Global,
-    names: &Names,
+    names: &CallNames,
     function: &Function,
 ) -> Result<Json, AllocError>
     ensures { IfOk result (λ made. tree_of made
@@ -498,21 +507,21 @@ fn identity_expression(
     match &function.row.want {
         Want::Shown => {
             let default = default_expression(alloc, names, function)?;
-            call_two(alloc, names, Name::Coalesce, property, default)
+            call_two(alloc, names, CallName::Coalesce, property, default)
         }
         want => kind_case(alloc, names, function, form_name(want), property),
     }
 }
 
 // What `typeof` says of a value that has the row's form.
-fn form_name(want: &Want) -> Name
+fn form_name(want: &Want) -> CallName
     ensures { name_text result ≡ form_name want.now }
 {
     match want {
-        Want::Number => Name::Number,
-        Want::Boolean => Name::Boolean,
-        Want::List(_, _) => Name::Array,
-        Want::EnumList(_) => Name::Array,
-        _ => Name::Text,
+        Want::Number => CallName::Number,
+        Want::Boolean => CallName::Boolean,
+        Want::List(_, _) => CallName::Array,
+        Want::EnumList(_) => CallName::Array,
+        _ => CallName::Text,
     }
 }

@@ -12,8 +12,8 @@ const ALL_NAMES: &str =
     "interpolatelinearzoomcase==typeofgetnumberstepliteralconcatstringarraybooleancoalesceexponential";
 
 /// The name of an operator, or what `typeof` says of a value.
-#[derive(Clone, Copy, Debug, PartialEq, Eq)]
-pub(crate) enum Name {
+#[derive(Clone, Copy)]
+pub(crate) enum CallName {
     Interpolate,
     Linear,
     Zoom,
@@ -32,7 +32,7 @@ pub(crate) enum Name {
     Exponential,
 }
 
-impl Name {
+impl CallName {
     ghost use Rattle.std.specs.Prelude.{◌≡◌, ◌≤◌, IsUtf8, length};
     ghost use Rattle.shared_text.specs.Ranges.{part};
     ghost use Rattle.legacy_functions.specs.Names.{name_text};
@@ -45,45 +45,45 @@ impl Name {
         ensures utf8 { IsUtf8 (part result.0 result.1 all_names) }
     {
         match self {
-            Name::Interpolate => (0, 11),
-            Name::Linear => (11, 17),
-            Name::Zoom => (17, 21),
-            Name::Case => (21, 25),
-            Name::Equal => (25, 27),
-            Name::TypeOf => (27, 33),
-            Name::Get => (33, 36),
-            Name::Number => (36, 42),
-            Name::Step => (42, 46),
-            Name::Literal => (46, 53),
-            Name::Concat => (53, 59),
-            Name::Text => (59, 65),
-            Name::Array => (65, 70),
-            Name::Boolean => (70, 77),
-            Name::Coalesce => (77, 85),
-            Name::Exponential => (85, 96),
+            CallName::Interpolate => (0, 11),
+            CallName::Linear => (11, 17),
+            CallName::Zoom => (17, 21),
+            CallName::Case => (21, 25),
+            CallName::Equal => (25, 27),
+            CallName::TypeOf => (27, 33),
+            CallName::Get => (33, 36),
+            CallName::Number => (36, 42),
+            CallName::Step => (42, 46),
+            CallName::Literal => (46, 53),
+            CallName::Concat => (53, 59),
+            CallName::Text => (59, 65),
+            CallName::Array => (65, 70),
+            CallName::Boolean => (70, 77),
+            CallName::Coalesce => (77, 85),
+            CallName::Exponential => (85, 96),
         }
     }
 }
 
 /// The text that has all names.
 #[derive(Drop)]
-pub(crate) struct Names {
+pub(crate) struct CallNames {
     document: Document,
     ghost whole: { document ≡ all_names },
 }
 
-impl Names {
+impl CallNames {
     ghost use Rattle.std.specs.Prelude.{◌≡◌, IfOk};
     ghost use Rattle.legacy_functions.specs.Names.{name_text};
 
-    pub(crate) fn of(alloc: Global) -> Result<Names, AllocError> {
-        Ok(Names {
+    pub(crate) fn of(alloc: Global) -> Result<CallNames, AllocError> {
+        Ok(CallNames {
             document: Document::copy_of(alloc, ALL_NAMES.as_bytes())?,
         })
     }
 
     /// The text of a name. No byte is copied.
-    pub(crate) fn text(&self, name: Name) -> Result<Text, AllocError>
+    pub(crate) fn text(&self, name: CallName) -> Result<Text, AllocError>
         ensures { IfOk result (λ text. text ≡ name_text name) }
     {
         let (from, to) = name.place();

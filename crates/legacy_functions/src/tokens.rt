@@ -11,7 +11,7 @@ ghost use Rattle.legacy_functions.specs.TokenSize.{token_size, plain_size, size_
 ghost use Rattle.legacy_functions.specs.Tokens.{before_brace, token_name, has_tokens, pieces, property_text, piece_expression, property_expression, token_text, token_expression};
 
 use crate::expression::{ascii_text, call};
-use crate::names::{Name, Names};
+use crate::names::{CallName, CallNames};
 use decimal_json::{Items, Json, Text};
 use fixed_num::Fixed;
 use prop_values::{Value, to_text};
@@ -125,8 +125,13 @@ pub fn token_expr(alloc: Global, text: &str) -> Result<Json, AllocError>
     ensures { IfOk result (λ made. tree_of made ≡ token_expression text.now) }
 {
     let document = Document::copy_of(alloc, text.as_bytes())?;
-    let names = Names::of(alloc)?;
-    let mut items = call(alloc, &names, Name::Concat, piece_count(text.as_bytes()))?;
+    let names = CallNames::of(alloc)?;
+    let mut items = call(
+        alloc,
+        &names,
+        CallName::Concat,
+        piece_count(text.as_bytes()),
+    )?;
     push_pieces(alloc, &names, &mut items, &document, text)?;
     Ok(Json::List(items))
 }
@@ -134,7 +139,7 @@ pub fn token_expr(alloc: Global, text: &str) -> Result<Json, AllocError>
 // Adds the expressions of the pieces of what is left of a text.
 fn push_pieces(
     alloc: Global,
-    names: &Names,
+    names: &CallNames,
     items: &mut Items,
     document: &Document,
     text: &str,
@@ -176,7 +181,7 @@ fn first_length(bytes: &[u8]) -> usize
 // Adds the expression of the first piece of what is left of a text, and gives the text after it.
 fn push_piece<'a>(
     alloc: Global,
-    names: &Names,
+    names: &CallNames,
     items: &mut Items,
     document: &Document,
     rest: &'a str,
@@ -202,7 +207,7 @@ fn push_piece<'a>(
     }
 }
 
-fn piece_expression(alloc: Global, names: &Names, piece: TokenPiece) -> Result<Json, AllocError>
+fn piece_expression(alloc: Global, names: &CallNames, piece: TokenPiece) -> Result<Json, AllocError>
     ensures { IfOk result (λ made. tree_of made ≡ piece_expression piece) }
 {
     match piece {
@@ -214,12 +219,12 @@ fn piece_expression(alloc: Global, names: &Names, piece: TokenPiece) -> Result<J
 /// `get` of a property.
 pub(crate) fn property_expression(
     alloc: Global,
-    names: &Names,
+    names: &CallNames,
     name: Text,
 ) -> Result<Json, AllocError>
     ensures { IfOk result (λ made. tree_of made ≡ property_expression name) }
 {
-    let mut items = call(alloc, names, Name::Get, 1)?;
+    let mut items = call(alloc, names, CallName::Get, 1)?;
     items.push(Json::Text(name))?;
     Ok(Json::List(items))
 }
