@@ -16,3 +16,5 @@ pub mod PlacedView
 pub mod FoundView
 pub mod GroupView
 pub mod FunctionView
+pub mod AllNames
+pub mod Names

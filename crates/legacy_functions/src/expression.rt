@@ -10,6 +10,7 @@ ghost use Rattle.property_tables.specs.Rows.{zeros, fonts};
 ghost use Rattle.legacy_functions.specs.Function.{even};
 ghost use Rattle.legacy_functions.specs.FunctionView.{default_tree, property_tree, rule_in, rules_in, branches_in};
 ghost use Rattle.legacy_functions.specs.Meaning.{zoom_way};
+ghost use Rattle.legacy_functions.specs.Names.{name_text};
 ghost use Rattle.legacy_functions.specs.Parts.{input_seen, output_seen, category_seen};
 ghost use Rattle.legacy_functions.specs.ToExpression.{function_expression, as_literal, output_expression, written_tree};
 ghost use Rattle.legacy_functions.specs.ToExpression.{branch_elements, step_expression, way_expression, kind_case};
@@ -23,8 +24,9 @@ use crate::categories::Categories;
 use crate::function::{
     Body, Category, Function, Input, NumberStop, Output, PropertyRule, Way, ZoomRule,
 };
+use crate::names::{CallName, CallNames};
 use crate::stops::{NumberStops, ZoomRules};
-use crate::tokens::{property_expression, shared_get, token_expr};
+use crate::tokens::{property_expression, token_expr};
 use decimal_json::{Items, Json, NumText, Text, copy};
 use fixed_num::Fixed;
 use prop_values::Want;
@@ -37,13 +39,14 @@ impl Function {
     pub fn to_expr(&self, alloc: Global) -> Result<Json, AllocError>
         ensures { IfOk result (λ made. tree_of made ≡ function_expression (row_of self.now) (function_of self.now)) }
     {
+        let names = CallNames::of(alloc)?;
         match &self.body {
             Body::Plain(rule) => match &self.property {
-                Some(_) => rule_expression(alloc, self, rule),
-                None => zoom_rule_expression(alloc, self, rule),
+                Some(_) => rule_expression(alloc, &names, self, rule),
+                None => zoom_rule_expression(alloc, &names, self, rule),
             },
-            Body::Zoomed(rules) => zoomed_expression(alloc, self, rules),
-            Body::Identity => identity_expression(alloc, self),
+            Body::Zoomed(rules) => zoomed_expression(alloc, &names, self, rules),
+            Body::Identity => identity_expression(alloc, &names, self),
         }
     }
 }
@@ -51,11 +54,16 @@ impl Function {
 // ---- calls
 
 // A call that has room for so many arguments.
-pub(crate) fn call(alloc: Global, name: &str, arguments: usize) -> Result<Items, AllocError>
-    ensures { IfOk result (λ items. items ≡ text_tree name.now ∷ []) }
+pub(crate) fn call(
+    alloc: Global,
+    names: &CallNames,
+    name: CallName,
+    arguments: usize,
+) -> Result<Items, AllocError>
+    ensures { IfOk result (λ items. items ≡ text_tree (name_text name) ∷ []) }
 {
     let mut items = Items::with_room(alloc, arguments.saturating_add(1))?;
-    items.push(text(alloc, name)?)?;
+    items.push(Json::Text(names.text(name)?))?;
     Ok(items)
 }
 
@@ -65,78 +73,77 @@ fn text(alloc: Global, name: &str) -> Result<Json, AllocError>
     Ok(Json::Text(Text::copy_of(alloc, name)?))
 }
 
-fn call_one(alloc: Global, name: &str, element: Json) -> Result<Json, AllocError>
-    ensures { IfOk result (λ made. tree_of made ≡ call name.now (tree_of element ∷ [])) }
+fn call_one(
+    alloc: Global,
+    names: &CallNames,
+    name: CallName,
+    element: Json,
+) -> Result<Json, AllocError>
+    ensures { IfOk result (λ made. tree_of made ≡ call (name_text name) (tree_of element ∷ [])) }
 {
-    let mut items = call(alloc, name, 1)?;
+    let mut items = call(alloc, names, name, 1)?;
     items.push(element)?;
     Ok(Json::List(items))
 }
 
-fn call_two(alloc: Global, name: &str, first: Json, second: Json) -> Result<Json, AllocError>
-    ensures { IfOk result (λ made. tree_of made ≡ call name.now (tree_of first ∷ tree_of second ∷ [])) }
-{
-    let mut items = call(alloc, name, 2)?;
-    items.push(first)?;
-    items.push(second)?;
-    Ok(Json::List(items))
-}
-
-// A call by a name that calls share.
-fn shared_call_two(
+fn call_two(
     alloc: Global,
-    name: &Text,
+    names: &CallNames,
+    name: CallName,
     first: Json,
     second: Json,
 ) -> Result<Json, AllocError>
-    ensures { IfOk result (λ made. tree_of made ≡ call name.now (tree_of first ∷ tree_of second ∷ [])) }
+    ensures { IfOk result (λ made. tree_of made ≡ call (name_text name) (tree_of first ∷ tree_of second ∷ [])) }
 {
-    let mut items = Items::with_room(alloc, 3)?;
-    items.push(Json::Text(name.share()?))?;
+    let mut items = call(alloc, names, name, 2)?;
     items.push(first)?;
     items.push(second)?;
     Ok(Json::List(items))
 }
 
-fn zoom_json(alloc: Global) -> Result<Json, AllocError>
+fn zoom_json(alloc: Global, names: &CallNames) -> Result<Json, AllocError>
     ensures { IfOk result (λ made. tree_of made ≡ zoom_expression) }
 {
-    Ok(Json::List(call(alloc, "zoom", 0)?))
+    Ok(Json::List(call(alloc, names, CallName::Zoom, 0)?))
 }
 
 // ---- outputs and defaults
 
 // An array is in `literal`.
-fn as_literal(alloc: Global, json: Json) -> Result<Json, AllocError>
+fn as_literal(alloc: Global, names: &CallNames, json: Json) -> Result<Json, AllocError>
     ensures { IfOk result (λ made. tree_of made ≡ as_literal (tree_of json)) }
 {
     match json {
-        Json::List(items) => call_one(alloc, "literal", Json::List(items)),
+        Json::List(items) => call_one(alloc, names, CallName::Literal, Json::List(items)),
         json => Ok(json),
     }
 }
 
-fn output_expression(alloc: Global, output: &Output) -> Result<Json, AllocError>
+fn output_expression(alloc: Global, names: &CallNames, output: &Output) -> Result<Json, AllocError>
     ensures { IfOk result (λ made. tree_of made ≡ output_expression (output_seen output.now)) }
 {
     match output {
         Output::Literal(json, _) => {
             let json = copy(alloc, json)?;
-            as_literal(alloc, json)
+            as_literal(alloc, names, json)
         }
         Output::Tokens(text) => token_expr(alloc, text.as_str()),
     }
 }
 
 // The function's default, else the row's, else null.
-fn default_expression(alloc: Global, function: &Function) -> Result<Json, AllocError>
+fn default_expression(
+    alloc: Global,
+    names: &CallNames,
+    function: &Function,
+) -> Result<Json, AllocError>
     ensures { IfOk result (λ made. tree_of made ≡ default_tree function.now) }
 {
     match &function.fallback {
-        Some(output) => output_expression(alloc, output),
+        Some(output) => output_expression(alloc, names, output),
         None => {
             let written = written_json(alloc, &function.row.fallback)?;
-            as_literal(alloc, written)
+            as_literal(alloc, names, written)
         }
     }
 }
@@ -204,6 +211,7 @@ fn fonts_json(alloc: Global) -> Result<Json, AllocError>
 // Stops over an expression of a number.
 fn way_expression(
     alloc: Global,
+    names: &CallNames,
     way: &Way,
     input: Json,
     stops: &NumberStops,
@@ -212,20 +220,26 @@ fn way_expression(
         (λ made. tree_of made ≡ way_expression (way_seen way.now) (tree_of input) (branches_in stops.now)) }
 {
     match way {
-        Way::Stepped => step_expression(alloc, input, stops.as_slice()),
+        Way::Stepped => step_expression(alloc, names, input, stops.as_slice()),
         Way::Even => {
-            let curve = Json::List(call(alloc, "linear", 0)?);
-            ramp_expression(alloc, curve, input, stops.as_slice())
+            let curve = Json::List(call(alloc, names, CallName::Linear, 0)?);
+            ramp_expression(alloc, names, curve, input, stops.as_slice())
         }
         Way::Curved(base) => {
-            let curve = call_one(alloc, "exponential", Json::Num(base.spelled().share()?))?;
-            ramp_expression(alloc, curve, input, stops.as_slice())
+            let curve = call_one(
+                alloc,
+                names,
+                CallName::Exponential,
+                Json::Num(base.spelled().share()?),
+            )?;
+            ramp_expression(alloc, names, curve, input, stops.as_slice())
         }
     }
 }
 
 fn ramp_expression(
     alloc: Global,
+    names: &CallNames,
     curve: Json,
     input: Json,
     stops: &[NumberStop],
@@ -234,36 +248,46 @@ fn ramp_expression(
         ≡ call (codes "interpolate") (tree_of curve ∷ tree_of input ∷ branch_elements (branches_in stops.now))) }
 {
     let room = stops.len().saturating_mul(2).saturating_add(2);
-    let mut items = call(alloc, "interpolate", room)?;
+    let mut items = call(alloc, names, CallName::Interpolate, room)?;
     items.push(curve)?;
     items.push(input)?;
-    push_stops(alloc, &mut items, stops)?;
+    push_stops(alloc, names, &mut items, stops)?;
     Ok(Json::List(items))
 }
 
 // The first output has no input, and is alone where it is the only one.
 #[tactic(auto, using(crate::proofs::ExpressionLaws::step_one, crate::proofs::ExpressionLaws::step_more))]
-fn step_expression(alloc: Global, input: Json, stops: &[NumberStop]) -> Result<Json, AllocError>
+fn step_expression(
+    alloc: Global,
+    names: &CallNames,
+    input: Json,
+    stops: &[NumberStop],
+) -> Result<Json, AllocError>
     requires { 0 < length stops.now }
     ensures { IfOk result (λ made. tree_of made ≡ step_expression (tree_of input) (branches_in stops.now)) }
 {
-    let first = output_expression(alloc, &stops[0].output)?;
+    let first = output_expression(alloc, names, &stops[0].output)?;
     if stops.len() == 1 {
         return Ok(first);
     }
-    let mut items = call(alloc, "step", stops.len().saturating_mul(2))?;
+    let mut items = call(alloc, names, CallName::Step, stops.len().saturating_mul(2))?;
     items.push(input)?;
     items.push(first)?;
-    push_stops(alloc, &mut items, &stops[1..])?;
+    push_stops(alloc, names, &mut items, &stops[1..])?;
     Ok(Json::List(items))
 }
 
 // Adds inputs with their outputs.
-fn push_stops(alloc: Global, items: &mut Items, stops: &[NumberStop]) -> Result<(), AllocError>
+fn push_stops(
+    alloc: Global,
+    names: &CallNames,
+    items: &mut Items,
+    stops: &[NumberStop],
+) -> Result<(), AllocError>
     ensures { OnOk result (items.new ≡ items.old ++ branch_elements (branches_in stops.now)) }
 {
     for stop in stops {
-        let output = output_expression(alloc, &stop.output)?;
+        let output = output_expression(alloc, names, &stop.output)?;
         push_branch(items, &stop.input.spelled, output)?;
     }
     Ok(())
@@ -279,22 +303,11 @@ fn push_branch(items: &mut Items, number: &NumText, output: Json) -> Result<(), 
 
 // ---- rules
 
-fn property_json(alloc: Global, function: &Function) -> Result<Json, AllocError>
+fn property_json(alloc: Global, names: &CallNames, function: &Function) -> Result<Json, AllocError>
     ensures { IfOk result (λ made. tree_of made ≡ property_tree function.now) }
 {
     match &function.property {
-        Some(name) => property_expression(alloc, name),
-        None => Ok(Json::Null),
-    }
-}
-
-// The same, with a name of the call that is shared.
-fn shared_property_json(alloc: Global, function: &Function, get: &Text) -> Result<Json, AllocError>
-    requires { get.now ≡ codes "get" }
-    ensures { IfOk result (λ made. tree_of made ≡ property_tree function.now) }
-{
-    match &function.property {
-        Some(name) => shared_get(alloc, get, name.share()?),
+        Some(name) => property_expression(alloc, names, name.share()?),
         None => Ok(Json::Null),
     }
 }
@@ -302,27 +315,29 @@ fn shared_property_json(alloc: Global, function: &Function, get: &Text) -> Resul
 // An expression where the property is of a kind, else the default.
 fn kind_case(
     alloc: Global,
+    names: &CallNames,
     function: &Function,
-    kind: &str,
+    kind: CallName,
     expression: Json,
 ) -> Result<Json, AllocError>
     ensures { IfOk result (λ made. tree_of made
-        ≡ kind_case kind.now (property_tree function.now) (tree_of expression) (default_tree function.now)) }
+        ≡ kind_case (name_text kind) (property_tree function.now) (tree_of expression) (default_tree function.now)) }
 {
-    let property = property_json(alloc, function)?;
-    let found = call_one(alloc, "typeof", property)?;
-    let wanted = text(alloc, kind)?;
-    let test = call_two(alloc, "==", found, wanted)?;
-    let mut items = call(alloc, "case", 3)?;
+    let property = property_json(alloc, names, function)?;
+    let found = call_one(alloc, names, CallName::TypeOf, property)?;
+    let wanted = Json::Text(names.text(kind)?);
+    let test = call_two(alloc, names, CallName::Equal, found, wanted)?;
+    let mut items = call(alloc, names, CallName::Case, 3)?;
     items.push(test)?;
     items.push(expression)?;
-    items.push(default_expression(alloc, function)?)?;
+    items.push(default_expression(alloc, names, function)?)?;
     Ok(Json::List(items))
 }
 
 // A rule by the property.
 fn rule_expression(
     alloc: Global,
+    names: &CallNames,
     function: &Function,
     rule: &PropertyRule,
 ) -> Result<Json, AllocError>
@@ -331,12 +346,13 @@ fn rule_expression(
 {
     match rule {
         PropertyRule::Numeric(stops) => {
-            let input = property_json(alloc, function)?;
-            let expression = way_expression(alloc, &function.way, input, stops)?;
-            kind_case(alloc, function, "number", expression)
+            let input = property_json(alloc, names, function)?;
+            let expression = way_expression(alloc, names, &function.way, input, stops)?;
+            kind_case(alloc, names, function, CallName::Number, expression)
         }
         PropertyRule::Categorical(stops) => categories_expression(
             alloc,
+            names,
             function,
             stops.as_slice(),
         ),
@@ -345,6 +361,7 @@ fn rule_expression(
 
 fn categories_expression(
     alloc: Global,
+    names: &CallNames,
     function: &Function,
     stops: &[Category],
 ) -> Result<Json, AllocError>
@@ -353,34 +370,29 @@ fn categories_expression(
         ++ default_tree function.now ∷ [])) }
 {
     let room = stops.len().saturating_mul(2).saturating_add(1);
-    let mut items = call(alloc, "case", room)?;
-    let equals = Text::copy_of(alloc, "==")?;
-    let get = Text::copy_of(alloc, "get")?;
+    let mut items = call(alloc, names, CallName::Case, room)?;
     for stop in stops {
-        push_category(alloc, &mut items, function, stop, &equals, &get)?;
+        push_category(alloc, names, &mut items, function, stop)?;
     }
-    items.push(default_expression(alloc, function)?)?;
+    items.push(default_expression(alloc, names, function)?)?;
     Ok(Json::List(items))
 }
 
-// Adds the test of an input, and its output. All tests share the names of their calls.
+// Adds the test of an input, and its output.
 fn push_category(
     alloc: Global,
+    names: &CallNames,
     items: &mut Items,
     function: &Function,
     stop: &Category,
-    equals: &Text,
-    get: &Text,
 ) -> Result<(), AllocError>
-    requires equals { equals.now ≡ codes "==" }
-    requires get { get.now ≡ codes "get" }
     ensures { OnOk result (items.new
         ≡ items.old ++ category_elements (property_tree function.now) (category_seen stop.now ∷ [])) }
 {
-    let property = shared_property_json(alloc, function, get)?;
+    let property = property_json(alloc, names, function)?;
     let input = input_json(&stop.input)?;
-    items.push(shared_call_two(alloc, equals, property, input)?)?;
-    items.push(output_expression(alloc, &stop.output)?)?;
+    items.push(call_two(alloc, names, CallName::Equal, property, input)?)?;
+    items.push(output_expression(alloc, names, &stop.output)?)?;
     Ok(())
 }
 
@@ -397,6 +409,7 @@ fn input_json(input: &Input) -> Result<Json, AllocError>
 // A rule by the zoom.
 fn zoom_rule_expression(
     alloc: Global,
+    names: &CallNames,
     function: &Function,
     rule: &PropertyRule,
 ) -> Result<Json, AllocError>
@@ -405,10 +418,10 @@ fn zoom_rule_expression(
 {
     match rule {
         PropertyRule::Numeric(stops) => {
-            let input = zoom_json(alloc)?;
-            way_expression(alloc, &function.way, input, stops)
+            let input = zoom_json(alloc, names)?;
+            way_expression(alloc, names, &function.way, input, stops)
         }
-        PropertyRule::Categorical(_) => default_expression(alloc, function),
+        PropertyRule::Categorical(_) => default_expression(alloc, names, function),
     }
 }
 
@@ -416,6 +429,7 @@ fn zoom_rule_expression(
 
 fn zoomed_expression(
     alloc: Global,
+    names: &CallNames,
     function: &Function,
     rules: &ZoomRules,
 ) -> Result<Json, AllocError>
@@ -423,14 +437,15 @@ fn zoomed_expression(
         (rule_branches (property_tree function.now) (default_tree function.now) (rules_in function.now rules.now))) }
 {
     if function.row.ramps {
-        zoom_ramp_expression(alloc, function, rules.as_slice())
+        zoom_ramp_expression(alloc, names, function, rules.as_slice())
     } else {
-        zoom_step_expression(alloc, function, rules.as_slice())
+        zoom_step_expression(alloc, names, function, rules.as_slice())
     }
 }
 
 fn zoom_ramp_expression(
     alloc: Global,
+    names: &CallNames,
     function: &Function,
     rules: &[ZoomRule],
 ) -> Result<Json, AllocError>
@@ -438,16 +453,17 @@ fn zoom_ramp_expression(
         (rule_branches (property_tree function.now) (default_tree function.now) (rules_in function.now rules.now))) }
 {
     let room = rules.len().saturating_mul(2).saturating_add(2);
-    let mut items = call(alloc, "interpolate", room)?;
-    items.push(Json::List(call(alloc, "linear", 0)?))?;
-    items.push(zoom_json(alloc)?)?;
-    push_rules(alloc, &mut items, function, rules)?;
+    let mut items = call(alloc, names, CallName::Interpolate, room)?;
+    items.push(Json::List(call(alloc, names, CallName::Linear, 0)?))?;
+    items.push(zoom_json(alloc, names)?)?;
+    push_rules(alloc, names, &mut items, function, rules)?;
     Ok(Json::List(items))
 }
 
 #[tactic(auto, using(crate::proofs::ExpressionLaws::zoom_one, crate::proofs::ExpressionLaws::zoom_more))]
 fn zoom_step_expression(
     alloc: Global,
+    names: &CallNames,
     function: &Function,
     rules: &[ZoomRule],
 ) -> Result<Json, AllocError>
@@ -455,20 +471,21 @@ fn zoom_step_expression(
     ensures { IfOk result (λ made. tree_of made ≡ step_expression zoom_expression
         (rule_branches (property_tree function.now) (default_tree function.now) (rules_in function.now rules.now))) }
 {
-    let first = rule_expression(alloc, function, &rules[0].rule)?;
+    let first = rule_expression(alloc, names, function, &rules[0].rule)?;
     if rules.len() == 1 {
         return Ok(first);
     }
-    let mut items = call(alloc, "step", rules.len().saturating_mul(2))?;
-    items.push(zoom_json(alloc)?)?;
+    let mut items = call(alloc, names, CallName::Step, rules.len().saturating_mul(2))?;
+    items.push(zoom_json(alloc, names)?)?;
     items.push(first)?;
-    push_rules(alloc, &mut items, function, &rules[1..])?;
+    push_rules(alloc, names, &mut items, function, &rules[1..])?;
     Ok(Json::List(items))
 }
 
 // Adds zooms with their rules.
 fn push_rules(
     alloc: Global,
+    names: &CallNames,
     items: &mut Items,
     function: &Function,
     rules: &[ZoomRule],
@@ -477,7 +494,7 @@ fn push_rules(
         (rule_branches (property_tree function.now) (default_tree function.now) (rules_in function.now rules.now))) }
 {
     for rule in rules {
-        let output = rule_expression(alloc, function, &rule.rule)?;
+        let output = rule_expression(alloc, names, function, &rule.rule)?;
         push_branch(items, &rule.zoom.spelled, output)?;
     }
     Ok(())
@@ -485,29 +502,33 @@ fn push_rules(
 
 // ---- identity
 
-fn identity_expression(alloc: Global, function: &Function) -> Result<Json, AllocError>
+fn identity_expression(
+    alloc: Global,
+    names: &CallNames,
+    function: &Function,
+) -> Result<Json, AllocError>
     ensures { IfOk result (λ made. tree_of made
         ≡ identity_expression (row_of function.now).want (property_tree function.now) (default_tree function.now)) }
 {
-    let property = property_json(alloc, function)?;
+    let property = property_json(alloc, names, function)?;
     match &function.row.want {
         Want::Shown => {
-            let default = default_expression(alloc, function)?;
-            call_two(alloc, "coalesce", property, default)
+            let default = default_expression(alloc, names, function)?;
+            call_two(alloc, names, CallName::Coalesce, property, default)
         }
-        want => kind_case(alloc, function, form_name(want), property),
+        want => kind_case(alloc, names, function, form_name(want), property),
     }
 }
 
 // What `typeof` says of a value that has the row's form.
-fn form_name(want: &Want) -> &'static str
-    ensures { result.now ≡ form_name want.now }
+fn form_name(want: &Want) -> CallName
+    ensures { name_text result ≡ form_name want.now }
 {
     match want {
-        Want::Number => "number",
-        Want::Boolean => "boolean",
-        Want::List(_, _) => "array",
-        Want::EnumList(_) => "array",
-        _ => "string",
+        Want::Number => CallName::Number,
+        Want::Boolean => CallName::Boolean,
+        Want::List(_, _) => CallName::Array,
+        Want::EnumList(_) => CallName::Array,
+        _ => CallName::Text,
     }
 }

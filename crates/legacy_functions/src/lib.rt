@@ -37,6 +37,7 @@ mod function;
 mod leaves;
 mod meaning;
 mod members;
+mod names;
 mod placed;
 mod reading;
 mod rules;

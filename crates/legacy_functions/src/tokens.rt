@@ -1,6 +1,6 @@
 //! Token texts, whose tokens represent properties.
 
-ghost use Rattle.std.specs.Prelude.{◌≡◌, ◌++◌, ◌+◌, ◌<◌, ◌≤◌, length, map, drop, codes, IfOk, OnOk};
+ghost use Rattle.std.specs.Prelude.{◌≡◌, ◌++◌, ◌+◌, ◌<◌, ◌≤◌, length, map, drop, IfOk, OnOk};
 ghost use Rattle.std.specs.String.{string_bytes};
 ghost use Rattle.decimal_json.specs.View.{tree_of};
 ghost use Rattle.fixed_num.specs.NumberText.{number_text};
@@ -12,6 +12,7 @@ ghost use Rattle.legacy_functions.specs.Tokens.{before_brace, token_name, has_to
 ghost use Rattle.legacy_functions.specs.Tokens.{piece_expression, property_expression, token_text, token_expression};
 
 use crate::expression::{ascii_text, call};
+use crate::names::{CallName, CallNames};
 use decimal_json::{Items, Json, Text};
 use fixed_num::Fixed;
 use prop_values::{Value, to_text};
@@ -125,27 +126,31 @@ pub fn token_expr(alloc: Global, text: &str) -> Result<Json, AllocError>
     ensures { IfOk result (λ made. tree_of made ≡ token_expression text.now) }
 {
     let document = Document::copy_of(alloc, text.as_bytes())?;
-    let mut items = call(alloc, "concat", piece_count(text.as_bytes()))?;
-    let get = Text::copy_of(alloc, "get")?;
-    push_pieces(alloc, &get, &mut items, &document, text)?;
+    let names = CallNames::of(alloc)?;
+    let mut items = call(
+        alloc,
+        &names,
+        CallName::Concat,
+        piece_count(text.as_bytes()),
+    )?;
+    push_pieces(alloc, &names, &mut items, &document, text)?;
     Ok(Json::List(items))
 }
 
 // Adds the expressions of the pieces of what is left of a text.
 fn push_pieces(
     alloc: Global,
-    get: &Text,
+    names: &CallNames,
     items: &mut Items,
     document: &Document,
     text: &str,
 ) -> Result<(), AllocError>
-    requires get { get.now ≡ codes "get" }
     requires left { IsRest text.now document.now }
     ensures { OnOk result (items.new ≡ items.old ++ map piece_expression (pieces text.now)) }
 {
     let mut rest = text;
     while rest.len() > 0 {
-        rest = push_piece(alloc, get, items, document, rest)?;
+        rest = push_piece(alloc, names, items, document, rest)?;
     }
     Ok(())
 }
@@ -177,12 +182,11 @@ fn first_length(bytes: &[u8]) -> usize
 // Adds the expression of the first piece of what is left of a text, and gives the text after it.
 fn push_piece<'a>(
     alloc: Global,
-    get: &Text,
+    names: &CallNames,
     items: &mut Items,
     document: &Document,
     rest: &'a str,
 ) -> Result<&'a str, AllocError>
-    requires get { get.now ≡ codes "get" }
     requires some { 0 < length rest.now }
     requires left { IsRest rest.now document.now }
     ensures pieces { IfOk result (λ later. items.new ++ map piece_expression (pieces later.now)
@@ -194,43 +198,36 @@ fn push_piece<'a>(
     let size = token_length(bytes);
     if size > 0 {
         let name = Text::of_rest(document, &bytes[1..], size - 2)?;
-        items.push(piece_expression(alloc, get, TokenPiece::Token(name))?)?;
+        items.push(piece_expression(alloc, names, TokenPiece::Token(name))?)?;
         Ok(&rest[size..])
     } else {
         let size = plain_length(bytes);
         let part = Text::of_rest(document, bytes, size)?;
-        items.push(piece_expression(alloc, get, TokenPiece::Plain(part))?)?;
+        items.push(piece_expression(alloc, names, TokenPiece::Plain(part))?)?;
         Ok(&rest[size..])
     }
 }
 
-fn piece_expression(alloc: Global, get: &Text, piece: TokenPiece) -> Result<Json, AllocError>
-    requires { get.now ≡ codes "get" }
+fn piece_expression(alloc: Global, names: &CallNames, piece: TokenPiece) -> Result<Json, AllocError>
     ensures { IfOk result (λ made. tree_of made ≡ piece_expression piece) }
 {
     match piece {
         TokenPiece::Plain(part) => Ok(Json::Text(part)),
-        TokenPiece::Token(name) => shared_get(alloc, get, name),
+        TokenPiece::Token(name) => property_expression(alloc, names, name),
     }
 }
 
-/// `get` of a property, by the name of the call, which is shared.
-pub(crate) fn shared_get(alloc: Global, get: &Text, name: Text) -> Result<Json, AllocError>
-    requires { get.now ≡ codes "get" }
+/// `get` of a property.
+pub(crate) fn property_expression(
+    alloc: Global,
+    names: &CallNames,
+    name: Text,
+) -> Result<Json, AllocError>
     ensures { IfOk result (λ made. tree_of made ≡ property_expression name) }
 {
-    let mut items = Items::with_room(alloc, 2)?;
-    items.push(Json::Text(get.share()?))?;
+    let mut items = call(alloc, names, CallName::Get, 1)?;
     items.push(Json::Text(name))?;
     Ok(Json::List(items))
-}
-
-/// `get` of a property.
-pub(crate) fn property_expression(alloc: Global, name: &Text) -> Result<Json, AllocError>
-    ensures { IfOk result (λ made. tree_of made ≡ property_expression name.now) }
-{
-    let get = Text::copy_of(alloc, "get")?;
-    shared_get(alloc, &get, name.share()?)
 }
 
 // How many bytes are before the first token.

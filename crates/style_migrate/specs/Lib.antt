@@ -2,3 +2,4 @@
 pub mod Migrated
 -- What only contracts of private functions and proofs use.
 pub mod Mapped
+pub mod LegacyValues

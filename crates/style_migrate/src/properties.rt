@@ -2,11 +2,13 @@
 
 ghost use Rattle.std.specs.Prelude.{◌≡◌, Some, IfOk};
 ghost use Rattle.decimal_json.specs.View.{tree_of};
+ghost use Rattle.style_migrate.specs.LegacyValues.{may_be_legacy};
 ghost use Rattle.style_migrate.specs.Mapped.{mapped_pairs};
 ghost use Rattle.style_migrate.specs.Migrated.{migrated_properties, migrated_property, with_values};
 
 use crate::values::migrate_value;
 use decimal_json::{Json, Member, Members, copy};
+use legacy_functions::has_tokens;
 use property_tables::{LayerType, Place, row};
 use std::alloc::{AllocError, Global};
 
@@ -59,6 +61,7 @@ fn migrate_each(
     Ok(made)
 }
 
+#[tactic(auto, using(crate::proofs::KeptValues::property_kept))]
 fn migrate_property(
     alloc: Global,
     layer_type: LayerType,
@@ -68,8 +71,22 @@ fn migrate_property(
     ensures { IfOk result (λ made. tree_of made
         ≡ migrated_property layer_type place property.now.key (tree_of property.now.value)) }
 {
+    if !may_be_legacy(&property.value) {
+        return copy(alloc, &property.value);
+    }
     match row(layer_type, place, property.key.as_str()) {
         Some(row) => migrate_value(alloc, &row, &property.value),
         None => copy(alloc, &property.value),
+    }
+}
+
+// Whether a value may be a legacy form: an object, or a text with tokens. All others stay, whatever their row.
+fn may_be_legacy(json: &Json) -> bool
+    ensures { result ≡ may_be_legacy (tree_of json.now) }
+{
+    match json {
+        Json::Object(_) => true,
+        Json::Text(text) => has_tokens(text.as_str()),
+        _ => false,
     }
 }
