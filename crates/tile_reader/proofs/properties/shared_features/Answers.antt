@@ -26,8 +26,9 @@ loop-feature-preserved c =
     let from = ranges_from c.args.table.now.value.keys.items (map data_of c.args.table.now.value.values.items) c.args.table.now.value.pairs.items c.loop-feature.first c.args.chosen.now i chosen c.loop-feature-test.true
     (get_or_default c.args.chosen.now i none chosen c.loop-feature-test.true) c.loop-feature.invariant.ranges in
     let left : List ℕ = c.loop-feature.rest.now in
-    let made : Feature = record { id = c.front_id-id.result.0; shape = chosen.shape; properties = c.in_ok-properties.properties } in
-    let is : made ≡ feature_in c.args.table.now.value.keys.items (map data_of c.args.table.now.value.values.items) c.args.table.now.value.pairs.items left c.in_ok-from.from chosen = λ j. record { id = c.front_id-id.ensures.id j; shape = chosen.shape; properties = c.in_ok-properties.ensures j } in
+    let made : Feature = record { id = c.of.result; shape = chosen.shape; properties = c.in_ok-properties.properties } in
+    let id_is = c.of.ensures ∙ c.front_id-id.ensures.id in
+    let is : made ≡ feature_in c.args.table.now.value.keys.items (map data_of c.args.table.now.value.values.items) c.args.table.now.value.pairs.items left c.in_ok-from.from chosen = λ j. record { id = id_is j; shape = chosen.shape; properties = c.in_ok-properties.ensures j } in
     let whole : List Feature = features_in c.args.table.now.value.keys.items (map data_of c.args.table.now.value.values.items) c.args.table.now.value.pairs.items c.args.ids.now 0 c.args.chosen.now in
     record {
       ranges = from.1;
