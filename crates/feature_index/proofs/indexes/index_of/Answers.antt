@@ -1,4 +1,4 @@
-use Rattle.std.proofs.Common.{◌≡◌, ◌∙◌, ◌∷◌, ap, drop, length, map, suc, sym, subst, take}
+use Rattle.std.proofs.Common.{◌≡◌, ◌∙◌, ◌∷◌, ◌++◌, [], ap, drop, length, map, suc, sym, subst, take}
 use Rattle.style_layout.specs.CodeView.{layer_seen, tile_seen}
 use Rattle.style_layout.specs.Shown.{layer_features}
 use Rattle.style_layout.specs.Walk.{features_left}
@@ -26,7 +26,7 @@ loop-next-preserved c =
     let id = c.in-Some.next.1.now.id in
     let later = ids_left (features_left c.next.new.self) in
     let more : id ∷ later ≡ drop n all = sym (ap ids_left c.in-Some.ensures.left) ∙ i.left in
-    let pushed = c.in_ok-push.ensures (take n all) i.indexed in
+    let pushed = subst (λ x. IsIndexed c.push.new.self (take n all ++ x ∷ [])) c.get.ensures (c.in_ok-push.ensures (take n all) i.indexed) in
     let count : length c.push.new.self.before.items ≡ suc n = pushed.counted ∙ (one_more (take n all) id ∙ ap suc (sym i.indexed.counted)) in
     record {
       few = c.next.ensures.few;

@@ -6,6 +6,7 @@ use Rattle.layer_buckets.specs.Seen.{HasFeature}
 use Rattle.style_layout.specs.CodeView.{scene_seen, tile_seen}
 use Rattle.style_layout.specs.Layers.{has_features}
 use Rattle.style_layout.specs.Shown.{LayerFeature, layer_features, numbered, with_state}
+use Rattle.style_layout.specs.Shown as shown
 use Rattle.style_layout.specs.Walk.{features_left}
 use Rattle.asked_cells.specs.Asked.{each_asked, feature_asked}
 use Rattle.asked_cells.specs.Counted.{kept_in}
@@ -80,7 +81,7 @@ loop-found-preserved g c =
           let f : LayerFeature = record { number = found.0; feature = found.1.now; state = state_of c.state_of.result } in
           let one = feature_asked x scene layer f in
           let here : f ≡ with_state scene layer (found.0, found.1.now) =
-          λ i. record { number = found.0; feature = found.1.now; state = c.state_of.ensures i } in
+          λ i. record { number = found.0; feature = found.1.now; state = (c.state_of.ensures ∙ ap (shown.state_of scene layer) c.get.ensures) i } in
           let next : asked left ≡ one ++ asked later =
           ap asked split ∙ ap (λ (h : LayerFeature). feature_asked x scene layer h ++ asked later) (sym here) in
           let n = c.loop-found.number in
@@ -119,7 +120,7 @@ returns-in_err-more-clause-asks g c = λ x meaning s right common meant.
     let f : LayerFeature = record { number = found.0; feature = found.1.now; state = state_of c.state_of.result } in
     let one = feature_asked x scene layer f in
     let here : f ≡ with_state scene layer (found.0, found.1.now) =
-    λ i. record { number = found.0; feature = found.1.now; state = c.state_of.ensures i } in
+    λ i. record { number = found.0; feature = found.1.now; state = (c.state_of.ensures ∙ ap (shown.state_of scene layer) c.get.ensures) i } in
     let next : asked left ≡ one ++ asked later =
     ap asked split ∙ ap (λ (h : LayerFeature). feature_asked x scene layer h ++ asked later) (sym here) in
     let n = c.loop-found.number in
@@ -156,7 +157,7 @@ returns-in_err-number-clause-asks g c = λ x meaning s right common meant.
     let f : LayerFeature = record { number = found.0; feature = found.1.now; state = state_of c.state_of.result } in
     let one = feature_asked x scene layer f in
     let here : f ≡ with_state scene layer (found.0, found.1.now) =
-    λ i. record { number = found.0; feature = found.1.now; state = c.state_of.ensures i } in
+    λ i. record { number = found.0; feature = found.1.now; state = (c.state_of.ensures ∙ ap (shown.state_of scene layer) c.get.ensures) i } in
     let next : asked left ≡ one ++ asked later =
     ap asked split ∙ ap (λ (h : LayerFeature). feature_asked x scene layer h ++ asked later) (sym here) in
     let n = c.loop-found.number in

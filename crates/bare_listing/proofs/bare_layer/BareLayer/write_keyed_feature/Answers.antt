@@ -51,7 +51,8 @@ returns-clause-lines g c =
     let o3 = c.write_evaluated.new.out.items in
     let o4 = c.write_values-2.new.out.items in
     lines_in_parts scene f feature_margin c.sum_of.result o0 o1 o2 o3 o4 (feature_line f.number f.feature.shape f.feature.id) ps sort.place p
-    c.requires.sorts.place c.requires.sorts.own c.in_ok-write_feature_line.ensures.ok
+    c.requires.sorts.place c.requires.sorts.own
+    (c.in_ok-write_feature_line.ensures.ok ∙ ap (λ i. o0 ++ feature_line f.number f.feature.shape i) c.get.ensures)
     (c.in_ok-first.ensures.lines ∙ ap (λ qs. o1 ++ lines qs) front)
     (c.in_ok-write_evaluated.ensures ∙ ap (λ o. o2 ++ value_line feature_margin p.row.name o) (sym (gives.1 (Some f) value c.requires.keyed)))
     (c.in_ok-others.ensures.lines ∙ ap (λ qs. o3 ++ lines qs) back)

@@ -1,4 +1,4 @@
-use Rattle.std.proofs.Common.{◌≡◌, ℕ, map, nat_eq, sym, ap, ◌∙◌}
+use Rattle.std.proofs.Common.{◌≡◌, ℕ, map, nat_eq, sym, ap, subst, ◌∙◌}
 use Rattle.std.specs.Prelude.{Some, true}
 use Rattle.tile_reader.specs.declared.tile.Feature.{Feature}
 use Rattle.layer_buckets.specs.Cells.{feature_eq, reads_state}
@@ -18,7 +18,7 @@ loop-feature-preserved-then-eq c =
     let e = c.drop_cells.ensures in
     let later = features_left c.next.new.self in
     let nf : ℕ × Feature = (c.in-Some.feature, c.in-Some.found.now) in
-    let is : is_id c.args.id nf.1.id ≡ true = found_by c.args.id nf.1.id c.if-eq.ensures in
+    let is : is_id c.args.id nf.1.id ≡ true = subst (λ o. is_id c.args.id o ≡ true) c.get.ensures (found_by c.args.id c.get.result c.if-eq.ensures) in
     record {
       few = c.next.ensures.few;
       numbers = i.numbers;
