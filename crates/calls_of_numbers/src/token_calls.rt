@@ -1,7 +1,6 @@
-//! Calls of `json_tokens`, `json_numbers` and `json_texts`: what is taken, and what is left.
+//! Calls of `json_tokens`, and of the readers of numbers and texts of `decimal_json`: what is taken, and what is left.
 
-use json_numbers::read_number;
-use json_texts::read_text;
+use decimal_json::{read_number, read_text};
 use json_tokens::Cursor;
 use shared_text::{Document, Text};
 use std::alloc::{AllocError, Global};

@@ -1,7 +1,0 @@
-use Rattle.std.proofs.Common.{arith}
-use Rattle.json_numbers.proofs.Repeats.{leads_to_fraction}
-use Rattle.json_numbers.proofs.walk.fraction_front.Goals as goal
-
-pub pass_digits-count-requires-clause-leads : goal.pass_digits-count-requires-clause-leads
-pass_digits-count-requires-clause-leads c =
-    leads_to_fraction c.args.bytes.now c.args.from c.args.phase (omega arith) c.requires.leads c.requires.opens (cc) (cc) (omega arith)
