@@ -4,7 +4,7 @@ ghost use Rattle.json_tokens.specs.RunLengths.{first_of};
 ghost use Rattle.json_tokens.specs.SequenceReaders.{BehindByte};
 ghost use Rattle.decimal_json.specs.Grammar.{IsNew, SpellsKey, SpellsValue, SpellsItems, SpellsMembers};
 ghost use Rattle.decimal_json.specs.Parsed.{Parses};
-ghost use Rattle.decimal_json.specs.Reading.{AreUtf8, GivesTurn, SpellsMembersOn, SpellsNamed, SpellsPair, SpellsSome};
+ghost use Rattle.decimal_json.specs.Reading.{AreUtf8, GivesItem, GivesTurn, SpellsMembersOn, SpellsNamed, SpellsPair, SpellsSome};
 ghost use Rattle.decimal_json.specs.Reading.{GivesWhole, keys_of, pair_of};
 ghost use Rattle.decimal_json.specs.Tree.{trees_of, fields_of};
 ghost use Rattle.decimal_json.specs.View.{tree_of};
@@ -144,16 +144,39 @@ fn read_elements(
 {
     let mut items = Items::with_room(alloc, first_room(cursor))?;
     loop {
-        let item = match read_value(alloc, cursor, depth) {
-            Ok(item) => item,
+        match read_item(alloc, cursor, depth, &mut items) {
+            Ok(()) => match read_turn(cursor, b']') {
+                Ok(true) => return Ok(items),
+                Ok(false) => {}
+                Err(kind) => return Err(Halt::Fault(kind)),
+            },
             Err(halt) => return Err(halt),
-        };
-        items.push(item)?;
-        match read_turn(cursor, b']') {
-            Ok(true) => return Ok(items),
-            Ok(false) => {}
-            Err(kind) => return Err(Halt::Fault(kind)),
         }
+    }
+}
+
+// Reads an item and puts it behind these. A number goes there at once: arrays of many items are of numbers.
+#[inline(always)]
+#[cycle(read)]
+fn read_item(
+    alloc: Global,
+    cursor: &mut Cursor<'_>,
+    depth: usize,
+    items: &mut Items,
+) -> Result<(), Halt<JsonKind>>
+    requires { depth ≤ MAX_OPEN }
+    ensures gives { GivesItem depth items.old cursor.old result items.new cursor.new }
+    ensures shorter { length cursor.new ≤ length cursor.old }
+{
+    match cursor.peek() {
+        Some(byte) if byte == b'-' || byte.is_ascii_digit() => match read_number(cursor) {
+            Ok(item) => Ok(items.push(item)?),
+            Err(halt) => Err(halt),
+        },
+        _ => match read_value(alloc, cursor, depth) {
+            Ok(item) => Ok(items.push(item)?),
+            Err(halt) => Err(halt),
+        },
     }
 }
 
