@@ -4,14 +4,14 @@ ghost use Rattle.json_tokens.specs.RunLengths.{first_of};
 ghost use Rattle.json_tokens.specs.SequenceReaders.{BehindByte};
 ghost use Rattle.decimal_json.specs.Grammar.{IsNew, SpellsKey, SpellsValue, SpellsItems, SpellsMembers};
 ghost use Rattle.decimal_json.specs.Parsed.{Parses};
-ghost use Rattle.decimal_json.specs.Reading.{AreUtf8, GivesColon, GivesItem, GivesMember, GivesTurn, GivesWhole};
-ghost use Rattle.decimal_json.specs.Reading.{SpellsMembersOn, SpellsSome, keys_of};
+ghost use Rattle.decimal_json.specs.Reading.{AreUtf8, GivesItem, GivesTurn, SpellsMembersOn, SpellsNamed, SpellsPair, SpellsSome};
+ghost use Rattle.decimal_json.specs.Reading.{GivesWhole, keys_of, pair_of};
 ghost use Rattle.decimal_json.specs.Tree.{trees_of, fields_of};
 ghost use Rattle.decimal_json.specs.View.{tree_of};
 
 use crate::fault::JsonFault;
 use crate::tokens::{read_number, read_string, read_text, read_word};
-use crate::tree::{EXPRESSION_ROOM, Items, Json, Members, PAIR_ROOM};
+use crate::tree::{EXPRESSION_ROOM, Items, Json, Member, Members, PAIR_ROOM};
 use halts::Halt;
 use json_tokens::{Cursor, JsonKind};
 use shared_text::{Document, Text};
@@ -155,8 +155,8 @@ fn read_elements(
     }
 }
 
-// Reads an item and puts it behind these. A number or a text goes there at once: a value that any of the readers
-// may have given is moved through memory, some four times.
+// Reads an item and puts it behind these. A number goes there at once, since arrays of many items are of numbers:
+// a value that any of the readers may have given is moved through memory some four times.
 #[inline(always)]
 #[cycle(read)]
 fn read_item(
@@ -170,10 +170,6 @@ fn read_item(
     ensures shorter { length cursor.new ≤ length cursor.old }
 {
     match cursor.peek() {
-        Some(b'"') => match read_text(alloc, cursor) {
-            Ok(item) => Ok(items.push(item)?),
-            Err(halt) => Err(halt),
-        },
         Some(byte) if byte == b'-' || byte.is_ascii_digit() => match read_number(cursor) {
             Ok(item) => Ok(items.push(item)?),
             Err(halt) => Err(halt),
@@ -234,68 +230,56 @@ fn read_pairs(
 {
     let mut members = Members::with_room(alloc)?;
     loop {
-        match read_member(alloc, cursor, depth, &mut members) {
-            Ok(()) => match read_turn(cursor, b'}') {
-                Ok(true) => return Ok(members),
-                Ok(false) => {}
-                Err(kind) => return Err(Halt::Fault(kind)),
-            },
+        let member = match read_pair(alloc, cursor, depth, &members) {
+            Ok(member) => member,
             Err(halt) => return Err(halt),
+        };
+        members.push(member.key, member.value)?;
+        match read_turn(cursor, b'}') {
+            Ok(true) => return Ok(members),
+            Ok(false) => {}
+            Err(kind) => return Err(Halt::Fault(kind)),
         }
     }
 }
 
-// Reads a member whose key none of these members has, and puts it behind them: a number or a text at once, as
-// `read_item` does.
-#[inline(always)]
+// Reads a member whose key none of these members has.
 #[cycle(read)]
-fn read_member(
+fn read_pair(
     alloc: Global,
     cursor: &mut Cursor<'_>,
     depth: usize,
-    members: &mut Members,
-) -> Result<(), Halt<JsonKind>>
+    members: &Members,
+) -> Result<Member, Halt<JsonKind>>
     requires within { depth ≤ MAX_OPEN }
-    requires utf8 { AreUtf8 (keys_of members.old) }
-    ensures gives { GivesMember depth members.old cursor.old result members.new cursor.new }
+    requires utf8 { AreUtf8 (keys_of members.now) }
+    ensures gives { Gives (SpellsPair depth (keys_of members.now)) pair_of cursor.old result cursor.new }
+    ensures fresh { IfOk result (λ member. IsNew member.key (keys_of members.now) × IsUtf8 member.key) }
     ensures shorter { length cursor.new ≤ length cursor.old }
 {
-    let key = match read_key(alloc, cursor, &*members) {
+    let key = match read_key(alloc, cursor, members) {
         Ok(key) => key,
         Err(halt) => return Err(halt),
     };
-    match pass_colon(cursor) {
-        Ok(()) => {}
-        Err(kind) => return Err(Halt::Fault(kind)),
-    }
-    match cursor.peek() {
-        Some(b'"') => match read_text(alloc, cursor) {
-            Ok(value) => Ok(members.push(key, value)?),
-            Err(halt) => Err(halt),
-        },
-        Some(byte) if byte == b'-' || byte.is_ascii_digit() => match read_number(cursor) {
-            Ok(value) => Ok(members.push(key, value)?),
-            Err(halt) => Err(halt),
-        },
-        _ => match read_value(alloc, cursor, depth) {
-            Ok(value) => Ok(members.push(key, value)?),
-            Err(halt) => Err(halt),
-        },
+    match read_named(alloc, cursor, depth) {
+        Ok(value) => Ok(Member { key, value }),
+        Err(halt) => Err(halt),
     }
 }
 
-// Passes the colon after a key, with the white space round it.
-#[inline(always)]
-fn pass_colon(cursor: &mut Cursor<'_>) -> Result<(), JsonKind>
-    ensures gives { GivesColon cursor.old result cursor.new }
+// Reads the colon after a key, and the value.
+#[cycle(read)]
+fn read_named(alloc: Global, cursor: &mut Cursor<'_>, depth: usize) -> Result<Json, Halt<JsonKind>>
+    requires { depth ≤ MAX_OPEN }
+    ensures gives { Gives (SpellsNamed depth) tree_of cursor.old result cursor.new }
     ensures shorter { length cursor.new ≤ length cursor.old }
 {
     cursor.skip_spaces();
     if !cursor.take_if(b':') {
-        return Err(JsonKind::Syntax);
+        return Err(Halt::Fault(JsonKind::Syntax));
     }
     cursor.skip_spaces();
-    Ok(())
+    read_value(alloc, cursor, depth)
 }
 
 // Reads a key that none of these members has, its marks included.
