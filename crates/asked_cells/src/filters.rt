@@ -48,6 +48,7 @@ pub fn is_passed(value: Option<Result<&Value, EvalFault>>) -> bool
 
 /// A sum of evaluations. One beyond `u64::MAX`, for which no run lasts long enough, is refused as a failed allocation
 /// is.
+#[inline(always)]
 pub fn sum_of(first: u64, second: u64) -> Result<u64, AllocError>
     ensures { IfOk result (λ sum. sum ≡ first + second) }
 {

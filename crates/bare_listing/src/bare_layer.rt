@@ -72,6 +72,7 @@ impl<E: CountedEvaluator + Drop, V: TextTests> BareLayer<'_, E, V> {
     }
 
     /// Appends the lines of a feature, and gives how many cells were evaluated for them.
+    #[inline(always)]
     pub(crate) fn write_feature<L: Ledger>(
         &self,
         workspace: &mut Workspace,
@@ -200,6 +201,7 @@ impl<E: CountedEvaluator + Drop, V: TextTests> BareLayer<'_, E, V> {
     }
 
     /// A feature with its state.
+    #[inline(always)]
     pub(crate) fn with_state<'b>(&'b self, number: u32, feature: &'b Feature) -> LayerFeature<'b>
         ensures { feature_seen result
             ≡ with_state (scene_in V.tests self.now) (layer_in self.now) (number, feature.now) }
@@ -212,6 +214,7 @@ impl<E: CountedEvaluator + Drop, V: TextTests> BareLayer<'_, E, V> {
     }
 
     // The members of the state of a feature. One without an id has none, and they are not looked up.
+    #[inline(always)]
     fn state(&self, id: Option<u64>) -> Option<&Entries>
         ensures { world.state_of result ≡ state_of (scene_in V.tests self.now) (layer_in self.now) id }
     {

@@ -54,6 +54,7 @@ impl<E: CountedEvaluator + Drop, V: TextTests> BareLayer<'_, E, V> {
 
     /// Whether a feature passes, by what the filter answers of all where that is known, and how many cells were
     /// evaluated.
+    #[inline(always)]
     pub(crate) fn passes<L: Ledger>(
         &self,
         workspace: &mut Workspace,

@@ -185,6 +185,7 @@ impl<E: CountedEvaluator + Drop, V: TextTests> BareLayer<'_, E, V> {
     }
 
     // Appends the lines of a feature, where it passes.
+    #[inline(always)]
     fn write_if_passed<L: Ledger>(
         &self,
         workspace: &mut Workspace,

@@ -85,6 +85,7 @@ pub fn write_feature_line(
 }
 
 // Puts a space and the name of a shape at a place of a line, and answers where they end.
+#[inline(always)]
 fn put_shape(line: &mut [u8; 128], at: usize, shape: Shape) -> usize
     requires { at + 11 ≤ 128 }
     ensures within { result ≤ at + 11 }
@@ -99,6 +100,7 @@ fn put_shape(line: &mut [u8; 128], at: usize, shape: Shape) -> usize
 }
 
 // Puts the id of a feature at a place of a line, where it has one, and answers where it ends.
+#[inline(always)]
 fn put_id(line: &mut [u8; 128], at: usize, id: Option<u64>) -> usize
     requires { at + 24 ≤ 128 }
     ensures within { result ≤ at + 24 }
@@ -303,6 +305,7 @@ fn join(parts: &[&[u8]], line: &mut [u8; 128]) -> Option<usize>
 
 // Puts bytes at a place of a line, and answers where they end. A line is put together before it is appended, since
 // each append tests the room of `out`.
+#[inline(always)]
 fn put(line: &mut [u8; 128], at: usize, bytes: &[u8]) -> usize
     requires { at + length bytes.now ≤ 128 }
     ensures end { result ≡ at + length bytes.now }

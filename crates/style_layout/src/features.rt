@@ -52,6 +52,7 @@ impl<'a> LayerFeatures<'a> {
     }
 
     /// Takes the next feature, with its number.
+    #[inline(always)]
     pub fn next(&mut self) -> Option<(u32, &'a Feature)>
         requires { HasFewLeft self.old }
         ensures left { MatchOption result (features_left self.old ≡ [])
@@ -65,6 +66,7 @@ impl<'a> LayerFeatures<'a> {
     }
 
     // The next feature, and those after it.
+    #[inline(always)]
     fn split_first(self) -> Option<(&'a Feature, LayerFeatures<'a>)>
         requires { HasFewLeft self }
         ensures left { MatchOption result (features_left self.entry ≡ [])
@@ -84,6 +86,7 @@ impl<'a> LayerFeatures<'a> {
     }
 
     // Those after the next feature, which are these and what the tiles from a place on have.
+    #[inline(always)]
     fn after_first(self, next_tile: usize, features: &'a [Feature]) -> LayerFeatures<'a>
         requires { self.number < 2 ^ 32 - 1 }
         ensures { result ≡ record self.entry {

@@ -17,6 +17,7 @@ pub struct TextPieces<'a, O: Sink> {
 
 impl<O: Sink> TextPieces<'_, O> {
     /// Writes out what waits, where it is a piece or more.
+    #[inline(always)]
     pub fn pour_piece(&mut self) -> Result<(), Halt<SinkFailed>>
         ensures { Adds O.held O.faults result self.old self.new [] }
     {
