@@ -47,6 +47,7 @@ enum WireType {
 
 /// The field at the front of bytes that are at the offset `at`, and the bytes after it.
 #[tactic(auto, unfolding(crate::specs::Message::field_at))]
+#[inline(always)]
 pub(crate) fn read_field(bytes: &[u8], at: usize) -> Result<(Field<'_>, &[u8]), WireKind>
     ensures field { GivesWire (λ read. (field_seen read.0 (at + (length bytes.now - length read.1.now)), read.1.now))
         result (field_at at bytes.now) }
@@ -59,6 +60,7 @@ pub(crate) fn read_field(bytes: &[u8], at: usize) -> Result<(Field<'_>, &[u8]), 
 
 // The field number and the wire type at the front.
 #[tactic(auto, unfolding(crate::specs::Message::tag_at))]
+#[inline(always)]
 fn tag(bytes: &[u8]) -> Result<((u32, WireType), &[u8]), WireKind>
     ensures tag { GivesWire (λ read. ((read.0.0, read.0.1), read.1.now)) result (tag_at bytes.now) }
     ensures taken { IfOk result (λ read. length read.1.now < length bytes.now) }
@@ -74,6 +76,7 @@ fn tag(bytes: &[u8]) -> Result<((u32, WireType), &[u8]), WireKind>
     Ok(((tag / 8, wire_type), rest))
 }
 
+#[inline(always)]
 fn wire_type(code: u32) -> Result<WireType, WireKind>
     ensures { result ≡ wire_type_of code }
 {
@@ -88,6 +91,7 @@ fn wire_type(code: u32) -> Result<WireType, WireKind>
 
 // What a field of this wire type holds, at the front.
 #[tactic(auto, unfolding(crate::specs::Message::payload_at))]
+#[inline(always)]
 fn payload(wire_type: WireType, bytes: &[u8]) -> Result<(Wire<'_>, &[u8]), WireKind>
     ensures payload { GivesWire (λ read. (payload_seen read.0, read.1.now)) result (payload_at wire_type bytes.now) }
     ensures taken { IfOk result (λ read. content_length read.0 + length read.1.now ≤ length bytes.now) }
@@ -118,6 +122,7 @@ fn payload(wire_type: WireType, bytes: &[u8]) -> Result<(Wire<'_>, &[u8]), WireK
 }
 
 // The number at the front, and the bytes after it.
+#[inline(always)]
 fn number(bytes: &[u8]) -> Result<(u64, &[u8]), WireKind>
     ensures number { GivesWire (λ read. (read.0, read.1.now)) result (varint_at bytes.now) }
     ensures taken { IfOk result (λ read. length read.1.now < length bytes.now) }
@@ -128,6 +133,7 @@ fn number(bytes: &[u8]) -> Result<(u64, &[u8]), WireKind>
 }
 
 // The first `count` bytes, and those after them.
+#[inline(always)]
 fn front(bytes: &[u8], count: u64) -> Result<(&[u8], &[u8]), WireKind>
     ensures front { GivesWire (λ read. (read.0.now, read.1.now)) result (front_of count bytes.now) }
     ensures length { IfOk result (λ read. length read.0.now ≡ count) }

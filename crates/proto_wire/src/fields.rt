@@ -51,6 +51,7 @@ impl<'a> Fields<'a> {
     }
 
     /// The next field, or the first fault. After a fault there is nothing more.
+    #[inline(always)]
     pub fn next(&mut self) -> Option<Result<Field<'a>, WireFault>>
         ensures next { NextGives self.old result self.new }
         ensures end { IsNone result ↔ IsOver self.old }

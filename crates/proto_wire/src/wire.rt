@@ -41,6 +41,7 @@ pub fn varint(bytes: &mut &[u8]) -> Result<u64, WireKind>
 }
 
 // The number at the front in whatever spelling, and the bytes after it. Nine digits fit 63 bits.
+#[inline(never)]
 fn digits(bytes: &[u8]) -> Result<(u64, &[u8]), WireKind>
     ensures number { GivesWire (λ read. (read.0, read.1.now)) result (varint_at bytes.now) }
     ensures taken { IfOk result (λ read. length read.1.now < length bytes.now) }

@@ -37,6 +37,7 @@ enum FeatureMember {
 }
 
 /// The feature whose tag is at `at` and whose content begins at `start`. Its tags go after those before it.
+#[inline(always)]
 pub(crate) fn read_feature(
     content: &[u8],
     start: usize,
@@ -66,6 +67,7 @@ pub(crate) fn read_feature(
 }
 
 // A count of tags in 32 bits. So many tags fill 4 GiB of a tile at least.
+#[inline(always)]
 fn count_of(count: usize) -> Result<u32, AllocError>
     ensures { IfOk result (λ same. same ≡ count) }
 {
@@ -76,6 +78,7 @@ fn count_of(count: usize) -> Result<u32, AllocError>
 }
 
 // Adds what a field holds to a feature whose tags begin at the index `first`.
+#[inline(always)]
 fn add_field(
     feature: &mut TaggedFeature,
     tags: &mut Vec<u64>,
@@ -102,6 +105,7 @@ fn add_field(
     Ok(())
 }
 
+#[inline(always)]
 fn feature_member(number: u32) -> FeatureMember
     ensures { result ≡ feature_member number }
 {
@@ -115,6 +119,7 @@ fn feature_member(number: u32) -> FeatureMember
 }
 
 // Adds the tags of a field, which are packed or single.
+#[inline(always)]
 fn add_tags(tags: &mut Vec<u64>, at: usize, wire: Wire<'_>) -> Result<(), Halt<TileFault>>
     ensures { Leaves tags.new.items result
         (tags_in at (payload_seen wire.entry) then λ more. Ok (tags.old.items ++ more)) }
@@ -130,6 +135,7 @@ fn add_tags(tags: &mut Vec<u64>, at: usize, wire: Wire<'_>) -> Result<(), Halt<T
 }
 
 // Adds the numbers of a packed field, whose tag is at `at`.
+#[inline(always)]
 fn add_packed(tags: &mut Vec<u64>, at: usize, content: &[u8]) -> Result<(), Halt<TileFault>>
     ensures { Leaves tags.new.items result (placed at (packed content.now) then λ more. Ok (tags.old.items ++ more)) }
 {
@@ -149,6 +155,7 @@ fn add_packed(tags: &mut Vec<u64>, at: usize, content: &[u8]) -> Result<(), Halt
 }
 
 // Geometry is packed or single, and is not read.
+#[inline(always)]
 fn geometry_in(at: usize, wire: Wire<'_>) -> Result<(), TileFault>
     ensures { GivesRead (λ _. tt) result (geometry_in at (payload_seen wire.entry)) }
 {
@@ -158,6 +165,7 @@ fn geometry_in(at: usize, wire: Wire<'_>) -> Result<(), TileFault>
     }
 }
 
+#[inline(always)]
 fn shape_of(at: usize, number: u64) -> Result<Shape, TileFault>
     ensures { result ≡ shape_of at number }
 {

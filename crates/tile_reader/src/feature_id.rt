@@ -20,6 +20,7 @@ impl Model for FeatureId {
 }
 
 impl FeatureId {
+    #[inline(always)]
     pub fn of(id: Option<u64>) -> FeatureId
         ensures { result ≡ id }
     {

@@ -147,6 +147,7 @@ impl FeatureProperties {
     }
 
     /// The properties that so many pairs of a layer are, from the first one on.
+    #[inline(always)]
     pub(crate) fn of_range(
         alloc: Global,
         table: &Rc<LayerTable>,
@@ -212,6 +213,7 @@ fn pairs_in(table: &LayerTable, first: u32, count: u32) -> &[(u32, u32)]
 
 // The table for so many pairs of it, from the first one on, with an index of their keys where they are more than
 // sixteen.
+#[inline(always)]
 fn shared_table(
     alloc: Global,
     table: &Rc<LayerTable>,
@@ -236,6 +238,7 @@ fn shared_table(
 }
 
 // The keys of so many pairs of a layer, with their index.
+#[inline(never)]
 fn keys_of(
     alloc: Global,
     table: &LayerTable,

@@ -106,6 +106,7 @@ fn add_field<'a>(
 }
 
 // Adds the feature whose tag is at `at` and whose content begins at `start`, with its tags.
+#[inline(always)]
 fn add_feature(
     features: &mut Vec<TaggedFeature>,
     tags: &mut Vec<u64>,

@@ -193,6 +193,7 @@ fn first_place<'a>(
 }
 
 // A feature with the properties that its tags name. Its pairs and its id are added to those of the features before it.
+#[inline(always)]
 fn chosen_feature(
     table: &TagTable<'_>,
     tagged: &TaggedFeature,
@@ -240,6 +241,7 @@ fn chosen_feature(
 
 // Adds an id at the end, where there is one.
 #[tactic(auto, using(crate::proofs::Ranges::added_one, crate::proofs::Ranges::added_none))]
+#[inline(always)]
 fn add_id(ids: &mut Vec<u64>, id: u64, has_id: bool) -> Result<(), AllocError>
     ensures { OnOk result (ids.new.items ≡ ids.old.items ++ own_ids id has_id) }
 {
@@ -251,6 +253,7 @@ fn add_id(ids: &mut Vec<u64>, id: u64, has_id: bool) -> Result<(), AllocError>
 }
 
 // An index in 32 bits. So many pairs fill 8 GiB of a tile at least.
+#[inline(always)]
 fn narrow(index: usize) -> Result<u32, AllocError>
     ensures { IfOk result (λ same. same ≡ index) }
 {
@@ -261,6 +264,7 @@ fn narrow(index: usize) -> Result<u32, AllocError>
 }
 
 // Adds pairs at the end.
+#[inline(always)]
 fn add_pairs(pairs: &mut Vec<(u32, u32)>, more: &[(usize, usize)]) -> Result<(), AllocError>
     ensures { OnOk result (pairs.new.items ≡ pairs.old.items ++ more.now) }
 {
@@ -273,6 +277,7 @@ fn add_pairs(pairs: &mut Vec<(u32, u32)>, more: &[(usize, usize)]) -> Result<(),
 // Chooses the indices of the key and the value of each property, in order. The answer is whether each tag has
 // its key or value. A repeated key keeps its first place and takes its last value, so that only what stays is
 // taken later.
+#[inline(always)]
 fn choose(
     keys: &[Text],
     values: &[Value],
@@ -300,6 +305,7 @@ fn choose(
 }
 
 // The first two tags, and those after them.
+#[inline(always)]
 fn first_pair(tags: &[u64]) -> Option<((u64, u64), &[u64])>
     ensures pair { MatchOption result (length tags.now < 2) (λ read. tags.now ≡ read.0.0 ∷ (read.0.1 ∷ read.1.now)) }
     ensures taken { IfSome result (λ read. length read.1.now < length tags.now) }
@@ -314,6 +320,7 @@ fn first_pair(tags: &[u64]) -> Option<((u64, u64), &[u64])>
 }
 
 // Two tags as indices, where there are so many keys and values.
+#[inline(always)]
 fn indices(keys: usize, values: usize, key: u64, value: u64) -> Option<(usize, usize)>
     ensures found { IfSome result (λ pair. (pair.0 ≡ key) × (pair.1 ≡ value) × (key < keys) × (value < values)) }
     ensures past { IfNone result ((keys ≤ key) ⊎ (values ≤ value)) }
@@ -328,6 +335,7 @@ fn indices(keys: usize, values: usize, key: u64, value: u64) -> Option<(usize, u
 }
 
 // Puts a pair in the place of its key, or at the end.
+#[inline(always)]
 fn put(
     places: &mut Vec<usize>,
     chosen: &mut Vec<(usize, usize)>,
@@ -351,6 +359,7 @@ fn put(
 }
 
 // The place of the pair of a key.
+#[inline(always)]
 fn place_of(places: &[usize], chosen: &[(usize, usize)], key: usize) -> Option<usize>
     requires key { key < length places.now }
     requires places { ArePlaces places.now chosen.now }
@@ -395,6 +404,7 @@ fn shared_features(
 }
 
 // The id of a feature that has one, which is at the front, and those of the features after it.
+#[inline(always)]
 fn front_id(has_id: bool, ids: &[u64]) -> (Option<u64>, &[u64])
     ensures id { result.0 ≡ front_id has_id ids.now }
     ensures others { result.1.now ≡ after_id has_id ids.now }

@@ -121,6 +121,7 @@ impl Features {
     }
 
     /// Adds a feature at the end.
+    #[inline(always)]
     pub fn push(&mut self, feature: Feature) -> Result<(), AllocError>
         ensures ok { OnOk result (self.new ≡ self.old ++ feature ∷ []) }
         ensures err { OnErr result (self.new ≡ self.old) }

@@ -33,6 +33,7 @@ pub(crate) fn wrong_type(at: usize) -> TileFault
 }
 
 /// The number of a field of wire type 0.
+#[inline(always)]
 pub(crate) fn number_in(at: usize, wire: Wire<'_>) -> Result<u64, TileFault>
     ensures { GivesRead (λ n. n) result (number_in at (payload_seen wire.entry)) }
 {
@@ -43,6 +44,7 @@ pub(crate) fn number_in(at: usize, wire: Wire<'_>) -> Result<u64, TileFault>
 }
 
 /// The content of a field of wire type 2.
+#[inline(always)]
 pub(crate) fn bytes_in(at: usize, wire: Wire<'_>) -> Result<&[u8], TileFault>
     ensures content { GivesRead (λ b. b.now) result (bytes_in at (payload_seen wire.entry)) }
     ensures length { IfOk result (λ b. length b.now ≡ content_length wire.entry) }
