@@ -1,5 +1,5 @@
-//! Tests of public calls that no command of the program reaches: the table of operators, labels, the wants and
-//! kinds of nodes, legacy filters and edits of a style.
+//! Tests of public calls that no command of the program reaches: edits of a whole style, what is known of the
+//! nodes of an expression, and kinds that no expression has.
 //!
 //! A row that a command reaches is in `worked_rows`, where it costs no proof. Here each call that can fail to
 //! allocate is made once with ample memory, and its answer is compared. Rows are constants, since each one in
@@ -10,9 +10,5 @@
 mod edit_calls;
 #[cfg(test)]
 mod kind_calls;
-#[cfg(test)]
-mod legacy_calls;
-#[cfg(test)]
-mod syntax_calls;
 #[cfg(test)]
 mod typing_calls;

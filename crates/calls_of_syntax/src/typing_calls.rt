@@ -1,36 +1,10 @@
-//! Calls of `expr_syntax` and `expr_types`: whether an expression reads the global state, and what is known of the
-//! nodes of one that was checked.
+//! Calls of `expr_types`: what is known of the nodes of an expression that was checked.
 
 use decimal_json::parse;
-use expr_syntax::{Expr, Reading, read_expr, uses_globals};
+use expr_syntax::{Expr, Reading, read_expr};
 use expr_types::{Placed, check};
 use prop_values::Want;
 use std::alloc::{AllocError, Global};
-
-// An expression, and whether it has a `global-state`.
-const GLOBALS: [(&'static str, bool); 5] = [
-    (r#"["global-state","a"]"#, true),
-    (r#"["+",1,["number",["global-state","a"]]]"#, true),
-    (r#"["get","global-state"]"#, false),
-    (r#"["literal",["global-state","a"]]"#, false),
-    ("1", false),
-];
-
-// Whether a text has the global state in it, or none where it is no JSON text.
-fn reads_globals(alloc: Global, text: &str) -> Result<Option<bool>, AllocError> {
-    let Ok(json) = parse(alloc, text.as_bytes())? else {
-        return Ok(None);
-    };
-    Ok(Some(uses_globals(&json)))
-}
-
-#[test]
-fn global_state(rt: HostRuntime) -> Result<(), AllocError> {
-    for (text, reads) in GLOBALS {
-        assert!(rt; reads_globals(rt.alloc(), text)? == Some(reads), "{text}");
-    }
-    Ok(())
-}
 
 // An expression, a want, and whether the expression always fits it.
 const ROOTS: [(&'static str, Want, bool); 5] = [
