@@ -2,9 +2,10 @@
 
 ghost use Rattle.std.specs.Prelude.{◌≡◌, ◌<◌, length, true, IfOk, slice_set};
 ghost use Rattle.decimal_json.specs.View.{path_of};
-ghost use Rattle.prop_values.specs.Faults.{union};
+ghost use Rattle.prop_values.specs.Faults.{no_faults, union};
 ghost use Rattle.prop_values.specs.View.{data_of};
-ghost use Rattle.expr_types.specs.Fits.{branch_kind};
+ghost use Rattle.expr_types.specs.Fits.{branch_kind, fits};
+ghost use Rattle.expr_types.specs.Own.{owns};
 ghost use Rattle.expr_types.specs.Typing.{fault, kinded, fitted, branched, literal_node, own_where, as_sequence};
 ghost use Rattle.expr_types.specs.Typing.{is_branching};
 ghost use Rattle.expr_types.specs.declared.placed.Kinded.{Kinded as FoundNode};
@@ -12,7 +13,7 @@ ghost use Rattle.expr_types.specs.declared.placed.Kinded.{Kinded as FoundNode};
 use crate::fault::{TypeCode, TypeFault};
 use crate::fits::{Fit, branch_kind, fit_faults, fits, kind_under};
 use crate::literals::{literal_kind, surely_fits};
-use crate::own::{Own, owns};
+use crate::own::Own;
 use crate::placed::{Kinded, Placed};
 use crate::sequences::sequence_fit;
 use decimal_json::{Here, path_to};
@@ -104,17 +105,37 @@ pub(crate) fn literal_node(
     ensures { IfOk result (λ node. node ≡ literal_node (data_of value.now) want.now (path_of here.now)) }
 {
     let kind = literal_kind(alloc, value)?;
+    let fit = fits(kind, want);
     if surely_fits(alloc, want, value)? {
-        let always = fits(kind, want).is_always();
-        Ok(Ok(kinded(want, kind_under(want, kind), FaultSet::empty(), always)))
-    } else {
-        fitted(
-            alloc,
+        return Ok(Ok(kinded(
             want,
-            owns(kind, FaultSet::empty()),
+            kind_under(want, kind),
             FaultSet::empty(),
-            here,
-        )
+            fit.is_always(),
+        )));
+    }
+    literal_fitted(alloc, want, kind, fit, here)
+}
+
+/// A literal has no arguments, and no faults but those of its fit.
+fn literal_fitted(
+    alloc: Global,
+    want: &Want,
+    kind: Kind,
+    fit: Fit,
+    here: &Here<'_>,
+) -> Result<Result<Kinded, TypeFault>, AllocError>
+    requires { fit ≡ fits kind want.now }
+    ensures { IfOk result (λ node. node ≡ fitted want.now (owns kind no_faults) no_faults (path_of here.now)) }
+{
+    match fit {
+        Fit::Never => refused(alloc, here, TypeCode::Kind),
+        fit => Ok(Ok(kinded(
+            want,
+            kind_under(want, kind),
+            fit_faults(fit, want, kind),
+            fit.is_always(),
+        ))),
     }
 }
 

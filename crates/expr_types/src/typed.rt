@@ -157,6 +157,9 @@ pub fn check_free<'a>(
     check_under(alloc, expression, &Want::Any)
 }
 
+/// Most expressions of a style have no more nodes.
+const USUAL_NODES: usize = 8;
+
 fn check_under<'a>(
     alloc: Global,
     expression: &'a Expr,
@@ -167,7 +170,7 @@ fn check_under<'a>(
 {
     let mut checking = Checking {
         alloc,
-        places: Vec::new(alloc),
+        places: Vec::with_capacity(alloc, USUAL_NODES)?,
     };
     match checking.check_expression(expression, false, want, &KindScope::Empty, &Here::Root)? {
         Ok(node) => Ok(Ok(Typed {

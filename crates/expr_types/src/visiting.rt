@@ -107,6 +107,9 @@ impl<'r> ExpressionWalk<'r> {
             (visits (term_of argument.now) (standing_of node.now.standing node.now.op.now count place)
             (argument_path node.now.op.now count place (path_of node.now.here.now))) before) }
     {
+        if matches!(argument, Expr::Literal(_)) {
+            return Ok(before);
+        }
         let below = node.standing.of_argument(node.op, count, place);
         let element = Here::Index(element_at(node.op, count, place), &*node.here);
         match key_at(node.op, place) {

@@ -1,10 +1,11 @@
 //! What the value of a property is.
 
-ghost use Rattle.std.specs.Prelude.{◌≡◌};
+ghost use Rattle.std.specs.Prelude.{◌≡◌, if◌then◌else◌};
 ghost use Rattle.decimal_json.specs.Tree.{list};
 ghost use Rattle.decimal_json.specs.View.{tree_of, trees};
 ghost use Rattle.property_tables.specs.RowView.{row_seen};
-ghost use Rattle.value_forms.specs.Forms.{form_of, is_expression, is_token_text};
+ghost use Rattle.value_forms.specs.Forms.{form_of, is_expression, is_token_text, takes_literals_alone};
+ghost use Rattle.value_forms.specs.declared.forms.Form.TheVariants.{Literal};
 
 use decimal_json::Json;
 use expr_syntax::operator_named;
@@ -27,19 +28,27 @@ pub enum Form {
 pub fn form_of(row: &Row, json: &Json) -> Form
     ensures { result ≡ form_of (row_seen row.now) (tree_of json.now) }
 {
-    if row.name == "visibility" {
-        return Form::Literal;
-    }
     if is_expression(json) {
-        return Form::Expression;
+        return unless_visibility(row, Form::Expression);
     }
     if json.is_object() {
-        return Form::Function;
+        return unless_visibility(row, Form::Function);
     }
     if is_token_text(row, json) {
-        return Form::TokenText;
+        return unless_visibility(row, Form::TokenText);
     }
     Form::Literal
+}
+
+// Most values are literals, of which the name of their row is not asked.
+fn unless_visibility(row: &Row, form: Form) -> Form
+    ensures { result ≡ if takes_literals_alone (row_seen row.now) then Literal else form }
+{
+    if row.name == "visibility" {
+        Form::Literal
+    } else {
+        form
+    }
 }
 
 fn is_expression(json: &Json) -> bool
