@@ -68,7 +68,6 @@ pub fn uses_globals(json: &Json) -> bool
     stands(Sought::Global, json, true)
 }
 
-#[tactic(auto, using(crate::proofs::ElementLaws::reading_rules))]
 #[cycle(reading)]
 fn read_json(
     alloc: Global,
@@ -88,7 +87,6 @@ fn read_json(
     }
 }
 
-#[tactic(auto, using(crate::proofs::ElementLaws::reading_rules))]
 #[cycle(reading)]
 fn read_array(
     alloc: Global,
@@ -107,7 +105,6 @@ fn read_array(
     }
 }
 
-#[tactic(auto, using(crate::proofs::ElementLaws::reading_rules, crate::proofs::StopLaws::ramp_arity))]
 #[cycle(reading)]
 fn read_node(
     alloc: Global,
@@ -142,7 +139,6 @@ fn read_node(
 }
 
 // The arguments of a node, its last element inside the names that it binds.
-#[tactic(auto, using(crate::proofs::ElementLaws::reading_rules))]
 #[cycle(reading)]
 fn read_within<'x>(
     alloc: Global,
@@ -163,7 +159,6 @@ fn read_within<'x>(
     }
 }
 
-#[tactic(auto, using(crate::proofs::ElementLaws::reading_rules, crate::proofs::ElementLaws::after_term))]
 #[cycle(reading)]
 fn read_arguments<'x>(
     alloc: Global,
@@ -194,7 +189,6 @@ fn read_arguments<'x>(
 }
 
 // The contents of a `format` and the options after them.
-#[tactic(auto, using(crate::proofs::ElementLaws::reading_rules))]
 #[cycle(reading)]
 fn read_sections(
     alloc: Global,
@@ -220,7 +214,6 @@ fn read_sections(
     Ok(Ok(found))
 }
 
-#[tactic(auto, using(crate::proofs::ElementLaws::reading_rules))]
 #[cycle(reading)]
 fn read_section(
     alloc: Global,
@@ -245,7 +238,6 @@ fn read_section(
     }
 }
 
-#[tactic(auto, using(crate::proofs::ElementLaws::reading_rules))]
 #[cycle(reading)]
 fn read_options(
     alloc: Global,

@@ -26,7 +26,6 @@ pub(crate) enum Sought {
 }
 
 /// Whether a tree contains a node that is sought. `format` says whether a `format` node may be at its root.
-#[tactic(auto, using(crate::proofs::ElementLaws::standing_rules))]
 #[cycle(standing)]
 pub(crate) fn stands(sought: Sought, json: &Json, format: bool) -> bool
     ensures { result ≡ stands (tree_of json.now) sought format }
@@ -37,7 +36,6 @@ pub(crate) fn stands(sought: Sought, json: &Json, format: bool) -> bool
     }
 }
 
-#[tactic(auto, using(crate::proofs::ElementLaws::standing_rules))]
 #[cycle(standing)]
 fn stands_in_array(sought: Sought, items: &[Json], format: bool) -> bool
     ensures { result ≡ stands (list (trees items.now)) sought format }
@@ -62,7 +60,6 @@ fn stands_in_array(sought: Sought, items: &[Json], format: bool) -> bool
     }
 }
 
-#[tactic(auto, using(crate::proofs::ElementLaws::standing_rules))]
 #[cycle(standing)]
 fn stands_in_elements(sought: Sought, layout: ElementLayout, items: &[Json], format: bool) -> bool
     ensures { result ≡ some_element layout (length items.now) 0 (elements (trees items.now)) sought format }
@@ -81,7 +78,6 @@ fn stands_in_elements(sought: Sought, layout: ElementLayout, items: &[Json], for
 }
 
 // The contents of a `format` and the options after them. The name, which is a text, counts as no content.
-#[tactic(auto, using(crate::proofs::ElementLaws::standing_rules))]
 #[cycle(standing)]
 fn stands_in_sections(sought: Sought, items: &[Json]) -> bool
     ensures { result ≡ some_section 0 false (elements (trees items.now)) sought }
@@ -100,7 +96,6 @@ fn stands_in_sections(sought: Sought, items: &[Json]) -> bool
     false
 }
 
-#[tactic(auto, using(crate::proofs::ElementLaws::standing_rules))]
 #[cycle(standing)]
 fn stands_in_options(sought: Sought, options: &[Member]) -> bool
     ensures { result ≡ some_option (members (fields options.now)) sought }
