@@ -1,5 +1,5 @@
 -- Elements of a node, one after another.
-use Rattle.std.proofs.Common.{◌≡◌, suc, List, [], ◌∷◌, ◌++◌, refl, ap, append_assoc, length}
+use Rattle.std.proofs.Common.{◌≡◌, suc, List, [], ◌∷◌, ◌++◌, refl, ap, length}
 use Rattle.std.specs.Prelude.{Result, Ok, Err}
 use Rattle.decimal_json.specs.Falls.{item_weight, member_weight}
 use Rattle.decimal_json.specs.View.{trees}
@@ -8,7 +8,6 @@ use Rattle.expr_syntax.specs.declared.fault.SynFault.{SynFault}
 use Rattle.expr_syntax.specs.Term.{Term}
 use Rattle.expr_syntax.specs.Standing as standing
 use Rattle.expr_syntax.specs.Reading as reading
-use Rattle.expr_syntax.specs.Reading.{and_term}
 
 pub elements_length : (items : List Json) → length (standing.elements (trees items)) ≡ length items
 elements_length [] = refl
@@ -22,10 +21,6 @@ readers_length (j ∷ items) = ap suc (readers_length items)
 abbrev pub after_terms : List Term → Result (List Term) SynFault → Result (List Term) SynFault
 after_terms ts (Ok us) = Ok (ts ++ us)
 after_terms ts (Err f) = Err f
-
-pub after_term : (ts : List Term) (t : Term) (later : Result (List Term) SynFault) → after_terms (ts ++ t ∷ []) later ≡ after_terms ts (and_term (Ok t) later)
-after_term ts t (Ok us) = ap Ok (append_assoc ts (t ∷ []) us)
-after_term ts t (Err f) = refl
 
 -- what walks over elements want
 pub ruleset reading_rules = (item_weight, member_weight, readers_length)
