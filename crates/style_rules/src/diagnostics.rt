@@ -37,7 +37,7 @@ pub(crate) enum Diagnostic {
 pub(crate) struct Diagnostics {
     pub(crate) all: Vec<Diagnostic>,
     /// Whether faults are listed: then those of a function are found at once, and the function is freed.
-    lists_faults: bool,
+    pub(crate) lists_faults: bool,
 }
 
 impl Model for Diagnostics {
@@ -76,7 +76,6 @@ impl Diagnostics {
             }
             Mark::Outside => self.all.push(Diagnostic::Note(path_to(alloc, here)?))?,
             Mark::Sound(faults) => {
-                let faults = self.listed(alloc, faults)?;
                 let path = LatePath::of(alloc, here)?;
                 self.all.push(Diagnostic::May(path, faults))?
             }
@@ -96,22 +95,12 @@ impl Diagnostics {
     {
         match mark {
             Mark::Sound(faults) => {
-                let faults = self.listed(alloc, faults)?;
                 let path = LatePath::of_member(alloc, name, outer)?;
                 self.all.push(Diagnostic::May(path, faults))?;
                 Ok(())
             }
             other => self.report(alloc, &Here::Key(name.as_str(), outer), other),
         }
-    }
-
-    fn listed(&self, alloc: Global, faults: PossibleFaults) -> Result<PossibleFaults, AllocError>
-        ensures { IfOk result (λ same. same ≡ faults) }
-    {
-        if self.lists_faults {
-            return Ok(PossibleFaults::known(faults.found(alloc)?));
-        }
-        Ok(faults)
     }
 
     /// Reports that a place breaks a rule.

@@ -38,7 +38,7 @@ pub fn property_findings<'x>(
     match tested_type(layer_type) {
         Some(layer_type) => {
             let here = Here::Key(name, properties);
-            let mark = property_mark(alloc, layer_type, place, name, value)?;
+            let mark = property_mark(alloc, layer_type, place, name, value, false)?;
             mark_findings(alloc, mark, &here)
         }
         None => Ok(Findings::new(alloc)),

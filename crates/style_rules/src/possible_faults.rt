@@ -59,15 +59,19 @@ impl PossibleFaults {
         }
     }
 
-    /// Those of a function, which are not looked for yet.
+    /// Those of a function, which are looked for at once where faults are listed.
     pub(crate) fn of_function(
         alloc: Global,
         row: &Row,
         function: Function,
+        lists_faults: bool,
     ) -> Result<PossibleFaults, AllocError>
         ensures { IfOk result (λ faults. faults
             ≡ faults_of_function (row_seen row.now) (row_of function) (function_of function)) }
     {
+        if lists_faults {
+            return Ok(PossibleFaults::known(function_faults(alloc, row, function)?));
+        }
         let function = RowFunction {
             row: row.copy(),
             function,

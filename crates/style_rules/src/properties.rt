@@ -86,7 +86,14 @@ fn report_property<'x>(
         (tree_of property.now.value)) }
 {
     let name = property.key.as_str();
-    let mark = property_mark(alloc, layer_type, place, name, &property.value)?;
+    let mark = property_mark(
+        alloc,
+        layer_type,
+        place,
+        name,
+        &property.value,
+        reports.lists_faults,
+    )?;
     reports.report_member(alloc, &property.key, properties, mark)
 }
 
@@ -97,11 +104,12 @@ pub(crate) fn property_mark(
     place: Place,
     name: &str,
     value: &Json,
+    lists_faults: bool,
 ) -> Result<Mark, AllocError>
     ensures { IfOk result (λ mark. mark ≡ property_mark (Some layer_type) (Some place) name.now (tree_of value.now)) }
 {
     match row(layer_type, place, name) {
-        Some(row) => value_mark(alloc, &row, value),
+        Some(row) => value_mark(alloc, &row, value, lists_faults),
         None => Ok(unnamed_mark(alloc, layer_type, place, name, value)),
     }
 }

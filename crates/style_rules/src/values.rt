@@ -21,13 +21,19 @@ use property_tables::{Row, literal};
 use std::alloc::{AllocError, Global};
 use value_forms::{Form, form_of};
 
-/// What is reported of the value of a property of a row.
-pub(crate) fn value_mark(alloc: Global, row: &Row, json: &Json) -> Result<Mark, AllocError>
+/// What is reported of the value of a property of a row. Where faults are listed, those of a function are found
+/// at once.
+pub(crate) fn value_mark(
+    alloc: Global,
+    row: &Row,
+    json: &Json,
+    lists_faults: bool,
+) -> Result<Mark, AllocError>
     ensures { IfOk result (λ mark. mark ≡ value_mark (row_seen row.now) (tree_of json.now)) }
 {
     match form_of(row, json) {
         Form::Expression => expression_mark(alloc, &row.want, Some(row), json),
-        Form::Function => function_mark(alloc, row, json),
+        Form::Function => function_mark(alloc, row, json, lists_faults),
         Form::TokenText => Ok(Mark::Sound(PossibleFaults::none())),
         Form::Literal => literal_mark(alloc, row, json),
     }
@@ -102,12 +108,17 @@ fn rule_of(code: TypeCode) -> u8
     }
 }
 
-fn function_mark(alloc: Global, row: &Row, json: &Json) -> Result<Mark, AllocError>
+fn function_mark(
+    alloc: Global,
+    row: &Row,
+    json: &Json,
+    lists_faults: bool,
+) -> Result<Mark, AllocError>
     ensures { IfOk result
         (λ mark. mark ≡ function_mark (row_seen row.now) (form (row_seen row.now) (tree_of json.now))) }
 {
     match read(alloc, json, row)? {
-        Ok(FunctionReading::Inside(function)) => inside_mark(alloc, row, function),
+        Ok(FunctionReading::Inside(function)) => inside_mark(alloc, row, function, lists_faults),
         Ok(FunctionReading::Outside) => Ok(Mark::Outside),
         Err(_) => Ok(broken(alloc, 19)),
     }
@@ -115,14 +126,19 @@ fn function_mark(alloc: Global, row: &Row, json: &Json) -> Result<Mark, AllocErr
 
 /// A function reads what its row may, and may have the faults of its expression.
 #[tactic(auto, using(crate::proofs::FunctionFaultLaws::function_reports))]
-fn inside_mark(alloc: Global, row: &Row, function: Function) -> Result<Mark, AllocError>
+fn inside_mark(
+    alloc: Global,
+    row: &Row,
+    function: Function,
+    lists_faults: bool,
+) -> Result<Mark, AllocError>
     requires { row_of function ≡ row_seen row.now }
     ensures { IfOk result (λ mark. mark ≡ function_mark (row_seen row.now) (Some (Some (function_of function)))) }
 {
     if !reads_allowed(row, &function) {
         return Ok(broken(alloc, 17));
     }
-    Ok(Mark::Sound(PossibleFaults::of_function(alloc, row, function)?))
+    Ok(Mark::Sound(PossibleFaults::of_function(alloc, row, function, lists_faults)?))
 }
 
 fn reads_allowed(row: &Row, function: &Function) -> bool
